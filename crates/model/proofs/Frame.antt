@@ -1,0 +1,109 @@
+-- What a step leaves at each place: one law for items, one for desks.
+-- Assumes nothing.
+use mathlib.Core.Path.{_≡_, ap, refl, _∙_}
+use mathlib.Core.Logic.{_⊎_, _≢_, inl, inr}
+use mathlib.Core.Bool.{true}
+use mathlib.Core.List.{List, map, [], _∷_}
+use Prim.Native.Nat.{ℕ, _<_, zero, suc}
+use borrow.Author.Tests.{eq-eqb, ne-eqb}
+use lib.Dec.{eqb}
+use lib.ListN.{set, length, getD, length-set, List·getD-map}
+use lib.Seq.{getD-set-same, getD-set-other}
+use Rattle.model.specs.Basics.{pick}
+use Rattle.model.specs.Boards.{Message, noMessage, Board, messageAt, Sender, senderAt, idleSender}
+use Rattle.model.specs.Effects.{Change, none, turn, turned, records, claims, signals, Turn, Effect, apply}
+use Rattle.model.specs.Effects.{messagesAfter, signalledSender, sendersAfter}
+use Rattle.model.proofs.Tests.{same?}
+
+-- the item at a place after a change
+abbrev pub messageAfter : Change → ℕ → Message → Message
+messageAfter none m x = x
+messageAfter (turn n τ) m x = pick (eqb m n) (turned τ x) x
+messageAfter (records n r) m x = pick (eqb m n) (turned claims x) x
+messageAfter (signals n) m x = x
+
+set-at : (is : List Message) (n m : ℕ) (x : Message) → m < length is → (m ≡ n) ⊎ (m ≢ n) → getD (set is n x) m noMessage ≡ pick (eqb m n) x (getD is m noMessage)
+set-at is n m x h (inl e) = rw (eq-eqb m n e) (rw (← e) (getD-set-same is m x noMessage h))
+set-at is n m x h (inr e) = rw (ne-eqb m n e) (getD-set-other is n m x noMessage e)
+
+at-turn : (is : List Message) (n m : ℕ) (τ : Turn) → m < length is → (m ≡ n) ⊎ (m ≢ n) → getD (set is n (turned τ (getD is n noMessage))) m noMessage ≡ pick (eqb m n) (turned τ (getD is m noMessage)) (getD is m noMessage)
+at-turn is n m τ h (inl e) = rw (eq-eqb m n e) (rw (← e) (getD-set-same is m _ noMessage h))
+at-turn is n m τ h (inr e) = rw (ne-eqb m n e) (getD-set-other is n m _ noMessage e)
+
+pub messages-at : (b : Board) (i : ℕ) (s : Effect) (m : ℕ) → m < length (b .messages) → messageAt (apply b i s) m ≡ messageAfter (s .change) m (messageAt b m)
+unfolding apply messagesAfter
+messages-at b i s m h = go (s .change)
+  where
+    go : (c : Change) → getD (messagesAfter c (b .messages)) m noMessage ≡ messageAfter c m (messageAt b m)
+    go none = refl
+    go (turn n τ) = at-turn (b .messages) n m τ h (same? m n)
+    go (records n r) = at-turn (b .messages) n m claims h (same? m n)
+    go (signals n) = refl
+
+pub messages-count : (b : Board) (i : ℕ) (s : Effect) → length (apply b i s .messages) ≡ length (b .messages)
+unfolding apply messagesAfter
+messages-count b i s = go (s .change)
+  where
+    go : (c : Change) → length (messagesAfter c (b .messages)) ≡ length (b .messages)
+    go none = refl
+    go (turn n τ) = length-set (b .messages) n _
+    go (records n r) = length-set (b .messages) n _
+    go (signals n) = refl
+
+-- what was sent stays
+map-set : {A B : Type 0} (f : A → B) (xs : List A) (n : ℕ) (y d : A) → f y ≡ f (getD xs n d) → map f (set xs n y) ≡ map f xs
+map-set f [] n y d e = refl
+map-set f (x ∷ xs) zero y d e = ap (λ z. z ∷ map f xs) e
+map-set f (x ∷ xs) (suc n) y d e = ap (λ zs. f x ∷ zs) (map-set f xs n y d e)
+
+pub sents-after : (b : Board) (i : ℕ) (s : Effect) → map (λ x. x .sent) (apply b i s .messages) ≡ map (λ x. x .sent) (b .messages)
+unfolding apply messagesAfter
+sents-after b i s = go (s .change)
+  where
+    go : (c : Change) → map (λ x. x .sent) (messagesAfter c (b .messages)) ≡ map (λ x. x .sent) (b .messages)
+    go none = refl
+    go (turn n τ) = map-set (λ x. x .sent) (b .messages) n (turned τ (messageAt b n)) noMessage refl
+    go (records n r) = map-set (λ x. x .sent) (b .messages) n (turned claims (messageAt b n)) noMessage refl
+    go (signals n) = refl
+
+-- the desk at a place after a change: itself, perhaps told
+abbrev pub senderAfter : Change → Sender → Sender
+senderAfter none d = d
+senderAfter (turn n τ) d = d
+senderAfter (records n r) d = d
+senderAfter (signals n) d = signalledSender n d
+
+pub senders-at : (b : Board) (i : ℕ) (s : Effect) (j : ℕ) → i < length (b .senders) → senderAt (apply b i s) j ≡ senderAfter (s .change) (pick (eqb j i) (s .sender) (senderAt b j))
+unfolding apply sendersAfter
+senders-at b i s j h = go (s .change) ∙ ap (senderAfter (s .change)) (put (same? j i))
+  where
+    put : (j ≡ i) ⊎ (j ≢ i) → getD (set (b .senders) i (s .sender)) j idleSender ≡ pick (eqb j i) (s .sender) (senderAt b j)
+    put (inl e) = rw (eq-eqb j i e) (rw e (getD-set-same (b .senders) i (s .sender) idleSender h))
+    put (inr e) = rw (ne-eqb j i e) (getD-set-other (b .senders) i j (s .sender) idleSender e)
+
+    go : (c : Change) → getD (sendersAfter c (set (b .senders) i (s .sender))) j idleSender ≡ senderAfter c (getD (set (b .senders) i (s .sender)) j idleSender)
+    go none = refl
+    go (turn n τ) = refl
+    go (records n r) = refl
+    go (signals n) = List·getD-map (signalledSender n) (set (b .senders) i (s .sender)) j idleSender
+
+-- a desk after a step is as it was, or as the step leaves it, but for its signal
+pub record Like (d e : Sender) : Type 0 where
+  pub state : e .state ≡ d .state
+  pub own : e .own ≡ d .own
+  pub waker : e .waker ≡ d .waker
+  pub reply : e .reply ≡ d .reply
+  pub matched : e .matched ≡ d .matched
+  pub signalled : d .signalled ≡ true → e .signalled ≡ true
+
+like : (c : Change) (d : Sender) → Like d (senderAfter c d)
+like none d = record { state = refl; own = refl; waker = refl; reply = refl; matched = refl; signalled = λ e. e }
+like (turn n τ) d = record { state = refl; own = refl; waker = refl; reply = refl; matched = refl; signalled = λ e. e }
+like (records n m) d = record { state = refl; own = refl; waker = refl; reply = refl; matched = refl; signalled = λ e. e }
+like (signals n) d = record { state = refl; own = refl; waker = refl; reply = refl; matched = refl; signalled = λ e. rw e }
+
+pub own-at : (b : Board) (i : ℕ) (s : Effect) → i < length (b .senders) → Like (s .sender) (senderAt (apply b i s) i)
+own-at b i s h = rw (senders-at b i s i h, eq-eqb i i refl) (like (s .change) (s .sender))
+
+pub other-at : (b : Board) (i : ℕ) (s : Effect) (j : ℕ) → i < length (b .senders) → j ≢ i → Like (senderAt b j) (senderAt (apply b i s) j)
+other-at b i s j h ne = rw (senders-at b i s j h, ne-eqb j i ne) (like (s .change) (senderAt b j))

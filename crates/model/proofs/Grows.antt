@@ -1,0 +1,126 @@
+-- What no step undoes: items keep tray, property and cents, consumed stays, matches are only appended.
+-- Assumes nothing.
+use mathlib.Core.Path.{_≡_, refl, ap, sym, _∙_}
+use mathlib.Core.Logic.{_≢_, _⊎_, inl, inr}
+use mathlib.Core.Bool.{Bool, true, false}
+use mathlib.Core.List.{List, _∷_, []}
+use Prim.Native.Nat.{ℕ, _≤_, _<_}
+use borrow.Author.Tests.{eqb-false, ne-eqb}
+use lib.Dec.{eqb}
+use lib.ListN.{length, length-append, getD, List·getD-append}
+use native.Mathlib.Omega.{arith}
+use Rattle.model.specs.Basics.{pick}
+use Rattle.model.specs.Boards.{Message, Board, messageAt, consumed, matchAt, Status, pending, claimed, woken}
+use Rattle.model.specs.Boards.{Match, noMatch}
+use Rattle.model.specs.Effects.{Turn, turned, turn, Change, none, records, claims, signals, frees, consumes}
+use Rattle.model.specs.Effects.{wakes-by, resumes, matchesAfter, Effect, apply}
+use Rattle.model.specs.Steps.{more}
+use Rattle.model.proofs.Tests.{same?}
+use Rattle.model.proofs.Frame.{messageAfter, messages-count, messages-at}
+
+pub record Kept (x y : Message) : Type 0 where
+  pub sent : y .sent ≡ x .sent
+  pub channel : y .sent .channel ≡ x .sent .channel
+
+kept-if : (t : Bool) (τ : Turn) (x : Message) → Kept x (pick t (turned τ x) x)
+kept-if true τ x = record { sent = refl; channel = refl }
+kept-if false τ x = record { sent = refl; channel = refl }
+
+pub message-kept : (c : Change) (m : ℕ) (x : Message) → Kept x (messageAfter c m x)
+message-kept none m x = record { sent = refl; channel = refl }
+message-kept (turn n τ) m x = kept-if (eqb m n) τ x
+message-kept (records n r) m x = kept-if (eqb m n) claims x
+message-kept (signals n) m x = record { sent = refl; channel = refl }
+
+pub record Grows (b b′ : Board) : Type 0 where
+  pub messages-more : length (b .messages) ≤ length (b′ .messages)
+  pub kept : (n : ℕ) → n < length (b .messages) → Kept (messageAt b n) (messageAt b′ n)
+  pub stays-consumed : (n : ℕ) → n < length (b .messages) → messageAt b n .status ≡ consumed → (messageAt b′ n .status ≡ consumed) × (messageAt b′ n .match ≡ messageAt b n .match)
+  pub matches-more : length (b .matches) ≤ length (b′ .matches)
+  pub matches-same : (k : ℕ) → k < length (b .matches) → matchAt b′ k ≡ matchAt b k
+
+-- the status that an item has before it turns
+abbrev pub statusBefore : Turn → Status
+statusBefore claims = pending
+statusBefore frees = claimed
+statusBefore (consumes m) = claimed
+statusBefore (wakes-by h) = claimed
+statusBefore resumes = woken
+
+pub record Turns (b : Board) (n : ℕ) (τ : Turn) : Type 0 where
+  pub on-board : n < length (b .messages)
+  pub from : messageAt b n .status ≡ statusBefore τ
+
+abbrev pub Lawful : Board → Change → Type 0
+Lawful b none = Unit {0}
+Lawful b (turn n τ) = Turns b n τ
+Lawful b (records n m) = Turns b n claims
+Lawful b (signals n) = Unit {0}
+
+-- statuses are told apart by a number: `apart refl`
+abbrev pub code : Status → ℕ
+code pending = 0
+code claimed = 1
+code woken = 2
+code consumed = 3
+
+pub apart : {s u : Status} → eqb (code s) (code u) ≡ false → s ≢ u
+apart {s} {u} e q = eqb-false (code s) (code u) e (ap code q)
+
+not-consumed : (τ : Turn) → statusBefore τ ≢ consumed
+not-consumed claims = apart refl
+not-consumed frees = apart refl
+not-consumed (consumes m) = apart refl
+not-consumed (wakes-by h) = apart refl
+not-consumed resumes = apart refl
+
+stays-turn : (b : Board) (m : ℕ) (τ : Turn) → Turns b m τ → (n : ℕ) → messageAt b n .status ≡ consumed → (n ≡ m) ⊎ (n ≢ m) → (pick (eqb n m) (turned τ (messageAt b n)) (messageAt b n) .status ≡ consumed) × (pick (eqb n m) (turned τ (messageAt b n)) (messageAt b n) .match ≡ messageAt b n .match)
+stays-turn b m τ l n e (inl q) = absurd (not-consumed τ (sym (l .from) ∙ rw q at e))
+stays-turn b m τ l n e (inr q) = rw (ne-eqb n m q) (e, refl)
+
+stays : (b : Board) (c : Change) → Lawful b c → (n : ℕ) → messageAt b n .status ≡ consumed → (messageAfter c n (messageAt b n) .status ≡ consumed) × (messageAfter c n (messageAt b n) .match ≡ messageAt b n .match)
+stays b none l n e = (e, refl)
+stays b (turn m τ) l n e = stays-turn b m τ l n e (same? n m)
+stays b (records m r) l n e = stays-turn b m claims l n e (same? n m)
+stays b (signals m) l n e = (e, refl)
+
+m-more : (ms : List Match) (c : Change) → length ms ≤ length (matchesAfter c ms)
+unfolding matchesAfter
+m-more ms none = omega arith
+m-more ms (turn n τ) = omega arith
+m-more ms (records n m) = omega (arith, length-append ms (m ∷ []))
+m-more ms (signals n) = omega arith
+
+m-same : (ms : List Match) (c : Change) (k : ℕ) → k < length ms → getD (matchesAfter c ms) k noMatch ≡ getD ms k noMatch
+unfolding matchesAfter
+m-same ms none k h = refl
+m-same ms (turn n τ) k h = refl
+m-same ms (records n m) k h = List·getD-append ms (m ∷ []) noMatch k h
+m-same ms (signals n) k h = refl
+
+pub grows-after : (b : Board) (i : ℕ) (s : Effect) → Lawful b (s .change) → Grows b (apply b i s)
+unfolding apply
+grows-after b i s l = record { messages-more = omega (arith, messages-count b i s); kept = λ n h. rw (messages-at b i s n h) (message-kept (s .change) n (messageAt b n)); stays-consumed = λ n h e. rw (messages-at b i s n h) (stays b (s .change) l n e); matches-more = m-more (b .matches) (s .change); matches-same = m-same (b .matches) (s .change) }
+
+pub grows-refl : (b : Board) → Grows b b
+grows-refl b = record {
+  messages-more = omega arith;
+  kept = λ n h. record { sent = refl; channel = refl };
+  stays-consumed = λ n h e. (e, refl);
+  matches-more = omega arith;
+  matches-same = λ k h. refl;
+}
+
+pub grows-trans : (b c d : Board) → Grows b c → Grows c d → Grows b d
+grows-trans b c d g h = record {
+  messages-more = omega (arith, g .messages-more, h .messages-more);
+  kept = λ n l. let q = h .kept n (more n l) in
+      let p = g .kept n l in record { sent = q .sent ∙ p .sent; channel = q .channel ∙ p .channel };
+  stays-consumed = λ n l e. let p = g .stays-consumed n l e in
+      let q = h .stays-consumed n (more n l) (p .0) in (q .0, q .1 ∙ p .1);
+  matches-more = omega (arith, g .matches-more, h .matches-more);
+  matches-same = λ k l. h .matches-same k (omega (arith, g .matches-more)) ∙ g .matches-same k l;
+}
+  where
+    more : (n : ℕ) → n < length (b .messages) → n < length (c .messages)
+    more n l = omega (arith, g .messages-more)

@@ -1,0 +1,71 @@
+-- Tests, and lists as the board uses them.
+-- Assumes nothing.
+use mathlib.Core.Path.{_≡_, subst, sym, refl}
+use mathlib.Core.Logic.{_⊎_, inl, inr, _≢_}
+use mathlib.Core.Bool.{false, true, Bool, _&&_, _||_}
+use Prim.Native.Nat.{ℕ, suc}
+use borrow.Author.Tests.{eqb-true, eqb-false, ltb-true, ltb-false, leb-true, leb-false}
+use lib.Dec.{T, eqb}
+use native.Mathlib.Omega.{arith}
+use Rattle.model.specs.Basics.{unless}
+
+pub never : {X : Type 0} → false ≡ true → X
+never e = absurd (subst T (sym e) tt)
+
+pub both : {t u : Bool} → (t && u) ≡ true → (t ≡ true) × (u ≡ true)
+both {t} {u} e = go t u e
+  where
+    go : (t u : Bool) → (t && u) ≡ true → (t ≡ true) × (u ≡ true)
+    go true u e = (refl, e)
+    go false u e = never e
+
+pub and : {t u : Bool} → t ≡ true → u ≡ true → (t && u) ≡ true
+and p q = rw p q
+
+pub either : {t u : Bool} → (t || u) ≡ true → (t ≡ true) ⊎ (u ≡ true)
+either {t} {u} e = go t u e
+  where
+    go : (t u : Bool) → (t || u) ≡ true → (t ≡ true) ⊎ (u ≡ true)
+    go true u e = inl refl
+    go false u e = inr e
+
+pub or-right : (t : Bool) {u : Bool} → u ≡ true → (t || u) ≡ true
+or-right true e = refl
+or-right false e = e
+
+pub neither : {t u : Bool} → (t || u) ≡ false → (t ≡ false) × (u ≡ false)
+neither {t} {u} e = go t u e
+  where
+    go : (t u : Bool) → (t || u) ≡ false → (t ≡ false) × (u ≡ false)
+    go true u e = never (sym e)
+    go false u e = (refl, e)
+
+-- a Boolean is true or false, with the equation
+pub tested : (t : Bool) → (t ≡ true) ⊎ (t ≡ false)
+tested true = inl refl
+tested false = inr refl
+
+pub same? : (m n : ℕ) → (m ≡ n) ⊎ (m ≢ n)
+same? m n = go (eqb m n) refl
+  where
+    go : (t : Bool) → eqb m n ≡ t → (m ≡ n) ⊎ (m ≢ n)
+    go true e = inl (eqb-true m n e)
+    go false e = inr (eqb-false m n e)
+
+pub eqb-no : (a b : ℕ) → eqb a b ≡ false → a ≢ b
+eqb-no a b e = eqb-false a b e
+
+pub ruleset tests = (arith, eqb-true, eqb-no, ltb-true, ltb-false, leb-true, leb-false)
+
+-- a chain of refusals that gives none
+pub unless-none : (u : Bool) (n next : ℕ) → unless u (suc n) next ≡ 0 → (u ≡ true) × (next ≡ 0)
+unless-none true n next e = (refl, e)
+unless-none false n next e = absurd (omega arith)
+
+pub all-four : (a b c d : Bool)
+    → (a && (b && (c && d))) ≡ true → (a ≡ true) × (b ≡ true) × (c ≡ true) × (d ≡ true)
+all-four a b c d e =
+    let p = both {t = a} e in
+    let q = both {t = b} (p .1) in
+    let r = both {t = c} (q .1) in
+    (p .0, q .0, r .0, r .1)

@@ -1,0 +1,43 @@
+-- An add: its refusals, and the board after an accepted one.
+use mathlib.Core.Bool.{Bool, true, false, not}
+use mathlib.Core.List.{List, [], _∷_, _++_}
+use Prim.Native.Nat.{ℕ, zero, suc}
+use lib.IntN.{ℤ, pos, negsuc}
+use lib.Dec.{ltb, leb}
+use lib.ListN.{length, set}
+use Rattle.model.specs.Basics.{unless}
+use Rattle.model.specs.Tables.{Table}
+use Rattle.model.specs.Boards.{pending, Sent, Message, working, Sender, Board, senderAt, isIdle}
+use Rattle.model.specs.Steps.{newPass}
+
+-- "cents (signed, -999,999,999,999 to 999,999,999,999)"
+abbrev pub centsOk : ℤ → Bool
+centsOk (pos a) = leb a 999999999999
+centsOk (negsuc a) = ltb a 999999999999
+
+-- "desk 32 or more", "desk not idle", "tray T or more", "cents out of range", "1,024 items accepted"
+unfoldable pub addRefusal : Table → Board → ℕ → Sent → ℕ
+addRefusal t b i x =
+    unless (ltb i 32) 8
+    (unless (isIdle (senderAt b i .state)) 9
+    (unless (ltb (x .channel) (length (t .kinds))) 10
+    (unless (centsOk (x .cents)) 11
+    (unless (ltb (length (b .messages)) 1024) 12 0))))
+
+abbrev pub newMessage : Sent → Message
+newMessage x = record { sent = x; status = pending; match = 0; waker = 0 }
+
+-- "clears the desk's slip and waker and begins a job"
+abbrev pub newSender : Table → List Message → ℕ → Sender
+newSender t is n =
+    record { state = working (newPass t is n 0); signalled = false; own = suc n; waker = 0; reply = 0; matched = 0 }
+
+unfoldable pub added : Table → Board → ℕ → Sent → Board
+added t b i x =
+    let is = b .messages ++ (newMessage x ∷ []) in
+    record {
+      messages = is;
+      matches = b .matches;
+      senders = set (b .senders) i (newSender t is (length (b .messages)));
+      backoffs = b .backoffs;
+    }

@@ -1,0 +1,32 @@
+-- Tests and lists that all the definitions share.
+use mathlib.Core.Bool.{Bool, true, false, _&&_, _||_, not}
+use mathlib.Core.List.{List, [], _∷_}
+use Prim.Native.Nat.{ℕ, zero, suc}
+use lib.Dec.{eqb}
+
+abbrev pub pick : {A : Type 0} → Bool → A → A → A
+pick true a b = a
+pick false a b = b
+
+abbrev pub isIn : ℕ → List ℕ → Bool
+isIn x [] = false
+isIn x (y ∷ ys) = eqb x y || isIn x ys
+
+abbrev pub every : {A : Type 0} → (A → Bool) → List A → Bool
+every f [] = true
+every f (x ∷ xs) = f x && every f xs
+
+-- the place of the first that passes; the length for none
+abbrev pub firstBy : (ℕ → Bool) → List ℕ → ℕ
+firstBy f [] = 0
+firstBy f (m ∷ ms) = elim (f m) [ true ↦ 0 | false ↦ suc (firstBy f ms) ]
+
+-- 01, "Refused, by place": "In the order checked". Refusal n unless the test holds, else what is checked next; 0 is no refusal.
+abbrev pub unless : Bool → ℕ → ℕ → ℕ
+unless true n next = next
+unless false n next = n
+
+-- the first refusal, or the second where there is no first
+abbrev pub firstOf : ℕ → ℕ → ℕ
+firstOf zero next = next
+firstOf (suc n) next = suc n

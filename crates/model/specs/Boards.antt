@@ -1,0 +1,148 @@
+-- Messages, matches, senders and the board (01: items, matches, desks). Numbers that may be missing are kept plus 1, 0 for none.
+use mathlib.Core.Bool.{Bool, true, false}
+use mathlib.Core.List.{List, [], _∷_}
+use lib.IntN.{ℤ, pos, _+ℤ_}
+use Prim.Native.Nat.{ℕ, zero, suc, _-_}
+use lib.ListN.{getD, replicate}
+use Rattle.model.specs.Tables.{Table}
+
+pub data Status : Type 0 where
+  pending claimed woken consumed : Status
+
+-- what a sender hands over: "a tray, a property number (u32, any value), cents"
+pub record Sent : Type 0 where
+  pub channel : ℕ
+  pub property : ℕ
+  pub cents : ℤ
+
+-- 01's item. It notes the match that consumed it and the subject that woke it (its waker).
+pub record Message : Type 0 where
+  pub sent : Sent
+  pub status : Status
+  pub match : ℕ
+  pub waker : ℕ
+
+-- a fired chord, with its messages "in member order"
+pub record Match : Type 0 where
+  pub chord : ℕ
+  pub messages : List ℕ
+
+-- Where a job is. The first number of a phase is its place: the member that the next step is about, or for backoff the rests
+-- after that one. revert has the number of claims made beside it, consume the match plus 1. pass-end: "When the rules run out".
+pub data Phase : Type 0 where
+  look : ℕ → Phase
+  claim : ℕ → Phase
+  revert : ℕ → ℕ → Phase
+  consume : ℕ → ℕ → Phase
+  tell : ℕ → Phase
+  wake : Phase
+  free : ℕ → Phase
+  signal : Phase
+  pass-end : Phase
+  backoff : ℕ → Phase
+
+-- A sender's work on the subject, 01's item in hand. chosen: "A desk remembers up to eight chosen items, in member order";
+-- retry: 01's retry mark; retries: how often the job said `again`, at most 16.
+pub record Job : Type 0 where
+  pub subject : ℕ
+  pub chord : ℕ
+  pub phase : Phase
+  pub chosen : List ℕ
+  pub retry : Bool
+  pub retries : ℕ
+
+pub data State : Type 0 where
+  idle : State
+  working : Job → State
+  blocked : State
+
+-- 01's desk: its own message, its waker, its reply (01: slip), and the match that it made of its own message
+pub record Sender : Type 0 where
+  pub state : State
+  pub signalled : Bool
+  pub own : ℕ
+  pub waker : ℕ
+  pub reply : ℕ
+  pub matched : ℕ
+
+-- backoffs: 01's rest table, the one that the board was opened with
+pub record Board : Type 0 where
+  pub messages : List Message
+  pub matches : List Match
+  pub senders : List Sender
+  pub backoffs : List ℕ
+
+abbrev pub noSent : Sent
+noSent = record { channel = 0; property = 0; cents = pos 0 }
+
+abbrev pub noMessage : Message
+noMessage = record { sent = noSent; status = pending; match = 0; waker = 0 }
+
+abbrev pub noMatch : Match
+noMatch = record { chord = 0; messages = [] }
+
+abbrev pub idleSender : Sender
+idleSender = record { state = idle; signalled = false; own = 0; waker = 0; reply = 0; matched = 0 }
+
+abbrev pub messageAt : Board → ℕ → Message
+messageAt b n = getD (b .messages) n noMessage
+
+abbrev pub matchAt : Board → ℕ → Match
+matchAt b k = getD (b .matches) k noMatch
+
+abbrev pub senderAt : Board → ℕ → Sender
+senderAt b i = getD (b .senders) i idleSender
+
+abbrev pub channelOf : Board → ℕ → ℕ
+channelOf b n = messageAt b n .sent .channel
+
+-- "An empty board has no items, matches or slips and every desk idle"
+abbrev pub emptyBoard : List ℕ → Board
+emptyBoard rests = record { messages = []; matches = []; senders = replicate 32 idleSender; backoffs = rests }
+
+-- "as the rest table says at k (from 1; beyond 16, at 16)"
+unfoldable pub builtinBackoffs : List ℕ
+builtinBackoffs =
+    0 ∷ (1 ∷ (1 ∷ (2 ∷ (2 ∷ (4 ∷ (4 ∷ (8 ∷ (8 ∷ (16 ∷ (16 ∷ (16 ∷ (32 ∷ (32 ∷ (32 ∷ (32 ∷ [])))))))))))))))
+
+unfoldable pub backoffAt : List ℕ → ℕ → ℕ
+backoffAt rests k = getD rests (k - 1) 0
+
+abbrev pub isPending : Status → Bool
+isPending pending = true
+isPending claimed = false
+isPending woken = false
+isPending consumed = false
+
+abbrev pub isClaimed : Status → Bool
+isClaimed pending = false
+isClaimed claimed = true
+isClaimed woken = false
+isClaimed consumed = false
+
+abbrev pub isConsumed : Status → Bool
+isConsumed pending = false
+isConsumed claimed = false
+isConsumed woken = false
+isConsumed consumed = true
+
+-- "neither consumed nor woken"
+abbrev pub isOpen : Status → Bool
+isOpen pending = true
+isOpen claimed = true
+isOpen woken = false
+isOpen consumed = false
+
+abbrev pub isIdle : State → Bool
+isIdle idle = true
+isIdle (working w) = false
+isIdle blocked = false
+
+-- what a message counts for in sums
+unfoldable pub amount : Table → Sent → ℤ
+amount t x = x .cents
+
+-- "A match's cents are the sum of its items' cents": over the numbers of messages that were sent so
+abbrev pub centsOf : Table → (ℕ → Sent) → List ℕ → ℤ
+centsOf t sent [] = pos 0
+centsOf t sent (n ∷ ns) = amount t (sent n) +ℤ centsOf t sent ns

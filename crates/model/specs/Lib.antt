@@ -1,0 +1,11 @@
+-- Tables, boards, steps, the pool and the demands: what a reader must believe.
+pub mod Basics
+pub mod Tables
+pub mod Layout
+pub mod Boards
+pub mod Effects
+pub mod Steps
+pub mod Adds
+pub mod Sound
+pub mod Pools
+pub mod Demands

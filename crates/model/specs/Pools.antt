@@ -1,0 +1,175 @@
+-- Schedules, and the pool that plays the join calculus beside them (01, "The pool").
+use mathlib.Core.Bool.{Bool, true, false, _&&_, not}
+use mathlib.Core.List.{List, [], _∷_, _++_, map}
+use Prim.Native.Nat.{ℕ, zero, suc, _+_}
+use lib.IntN.{ℤ, pos, negsuc, _+ℤ_}
+use lib.Dec.{eqb, ltb}
+use lib.ListN.{length, getD, set, replicate}
+use Rattle.model.specs.Basics.{pick, isIn, every}
+use Rattle.model.specs.Tables.{Chord, Table, chordAt}
+use Rattle.model.specs.Boards.{Sent, noSent, Match, State, idle, working, blocked, Sender, Board, messageAt, emptyBoard}
+use Rattle.model.specs.Boards.{amount, centsOf}
+use Rattle.model.specs.Effects.{Said, Item, Refused, wordOf, valueOf, Effect, apply, Outcome, refused, does}
+use Rattle.model.specs.Steps.{alike, stepBy}
+use Rattle.model.specs.Adds.{addRefusal, added}
+
+-- Calls and their answers
+
+pub data Call : Type 0 where
+  adds : ℕ → Sent → Call
+  steps : ℕ → Call
+
+pub record Answer : Type 0 where
+  pub said : Said
+  pub board : Board
+
+abbrev pub stepAnswer : Board → ℕ → Outcome → Answer
+stepAnswer b i (refused f) = record { said = Refused f; board = b }
+stepAnswer b i (does e) = record { said = e .said; board = apply b i e }
+
+-- "An accepted add answers `item N`"
+abbrev pub addAnswer : Table → Board → ℕ → Sent → ℕ → Answer
+addAnswer t b i x zero = record { said = Item (length (b .messages)); board = added t b i x }
+addAnswer t b i x (suc f) = record { said = Refused (suc f); board = b }
+
+abbrev pub answerTo : Table → Board → Call → Answer
+answerTo t b (adds i x) = addAnswer t b i x (addRefusal t b i x)
+answerTo t b (steps i) = stepAnswer b i (stepBy t b i)
+
+-- "A schedule hands each call the board that the one before returned"
+abbrev pub afterAll : Table → Board → List Call → Board
+afterAll t b [] = b
+afterAll t b (c ∷ cs) = afterAll t (answerTo t b c .board) cs
+
+pub record Exchange : Type 0 where
+  pub call : Call
+  pub said : Said
+
+abbrev pub history : Table → Board → List Call → List Exchange
+history t b [] = []
+history t b (c ∷ cs) = record { call = c; said = answerTo t b c .said } ∷ history t (answerTo t b c .board) cs
+
+-- "A board is quiet when every desk is idle, or blocked without a signal"
+abbrev pub canStep : State → Bool → Bool
+canStep idle g = false
+canStep (working w) g = true
+canStep blocked g = g
+
+abbrev pub quiet : Board → Bool
+quiet b = every (λ d. not (canStep (d .state) (d .signalled))) (b .senders)
+
+-- What a match read answers: "number, rule, cents, and items in member order"
+pub record MatchRead : Type 0 where
+  pub chord : ℕ
+  pub messages : List ℕ
+  pub cents : ℤ
+
+abbrev pub readMatch : Table → Board → Match → MatchRead
+readMatch t b m = record {
+  chord = m .chord;
+  messages = m .messages;
+  cents = centsOf t (λ n. messageAt b n .sent) (m .messages);
+}
+
+abbrev pub matchReads : Table → Board → List MatchRead
+matchReads t b = map (readMatch t b) (b .matches)
+
+abbrev pub noRead : MatchRead
+noRead = record { chord = 0; messages = []; cents = pos 0 }
+
+-- "Items meet a rule if they are distinct, one of its tray for each member in order, with equal property numbers where wanted"
+
+abbrev pub distinct : List ℕ → Bool
+distinct [] = true
+distinct (n ∷ ns) = not (isIn n ns) && distinct ns
+
+abbrev pub channelsMeet : (ℕ → Sent) → List ℕ → List ℕ → Bool
+channelsMeet sent [] [] = true
+channelsMeet sent [] (n ∷ ns) = false
+channelsMeet sent (m ∷ ms) [] = false
+channelsMeet sent (m ∷ ms) (n ∷ ns) = eqb (sent n .channel) m && channelsMeet sent ms ns
+
+unfoldable pub meets : Chord → (ℕ → Sent) → List ℕ → Bool
+meets r sent ns =
+    distinct ns && (channelsMeet sent (r .channels) ns && every (λ n. alike r (sent (getD ns 0 0)) (sent n)) ns)
+
+-- "The pool is a plain set of items": those sent so far by number, the numbers inside, and each sender's own message plus 1.
+-- good: every exchange so far was as the pool wants it.
+pub record Pool : Type 0 where
+  pub sent : List Sent
+  pub inside : List ℕ
+  pub own : List ℕ
+  pub matches : ℕ
+  pub good : Bool
+
+abbrev pub emptyPool : Pool
+emptyPool = record { sent = []; inside = []; own = replicate 32 0; matches = 0; good = true }
+
+abbrev pub sentAt : List Sent → ℕ → Sent
+sentAt xs n = getD xs n noSent
+
+abbrev pub ownOf : Pool → ℕ → ℕ
+ownOf p i = getD (p .own) i 0
+
+-- "N is the number of items added before. The item goes in with the call's tray, property and cents, and is now the desk's own."
+abbrev pub enters : ℕ → Sent → Pool → ℕ → Bool → Pool
+enters i x p n false = p
+enters i x p n true = record {
+  sent = p .sent ++ (x ∷ []);
+  inside = p .inside ++ (n ∷ []);
+  own = set (p .own) i (suc n);
+  matches = p .matches;
+  good = p .good && eqb n (length (p .sent));
+}
+
+abbrev pub sameZ : ℤ → ℤ → Bool
+sameZ (pos a) (pos b) = eqb a b
+sameZ (pos a) (negsuc b) = false
+sameZ (negsuc a) (pos b) = false
+sameZ (negsuc a) (negsuc b) = eqb a b
+
+-- "K is the number of matches before. Match K reads a rule of the table, items that are all in the pool and meet it, and the
+-- cents of a match of them."
+unfoldable pub fair : Table → List MatchRead → Pool → ℕ → MatchRead → Bool
+fair t ms p k m =
+    eqb k (p .matches) && (ltb k (length ms) && (ltb (m .chord) (length (t .chords)) &&
+    (every (λ n. isIn n (p .inside)) (m .messages) && (meets (chordAt t (m .chord)) (sentAt (p .sent)) (m .messages) &&
+    sameZ (m .cents) (centsOf t (sentAt (p .sent)) (m .messages))))))
+
+abbrev pub without : List ℕ → List ℕ → List ℕ
+without ys [] = []
+without ys (x ∷ xs) = pick (isIn x ys) (without ys xs) (x ∷ without ys xs)
+
+-- "They leave."
+abbrev pub leaves : Table → List MatchRead → Pool → ℕ → Bool → Pool
+leaves t ms p k false = p
+leaves t ms p k true = record {
+  sent = p .sent;
+  inside = without (getD ms k noRead .messages) (p .inside);
+  own = p .own;
+  matches = suc (p .matches);
+  good = p .good && fair t ms p k (getD ms k noRead);
+}
+
+-- An add answering `item N`, a step answering `matched K`; "Any other call, refused ones too, alters nothing."
+abbrev pub played : Table → List MatchRead → Pool → Call → Said → Pool
+played t ms p (adds i x) a = enters i x p (valueOf a) (eqb (wordOf a) 0)
+played t ms p (steps i) a = leaves t ms p (valueOf a) (eqb (wordOf a) 6)
+
+-- "It is fed the calls, their answers, and what the match reads answer at the end."
+abbrev pub playedAll : Table → List MatchRead → Pool → List Exchange → Pool
+playedAll t ms p [] = p
+playedAll t ms p (e ∷ es) = playedAll t ms (played t ms p (e .call) (e .said)) es
+
+-- "Cents added are summed over the accepted adds, cents matched over the match reads"
+abbrev pub centsAdded : Table → List Sent → ℤ
+centsAdded t [] = pos 0
+centsAdded t (x ∷ xs) = amount t x +ℤ centsAdded t xs
+
+abbrev pub centsMatched : List MatchRead → ℤ
+centsMatched [] = pos 0
+centsMatched (m ∷ ms) = m .cents +ℤ centsMatched ms
+
+abbrev pub timesHeld : ℕ → List MatchRead → ℕ
+timesHeld n [] = 0
+timesHeld n (m ∷ ms) = pick (isIn n (m .messages)) 1 0 + timesHeld n ms

@@ -1,0 +1,347 @@
+-- Steps (01, "The steps"). Each test's outcome is an argument of a helper by clauses, so that a proof goes by the same clauses.
+use mathlib.Core.Bool.{Bool, true, false, _&&_, _||_, not}
+use mathlib.Core.List.{List, [], _∷_, _++_}
+use Prim.Native.Nat.{ℕ, zero, suc, _-_}
+use lib.Dec.{eqb, ltb, leb}
+use lib.ListN.{length, getD}
+use Rattle.model.specs.Basics.{pick, isIn, firstBy}
+use Rattle.model.specs.Tables.{Chord, Table, chordAt, size, channelAt, isSync, firstSync, wakes, naming}
+use Rattle.model.specs.Boards.{Status, pending, claimed, woken, consumed, Sent, Message, Match, Phase, look, claim, revert}
+use Rattle.model.specs.Boards.{consume, tell, wake, free, signal, pass-end, backoff, Job, State, idle, working, blocked}
+use Rattle.model.specs.Boards.{Sender, Board, noMessage, messageAt, senderAt, channelOf, backoffAt}
+use Rattle.model.specs.Boards.{isPending, isClaimed, isConsumed, isOpen}
+use Rattle.model.specs.Effects.{Said, Looked, Claimed, Lost, Reverted, Matched, Consumed, Told, Woke, Freed, Signalled}
+use Rattle.model.specs.Effects.{Answered, Missed, Again, Ended, Rested, Resumed, claims, frees, resumes, consumes, wakes-by}
+use Rattle.model.specs.Effects.{Change, none, turn, records, signals, messagesAfter, Effect, Outcome, refused, does}
+
+-- records anew with one field, or two, altered
+abbrev pub inState : Sender → State → Bool → Sender
+inState d s g = record { state = s; signalled = g; own = d .own; waker = d .waker; reply = d .reply; matched = d .matched }
+
+abbrev pub inJob : Sender → Job → Sender
+inJob d w = inState d (working w) (d .signalled)
+
+abbrev pub withChosen : Job → List ℕ → Phase → Job
+withChosen w c p = record {
+  subject = w .subject;
+  chord = w .chord;
+  phase = p;
+  chosen = c;
+  retry = w .retry;
+  retries = w .retries;
+}
+
+abbrev pub inPhase : Job → Phase → Job
+inPhase w p = withChosen w (w .chosen) p
+
+abbrev pub withRetry : Job → Job
+withRetry w = record {
+  subject = w .subject;
+  chord = w .chord;
+  phase = w .phase;
+  chosen = w .chosen;
+  retry = true;
+  retries = w .retries;
+}
+
+-- a job at no chord: its pass has ended, or it backs off
+abbrev pub atNoChord : ℕ → Phase → Bool → ℕ → Job
+atNoChord h p retry k = record { subject = h; chord = 0; phase = p; chosen = []; retry = retry; retries = k }
+
+abbrev pub startAt : Bool → ℕ → ℕ → Bool → ℕ → Job
+startAt true h r retry k = record { subject = h; chord = r; phase = look 0; chosen = []; retry = retry; retries = k }
+startAt false h r retry k = atNoChord h pass-end retry k
+
+-- "a pass over the rules naming its tray, in rule order", from a chord on, for subject h
+unfoldable pub passFrom : Table → ℕ → ℕ → ℕ → Bool → ℕ → Job
+passFrom t h channel from retry k =
+    startAt (ltb (naming t channel from) (length (t .chords))) h (naming t channel from) retry k
+
+-- "Next rule."
+abbrev pub nextChord : Table → Board → Job → Bool → Job
+nextChord t b w retry = passFrom t (w .subject) (channelOf b (w .subject)) (suc (w .chord)) retry (w .retries)
+
+-- "A job begins with a pass, each pass with the mark clear."
+abbrev pub newPass : Table → List Message → ℕ → ℕ → Job
+newPass t is h k = passFrom t h (getD is h noMessage .sent .channel) 0 false k
+
+-- Look
+
+-- "with equal property numbers where wanted": whether a message like e fits beside one like s
+unfoldable pub alike : Chord → Sent → Sent → Bool
+alike r s e = not (r .equal) || eqb (e .property) (s .property)
+
+abbrev pub fits : Chord → ℕ → Sent → Message → Bool
+fits r channel s x = eqb (x .sent .channel) channel && alike r s (x .sent)
+
+-- "pending item of its tray not yet chosen, with the hand's property number if the rule wants that"
+abbrev pub isFree : Chord → ℕ → Sent → List ℕ → ℕ → Message → Bool
+isFree r channel s chosen n x = fits r channel s x && (isPending (x .status) && not (isIn n chosen))
+
+-- the lowest number, plus 1, of those that pass; 0 for none
+abbrev pub lowest : (ℕ → Message → Bool) → ℕ → List Message → ℕ
+lowest f n [] = 0
+lowest f n (x ∷ xs) = elim (f n x) [ true ↦ suc n | false ↦ lowest f (suc n) xs ]
+
+abbrev pub someMessage : (Message → Bool) → List Message → Bool
+someMessage f [] = false
+someMessage f (x ∷ xs) = f x || someMessage f xs
+
+-- "if the tray has a claimed item that would fit, chosen or not"
+unfoldable pub someClaimed : Chord → ℕ → Sent → List Message → Bool
+someClaimed r channel s is = someMessage (λ x. fits r channel s x && isClaimed (x .status)) is
+
+-- the member that the subject fills: "the first member of its tray"
+abbrev pub subjectPlace : Table → Board → ℕ → ℕ → ℕ
+subjectPlace t b h r = firstBy (eqb (channelOf b h)) (chordAt t r .channels)
+
+-- "The item in hand fills the first member of its tray, whatever its status .. Any other member takes the lowest-numbered
+-- pending item": what a look takes for member k, its number plus 1, 0 for none
+unfoldable pub choice : Table → Board → Job → ℕ → ℕ
+choice t b w k =
+    pick (eqb (subjectPlace t b (w .subject) (w .chord)) k) (suc (w .subject))
+    (lowest (isFree (chordAt t (w .chord)) (channelAt t (w .chord) k) (messageAt b (w .subject) .sent) (w .chosen)) 0 (b .messages))
+
+-- "If there is none: `missed` .. the retry mark is set"
+abbrev pub missedRetry : Table → Board → Job → ℕ → Bool
+missedRetry t b w k =
+    w .retry || someClaimed (chordAt t (w .chord)) (channelAt t (w .chord) k) (messageAt b (w .subject) .sent) (b .messages)
+
+abbrev pub lookedBy : Table → Board → Sender → Job → ℕ → ℕ → Effect
+lookedBy t b d w k zero =
+    record { said = Missed; change = none; sender = inJob d (nextChord t b w (missedRetry t b w k)) }
+lookedBy t b d w k (suc n) = record {
+  said = Looked n;
+  change = none;
+  sender = inJob d (withChosen w (w .chosen ++ (n ∷ [])) (pick (eqb (suc k) (size t (w .chord))) (claim 0) (look (suc k))));
+}
+
+unfoldable pub look-step : Table → Board → Sender → Job → ℕ → Effect
+look-step t b d w k = lookedBy t b d w k (choice t b w k)
+
+-- Claim
+
+-- "`lost N`, mark set, then each claim made is put back"
+abbrev pub lostAt : Table → Board → Job → ℕ → Job
+lostAt t b w zero = nextChord t b w true
+lostAt t b w (suc k) = inPhase (withRetry w) (revert 0 (suc k))
+
+abbrev pub loses : Table → Board → Sender → Job → ℕ → ℕ → Effect
+loses t b d w k n = record { said = Lost n; change = none; sender = inJob d (lostAt t b w k) }
+
+abbrev pub claimsTo : Sender → Job → ℕ → Phase → Effect
+claimsTo d w n p = record { said = Claimed n; change = turn n claims; sender = inJob d (inPhase w p) }
+
+abbrev pub fires : Board → Sender → Job → ℕ → Effect
+fires b d w n = record {
+  said = Matched (length (b .matches));
+  change = records n (record { chord = w .chord; messages = w .chosen });
+  sender = inJob d (inPhase w (consume 0 (suc (length (b .matches)))));
+}
+
+-- by: it is pending; it is the last; the last claim wakes; 1,024 matches stand
+abbrev pub claimedBy : Table → Board → Sender → Job → ℕ → ℕ → Bool → Bool → Bool → Bool → Effect
+claimedBy t b d w k n false last wakes full = loses t b d w k n
+claimedBy t b d w k n true false wakes full = claimsTo d w n (claim (suc k))
+claimedBy t b d w k n true true true full = claimsTo d w n wake
+claimedBy t b d w k n true true false true = loses t b d w k n
+claimedBy t b d w k n true true false false = fires b d w n
+
+unfoldable pub claim-step : Table → Board → Sender → Job → ℕ → Effect
+claim-step t b d w k =
+    let n = getD (w .chosen) k 0 in
+    claimedBy t b d w k n (isPending (messageAt b n .status)) (eqb (suc k) (size t (w .chord)))
+    (wakes t (w .chord) (channelOf b (w .subject))) (leb 1024 (length (b .matches)))
+
+-- "each claim made is put back to pending, `reverted N`, in member order; next rule"
+abbrev pub revertedTo : Table → Board → Job → ℕ → ℕ → Bool → Job
+revertedTo t b w k m true = nextChord t b w (w .retry)
+revertedTo t b w k m false = inPhase w (revert (suc k) m)
+
+unfoldable pub revert-step : Table → Board → Sender → Job → ℕ → ℕ → Effect
+revert-step t b d w k m =
+    let n = getD (w .chosen) k 0 in
+    record { said = Reverted n; change = turn n frees; sender = inJob d (revertedTo t b w k m (eqb (suc k) m)) }
+
+-- A job's end, on the messages as the step leaves them
+
+abbrev pub goesIdle : Sender → ℕ → Sender
+goesIdle d l = record { state = idle; signalled = false; own = d .own; waker = d .waker; reply = l; matched = d .matched }
+
+-- "Otherwise it goes idle with the match on its slip if it matched its own item, or else it blocks."
+abbrev pub matchedEnd : Sender → ℕ → Sender
+matchedEnd d zero = inState d blocked (d .signalled)
+matchedEnd d (suc m) = goesIdle d (suc m)
+
+abbrev pub wakerEnd : Table → List Message → Sender → ℕ → Bool → Sender
+wakerEnd t is d v true = inJob d (newPass t is v 0)
+wakerEnd t is d v false = matchedEnd d (d .matched)
+
+-- "takes its waker in hand if it has one that is not consumed and was not in hand just now"
+abbrev pub syncEnd : Table → List Message → Sender → ℕ → ℕ → Sender
+syncEnd t is d h zero = matchedEnd d (d .matched)
+syncEnd t is d h (suc v) = wakerEnd t is d v (not (isConsumed (getD is v noMessage .status)) && not (eqb v h))
+
+abbrev pub endsBy : Table → List Message → Sender → ℕ → Bool → Sender
+endsBy t is d h false = goesIdle d 0
+endsBy t is d h true = syncEnd t is d h (d .waker)
+
+-- "a desk with a leave item goes idle", for a job on subject h
+unfoldable pub job-end : Table → List Message → Sender → ℕ → Sender
+job-end t is d h = endsBy t is d h (isSync t (getD is (d .own - 1) noMessage .sent .channel))
+
+-- A recorded match: "`consumed N` for each member in order, .. then `told N` for each waiting item other than the hand, in order"
+
+abbrev pub withMatched : Bool → Sender → ℕ → Sender
+withMatched true d m = record {
+  state = d .state;
+  signalled = d .signalled;
+  own = d .own;
+  waker = d .waker;
+  reply = d .reply;
+  matched = m;
+}
+withMatched false d m = d
+
+abbrev pub keepIf : Bool → ℕ → List ℕ → List ℕ
+keepIf true n ns = n ∷ ns
+keepIf false n ns = ns
+
+abbrev pub toTell : Table → List Message → ℕ → List ℕ → List ℕ
+toTell t is h [] = []
+toTell t is h (n ∷ ns) = keepIf (isSync t (getD is n noMessage .sent .channel) && not (eqb n h)) n (toTell t is h ns)
+
+abbrev pub consumedEnd : Table → List Message → Sender → Job → List ℕ → Sender
+consumedEnd t is e w [] = job-end t is e (w .subject)
+consumedEnd t is e w (x ∷ xs) = inJob e (inPhase w (tell 0))
+
+abbrev pub consumedTo : Table → List Message → Sender → Job → ℕ → ℕ → Bool → Sender
+consumedTo t is e w k m false = inJob e (inPhase w (consume (suc k) m))
+consumedTo t is e w k m true = consumedEnd t is e w (toTell t is (w .subject) (w .chosen))
+
+unfoldable pub consume-step : Table → Board → Sender → Job → ℕ → ℕ → Effect
+consume-step t b d w k m =
+    let n = getD (w .chosen) k 0 in
+    let is = messagesAfter (turn n (consumes m)) (b .messages) in
+    let e = withMatched (eqb (suc n) (d .own)) d m in
+    record { said = Consumed n; change = turn n (consumes m); sender = consumedTo t is e w k m (eqb (suc k) (length (w .chosen))) }
+
+abbrev pub toldTo : Table → List Message → Sender → Job → ℕ → Bool → Sender
+toldTo t is d w k false = inJob d (inPhase w (tell (suc k)))
+toldTo t is d w k true = job-end t is d (w .subject)
+
+unfoldable pub tell-step : Table → Board → Sender → Job → ℕ → Effect
+tell-step t b d w k =
+    let ns = toTell t (b .messages) (w .subject) (w .chosen) in
+    let n = getD ns k 0 in
+    record { said = Told n; change = signals n; sender = toldTo t (b .messages) d w k (eqb (suc k) (length ns)) }
+
+-- A wake: "`woke N`: the first member of a waiting tray becomes woken and notes the hand as its waker; `freed N`: each other
+-- member in order becomes pending; `signalled N` sets the woken item's signal"
+
+unfoldable pub wokenOf : Table → Job → ℕ
+wokenOf t w = getD (w .chosen) (firstSync t (w .chord)) 0
+
+unfoldable pub wake-step : Table → Board → Sender → Job → Effect
+wake-step t b d w = record {
+  said = Woke (wokenOf t w);
+  change = turn (wokenOf t w) (wakes-by (w .subject));
+  sender = inJob d (inPhase w (pick (leb 2 (length (w .chosen))) (free 0) signal));
+}
+
+-- the k-th place other than f
+unfoldable pub skip : ℕ → ℕ → ℕ
+skip f k = elim (ltb k f) [ true ↦ k | false ↦ suc k ]
+
+unfoldable pub free-step : Table → Board → Sender → Job → ℕ → Effect
+free-step t b d w k =
+    let n = getD (w .chosen) (skip (firstSync t (w .chord)) k) 0 in
+    let p = pick (eqb (suc (suc k)) (length (w .chosen))) signal (free (suc k)) in
+    record { said = Freed n; change = turn n frees; sender = inJob d (inPhase w p) }
+
+unfoldable pub signal-step : Table → Board → Sender → Job → Effect
+signal-step t b d w = record {
+  said = Signalled (wokenOf t w);
+  change = signals (wokenOf t w);
+  sender = job-end t (b .messages) d (w .subject);
+}
+
+-- The end of a pass
+
+unfoldable pub more : ℕ → ℕ
+more k = pick (leb 16 k) 16 (suc k)
+
+-- "first spends as many steps, each `rested`": with so many rests to spend, and the new pass with none
+abbrev pub restsThen : Table → Board → ℕ → ℕ → ℕ → Job
+restsThen t b h k zero = newPass t (b .messages) h k
+restsThen t b h k (suc rests) = atNoChord h (backoff rests) false k
+
+abbrev pub passEndBy : Table → Board → Sender → Job → Bool → Effect
+passEndBy t b d w true =
+    let k = more (w .retries) in
+    record { said = Again; change = none; sender = inJob d (restsThen t b (w .subject) k (backoffAt (b .backoffs) k)) }
+passEndBy t b d w false = record { said = Ended; change = none; sender = job-end t (b .messages) d (w .subject) }
+
+-- "if the mark is set and the hand is neither consumed nor woken, `again`, mark cleared and a new pass; else `ended`"
+unfoldable pub pass-end-step : Table → Board → Sender → Job → Effect
+pass-end-step t b d w = passEndBy t b d w (w .retry && isOpen (messageAt b (w .subject) .status))
+
+unfoldable pub backoff-step : Table → Board → Sender → Job → ℕ → Effect
+backoff-step t b d w rests =
+    record { said = Rested; change = none; sender = inJob d (restsThen t b (w .subject) (w .retries) rests) }
+
+abbrev pub job-step : Table → Board → Sender → Job → Phase → Effect
+job-step t b d w (look k) = look-step t b d w k
+job-step t b d w (claim k) = claim-step t b d w k
+job-step t b d w (revert k m) = revert-step t b d w k m
+job-step t b d w (consume k m) = consume-step t b d w k m
+job-step t b d w (tell k) = tell-step t b d w k
+job-step t b d w wake = wake-step t b d w
+job-step t b d w (free k) = free-step t b d w k
+job-step t b d w signal = signal-step t b d w
+job-step t b d w pass-end = pass-end-step t b d w
+job-step t b d w (backoff rests) = backoff-step t b d w rests
+
+-- "A blocked desk with a signal steps: signal cleared": `answered`, `resumed`, or "if neither .. `ended`, and it stays blocked"
+
+-- "the item is pending, its noted waker becomes the desk's waker, a new job on the item begins"
+abbrev pub resumed : Table → Board → Sender → ℕ → Sender
+resumed t b d n = record {
+  state = working (newPass t (b .messages) n 0);
+  signalled = false;
+  own = d .own;
+  waker = messageAt b n .waker;
+  reply = d .reply;
+  matched = d .matched;
+}
+
+abbrev pub staysBlocked : Sender → Effect
+staysBlocked d = record { said = Ended; change = none; sender = inState d blocked false }
+
+abbrev pub resumeBy : Table → Board → Sender → ℕ → Status → Effect
+resumeBy t b d n pending = staysBlocked d
+resumeBy t b d n claimed = staysBlocked d
+resumeBy t b d n woken = record { said = Resumed; change = turn n resumes; sender = resumed t b d n }
+resumeBy t b d n consumed =
+    record { said = Answered (messageAt b n .match - 1); change = none; sender = goesIdle d (messageAt b n .match) }
+
+unfoldable pub resume-step : Table → Board → Sender → Effect
+resume-step t b d = resumeBy t b d (d .own - 1) (messageAt b (d .own - 1) .status)
+
+-- A step of sender i: refusal 8, "desk 32 or more", then 13, "desk idle, or blocked without signal"
+
+abbrev pub blockedStep : Table → Board → Sender → Bool → Outcome
+blockedStep t b d true = does (resume-step t b d)
+blockedStep t b d false = refused 13
+
+abbrev pub stateStep : Table → Board → Sender → State → Outcome
+stateStep t b d idle = refused 13
+stateStep t b d (working w) = does (job-step t b d w (w .phase))
+stateStep t b d blocked = blockedStep t b d (d .signalled)
+
+abbrev pub senderStep : Table → Board → ℕ → Bool → Outcome
+senderStep t b i true = refused 8
+senderStep t b i false = stateStep t b (senderAt b i) (senderAt b i .state)
+
+unfoldable pub stepBy : Table → Board → ℕ → Outcome
+stepBy t b i = senderStep t b i (leb 32 i)
