@@ -12,28 +12,28 @@ use lib.Seq.{getD-append-seam, getD-set-same, getD-set-other}
 use native.Mathlib.Omega.{arith}
 use Rattle.model.specs.Basics.{isIn}
 use Rattle.model.specs.Tables.{Table, isSync, chordAt}
-use Rattle.model.specs.Boards.{Board, Sent, Message, messageAt, noMessage, senderAt, Sender, idle, idleSender}
-use Rattle.model.specs.Boards.{consume, consumed, Match, noMatch, Status, pending, working, wake, woken}
-use Rattle.model.specs.Boards.{matchAt, State, channelOf, claim, claimed, isIdle, signal, Job, tell, Phase}
+use Rattle.model.specs.Boards.{Board, Sent, Message, messageAt, noMessage, senderAt, Sender, idleSender, idle}
+use Rattle.model.specs.Boards.{consumed, consume, Match, noMatch, Status, pending, working, wake, woken}
+use Rattle.model.specs.Boards.{matchAt, State, channelOf, claimed, claim, isIdle, signal, Job, tell, Phase}
 use Rattle.model.specs.Boards.{look, revert, free, pass-end, backoff, blocked}
 use Rattle.model.specs.Steps.{newPass}
 use Rattle.model.specs.Adds.{added, newMessage, newSender, centsOk, addRefusal}
 use Rattle.model.specs.Pools.{meets}
 use Rattle.model.proofs.Tests.{same?, never, unless-none}
 use Rattle.model.proofs.Lists.{nth-isIn, isIn-nth}
-use Rattle.model.proofs.Grows.{Grows, Kept, apart}
+use Rattle.model.proofs.Grows.{Grows, SameSent, apart}
 use Rattle.model.proofs.Local.{SenderOk, pass-ok, sender-on, JobAt, tell-on, StateOk}
-use Rattle.model.proofs.Holding.{Holds, Hands, holding-after}
-use Rattle.model.proofs.Moves.{MessagesOk, moved}
+use Rattle.model.proofs.Holding.{Holds, HoldingStep, holding-after}
+use Rattle.model.proofs.Notes.{NotesOk}
 use Rattle.model.proofs.Obligation.{Obligation, Meets, Obliged, by-subject, by-waker, by-woken, by-noted}
 use Rattle.model.proofs.Obligation.{unmatched-before}
 use Rattle.model.proofs.Discharge.{subject-of, covers-ahead}
 use Rattle.model.proofs.Hands.{on-board}
 use Rattle.model.proofs.Trades.{pass-empty}
-use Rattle.model.proofs.Matches.{MatchesOk, Eats}
-use Rattle.model.proofs.Owners.{Owners, Rouses}
-use Rattle.model.proofs.Answers.{Tells, TellsAt, Answering, Due, has-reply, has-match, has-signal, will-eat}
-use Rattle.model.proofs.Answers.{will-tell}
+use Rattle.model.proofs.Matches.{MatchesOk, WillConsume}
+use Rattle.model.proofs.Owners.{Owners, WillSignal}
+use Rattle.model.proofs.Answering.{WillTell, WillTellAt, Answering, AnswerDue, has-reply, has-match}
+use Rattle.model.proofs.Answering.{has-signal, will-consume, will-tell}
 use Rattle.model.proofs.Ranges.{Ranges}
 use Rattle.model.proofs.Invariant.{Inv}
 
@@ -73,7 +73,7 @@ module _ (t : Table) (b : Board) (i : ℕ) (new : Sent) where
   senders-now = length-set (b .senders) i _
 
   pub grows : Grows b b′
-  grows = record { messages-more = omega (arith, messages-now); kept = λ m l. subst⁻¹ (λ (x : Message). Kept (messageAt b m) x) (old-message m l) (record { sent = refl; channel = refl }); stays-consumed = λ m l e. (ap (λ (x : Message). x .status) (old-message m l) ∙ e, ap (λ (x : Message). x .match) (old-message m l)); matches-more = subst⁻¹ (λ (x : List Match). length (b .matches) ≤ length x) matches-now (omega arith); matches-same = λ k l. ap (λ (x : List Match). getD x k noMatch) matches-now }
+  grows = record { messages-more = omega (arith, messages-now); kept = λ m l. subst⁻¹ (λ (x : Message). SameSent (messageAt b m) x) (old-message m l) (record { sent = refl; channel = refl }); stays-consumed = λ m l e. (ap (λ (x : Message). x .status) (old-message m l) ∙ e, ap (λ (x : Message). x .match) (old-message m l)); matches-more = subst⁻¹ (λ (x : List Match). length (b .matches) ≤ length x) matches-now (omega arith); matches-same = λ k l. ap (λ (x : List Match). getD x k noMatch) matches-now }
 
   -- a status other than pending is an old item's
   old-one : (m : ℕ) (x : Status) → messageAt b′ m .status ≡ x → x ≢ pending → m < length (b .messages)
@@ -109,15 +109,15 @@ module _ (t : Table) (b : Board) (i : ℕ) (new : Sent) where
         go (inl e) = subst⁻¹ (λ (x : ℕ). SenderOk t b′ (senderAt b′ x)) e (subst⁻¹ (SenderOk t b′) (sender-now h) new-ok)
         go (inr e) = subst⁻¹ (SenderOk t b′) (sender-old j e) (sender-on t b b′ grows (senderAt b j) (v .locals j))
 
-    messages : MessagesOk t b′
-    messages = record { waker-is = λ m x l e. wk m x l e (same? m (length (b .messages))); match = λ m l e. mt m e (old-one m consumed e (apart refl)); woken-is = λ m l e. let l′ = old-one m woken e (apart refl) in subst⁻¹ (λ (y : Message). 1 ≤ y .waker) (old-message m l′) (v .messages .woken-is m l′ (was m woken e (apart refl))) }
+    notes : NotesOk t b′
+    notes = record { waker-is = λ m x l e. wk m x l e (same? m (length (b .messages))); match = λ m l e. mt m e (old-one m consumed e (apart refl)); woken-is = λ m l e. let l′ = old-one m woken e (apart refl) in subst⁻¹ (λ (y : Message). 1 ≤ y .waker) (old-message m l′) (v .notes .woken-is m l′ (was m woken e (apart refl))) }
       where
         wk : (m x : ℕ) → m < length (b′ .messages) → messageAt b′ m .waker ≡ suc x → (m ≡ length (b .messages)) ⊎ (m ≢ length (b .messages)) → (x < length (b′ .messages)) × (isSync t (messageAt b′ x .sent .channel) ≡ false) × (isSync t (messageAt b′ m .sent .channel) ≡ true)
         wk m x l e (inl z) = absurd (omega (arith, sym e ∙ ap (λ (y : Message). y .waker) (subst⁻¹ (λ (y : ℕ). messageAt b′ y ≡ newMessage new) z new-message)))
-        wk m x l e (inr z) = let l′ : m < length (b .messages) = omega (arith, messages-now) in let r = v .messages .waker-is m x l′ (sym (ap (λ (y : Message). y .waker) (old-message m l′)) ∙ e) in (omega (arith, r .0, messages-now), rw (grows .kept x (r .0) .channel) (r .1), rw (grows .kept m l′ .channel) (r .2))
+        wk m x l e (inr z) = let l′ : m < length (b .messages) = omega (arith, messages-now) in let r = v .notes .waker-is m x l′ (sym (ap (λ (y : Message). y .waker) (old-message m l′)) ∙ e) in (omega (arith, r .0, messages-now), rw (grows .kept x (r .0) .channel) (r .1), rw (grows .kept m l′ .channel) (r .2))
 
         mt : (m : ℕ) → messageAt b′ m .status ≡ consumed → m < length (b .messages) → (k : ℕ) × (messageAt b′ m .match ≡ suc k) × (k < length (b′ .matches)) × (isIn m (matchAt b′ k .messages) ≡ true)
-        mt m e l = let r = v .messages .match m l (was m consumed e (apart refl)) in (r .0, ap (λ (y : Message). y .match) (old-message m l) ∙ r .1, omega (arith, r .2, grows .matches-more), rw (grows .matches-same (r .0) (r .2)) (r .3))
+        mt m e l = let r = v .notes .match m l (was m consumed e (apart refl)) in (r .0, ap (λ (y : Message). y .match) (old-message m l) ∙ r .1, omega (arith, r .2, grows .matches-more), rw (grows .matches-same (r .0) (r .2)) (r .3))
 
     -- the new desk holds, eats and rouses nothing; the idle one did not either
     no-old : (m : ℕ) → Holds t (senderAt b i .state) m → ⊥
@@ -126,11 +126,11 @@ module _ (t : Table) (b : Board) (i : ℕ) (new : Sent) where
     no-new : (m : ℕ) → Holds t (senderAt b′ i .state) m → ⊥
     no-new m x = pass-empty t (length (b .messages)) (channelOf b′ (length (b .messages))) 0 0 false m (subst (λ (z : State). Holds t z m) new-state x)
 
-    hands : Hands t b b′ i
+    hands : HoldingStep t b b′ i
     hands = record { others = state-old; now-claimed = λ m x. absurd (no-new m x); taken = λ m x. absurd (no-new m x); released = λ m e. inl (now-is m claimed e (apart refl)); kept = λ m e. inr (was m claimed e (apart refl), λ x. absurd (no-old m x)) }
 
     matched : MatchesOk b′
-    matched = record { taken = λ m k l e. tk m (v .matched .on-board m k (less k l) (less-in m k l e)) (v .matched .taken m k (less k l) (less-in m k l e)); once = λ m j k l x e f. v .matched .once m j k (less j l) (less k x) (less-in m j l e) (less-in m k x f); on-board = λ m k l e. omega (arith, v .matched .on-board m k (less k l) (less-in m k l e), messages-now) }
+    matched = record { taken = λ m k l e. tk m (v .matches .on-board m k (less k l) (less-in m k l e)) (v .matches .taken m k (less k l) (less-in m k l e)); once = λ m j k l x e f. v .matches .once m j k (less j l) (less k x) (less-in m j l e) (less-in m k x f); on-board = λ m k l e. omega (arith, v .matches .on-board m k (less k l) (less-in m k l e), messages-now) }
       where
         less : (k : ℕ) → k < length (b′ .matches) → k < length (b .matches)
         less k l = subst (λ (x : List Match). k < length x) matches-now l
@@ -138,13 +138,13 @@ module _ (t : Table) (b : Board) (i : ℕ) (new : Sent) where
         less-in : (m k : ℕ) → k < length (b′ .matches) → isIn m (matchAt b′ k .messages) ≡ true → isIn m (matchAt b k .messages) ≡ true
         less-in m k l e = sym (ap (λ (x : Match). isIn m (x .messages)) (grows .matches-same k (less k l))) ∙ e
 
-        tk : (m : ℕ) → m < length (b .messages) → (messageAt b m .status ≡ consumed) ⊎ ((j : ℕ) × Eats (senderAt b j .state) m) → (messageAt b′ m .status ≡ consumed) ⊎ ((j : ℕ) × Eats (senderAt b′ j .state) m)
+        tk : (m : ℕ) → m < length (b .messages) → (messageAt b m .status ≡ consumed) ⊎ ((j : ℕ) × WillConsume (senderAt b j .state) m) → (messageAt b′ m .status ≡ consumed) ⊎ ((j : ℕ) × WillConsume (senderAt b′ j .state) m)
         tk m l (inl e) = inl (grows .stays-consumed m l e .0)
         tk m l (inr e) = inr (go (same? (e .0) i))
           where
-            go : (e .0 ≡ i) ⊎ (e .0 ≢ i) → (j : ℕ) × Eats (senderAt b′ j .state) m
-            go (inl z) = absurd (subst (λ (y : State). Eats y m) was-idle (subst (λ (y : ℕ). Eats (senderAt b y .state) m) z (e .1)))
-            go (inr z) = (e .0, subst⁻¹ (λ (y : State). Eats y m) (state-old (e .0) z) (e .1))
+            go : (e .0 ≡ i) ⊎ (e .0 ≢ i) → (j : ℕ) × WillConsume (senderAt b′ j .state) m
+            go (inl z) = absurd (subst (λ (y : State). WillConsume y m) was-idle (subst (λ (y : ℕ). WillConsume (senderAt b y .state) m) z (e .1)))
+            go (inr z) = (e .0, subst⁻¹ (λ (y : State). WillConsume y m) (state-old (e .0) z) (e .1))
 
     own-new : senderAt b′ i .own ≡ suc (length (b .messages))
     own-new = ap (λ (d : Sender). d .own) (sender-now h)
@@ -156,7 +156,7 @@ module _ (t : Table) (b : Board) (i : ℕ) (new : Sent) where
     not-i j e z = never (sym e ∙ ap (λ (x : ℕ). isIdle (senderAt b x .state)) z ∙ ap isIdle was-idle)
 
     owners : Owners t b′
-    owners = record { own-one = λ x j. one x j (same? x i) (same? j i); owned = λ m l w ne. have m l w ne (same? m (length (b .messages))); roused = λ m e j o. rouse m e j o (same? j i) }
+    owners = record { own-one = λ x j. one x j (same? x i) (same? j i); owned = λ m l w ne. have m l w ne (same? m (length (b .messages))); signal-due = λ m e j o. rouse m e j o (same? j i) }
       where
         one : (x j : ℕ) → (x ≡ i) ⊎ (x ≢ i) → (j ≡ i) ⊎ (j ≢ i) → 1 ≤ senderAt b′ x .own → senderAt b′ x .own ≡ senderAt b′ j .own → x ≡ j
         one x j (inl y) (inl z) l e = y ∙ sym z
@@ -168,15 +168,15 @@ module _ (t : Table) (b : Board) (i : ℕ) (new : Sent) where
         have m l w ne (inl z) = (i, ap isIdle new-state, own-new ∙ ap suc (sym z))
         have m l w ne (inr z) = let l′ : m < length (b .messages) = omega (arith, messages-now) in let r = v .owners .owned m l′ (rw (grows .kept m l′ .channel) at w) (λ c. ne (now-is m consumed c (apart refl))) in (r .0, ap isIdle (state-old (r .0) (not-i (r .0) (r .1))) ∙ r .1, own-old (r .0) (not-i (r .0) (r .1)) ∙ r .2)
 
-        rouse : (m : ℕ) → messageAt b′ m .status ≡ woken → (j : ℕ) → senderAt b′ j .own ≡ suc m → (j ≡ i) ⊎ (j ≢ i) → (senderAt b′ j .signalled ≡ true) ⊎ ((x : ℕ) × Rouses t (senderAt b′ x .state) m)
+        rouse : (m : ℕ) → messageAt b′ m .status ≡ woken → (j : ℕ) → senderAt b′ j .own ≡ suc m → (j ≡ i) ⊎ (j ≢ i) → (senderAt b′ j .signalled ≡ true) ⊎ ((x : ℕ) × WillSignal t (senderAt b′ x .state) m)
         rouse m e j o (inl z) = absurd (omega (arith, old-one m woken e (apart refl), sym o ∙ ap (λ (q : ℕ). senderAt b′ q .own) z ∙ own-new))
-        rouse m e j o (inr z) = go (v .owners .roused m (was m woken e (apart refl)) j (sym (own-old j z) ∙ o))
+        rouse m e j o (inr z) = go (v .owners .signal-due m (was m woken e (apart refl)) j (sym (own-old j z) ∙ o))
           where
-            other : (x : ℕ) → Rouses t (senderAt b x .state) m → (x ≡ i) ⊎ (x ≢ i) → (x : ℕ) × Rouses t (senderAt b′ x .state) m
-            other x p (inl y) = absurd (subst (λ (q : State). Rouses t q m) was-idle (subst (λ (q : ℕ). Rouses t (senderAt b q .state) m) y p))
-            other x p (inr y) = (x, subst⁻¹ (λ (q : State). Rouses t q m) (state-old x y) p)
+            other : (x : ℕ) → WillSignal t (senderAt b x .state) m → (x ≡ i) ⊎ (x ≢ i) → (x : ℕ) × WillSignal t (senderAt b′ x .state) m
+            other x p (inl y) = absurd (subst (λ (q : State). WillSignal t q m) was-idle (subst (λ (q : ℕ). WillSignal t (senderAt b q .state) m) y p))
+            other x p (inr y) = (x, subst⁻¹ (λ (q : State). WillSignal t q m) (state-old x y) p)
 
-            go : (senderAt b j .signalled ≡ true) ⊎ ((x : ℕ) × Rouses t (senderAt b x .state) m) → (senderAt b′ j .signalled ≡ true) ⊎ ((x : ℕ) × Rouses t (senderAt b′ x .state) m)
+            go : (senderAt b j .signalled ≡ true) ⊎ ((x : ℕ) × WillSignal t (senderAt b x .state) m) → (senderAt b′ j .signalled ≡ true) ⊎ ((x : ℕ) × WillSignal t (senderAt b′ x .state) m)
             go (inl y) = inl (ap (λ (d : Sender). d .signalled) (sender-old j z) ∙ y)
             go (inr y) = inr (other (y .0) (y .1) (same? (y .0) i))
 
@@ -217,10 +217,10 @@ module _ (t : Table) (b : Board) (i : ℕ) (new : Sent) where
         go true e = let r = isIn-nth (length (b .messages)) ns e in by-subject i (newPass t (b′ .messages) (length (b .messages)) 0) new-state (ap (λ (x : ℕ). isIn x ns) (subject-of t (length (b .messages)) _ 0 0 false) ∙ e) (covers-ahead t (length (b .messages)) _ 0 0 q false (m .chord-in) (omega arith) (named (r .0) (r .1) (r .2)))
         go false e = on (v .obligation q ns (meets e) (λ j l. unmatched-before b b′ grows (getD ns j 0) (u j l)))
 
-    tells-same : (j m : ℕ) → Tells t b (senderAt b j .state) m → Tells t b′ (senderAt b j .state) m
+    tells-same : (j m : ℕ) → WillTell t b (senderAt b j .state) m → WillTell t b′ (senderAt b j .state) m
     tells-same j m x = go (senderAt b j .own) (senderAt b j .waker) (senderAt b j .matched) (senderAt b j .state) (v .locals j .state-is) x
       where
-        at-phase : (w : Job) (o x : ℕ) (p : Phase) → JobAt t b o x w p → TellsAt t b w m p → TellsAt t b′ w m p
+        at-phase : (w : Job) (o x : ℕ) (p : Phase) → JobAt t b o x w p → WillTellAt t b w m p → WillTellAt t b′ w m p
         at-phase w o x (look k) jb y = y
         at-phase w o x (claim k) jb y = y
         at-phase w o x (revert k z) jb y = y
@@ -232,7 +232,7 @@ module _ (t : Table) (b : Board) (i : ℕ) (new : Sent) where
         at-phase w o x pass-end jb y = y
         at-phase w o x (backoff rests) jb y = y
 
-        go : (o x z : ℕ) (s : State) → StateOk t b o x z s → Tells t b s m → Tells t b′ s m
+        go : (o x z : ℕ) (s : State) → StateOk t b o x z s → WillTell t b s m → WillTell t b′ s m
         go o x z idle q y = y
         go o x z (working w) q y = at-phase w o x (w .phase) (q .1) y
         go o x z blocked q y = y
@@ -243,8 +243,8 @@ module _ (t : Table) (b : Board) (i : ℕ) (new : Sent) where
         l-b : k < length (b .matches)
         l-b = subst (λ (x : List Match). k < length x) matches-now l
 
-        go : (j ≡ i) ⊎ (j ≢ i) → Due t b′ j
-        go (inl z) = absurd (omega (arith, v .matched .on-board (length (b .messages)) k l-b (sym (ap (λ (x : Match). isIn (length (b .messages)) (x .messages)) (grows .matches-same k l-b)) ∙ subst (λ (x : ℕ). isIn x (matchAt b′ k .messages) ≡ true) (omega (arith, ap (λ (q : ℕ). senderAt b′ q .own) z ∙ own-new)) e)))
+        go : (j ≡ i) ⊎ (j ≢ i) → AnswerDue t b′ j
+        go (inl z) = absurd (omega (arith, v .matches .on-board (length (b .messages)) k l-b (sym (ap (λ (x : Match). isIn (length (b .messages)) (x .messages)) (grows .matches-same k l-b)) ∙ subst (λ (x : ℕ). isIn x (matchAt b′ k .messages) ≡ true) (omega (arith, ap (λ (q : ℕ). senderAt b′ q .own) z ∙ own-new)) e)))
         go (inr ne) = due
           where
             own-j : senderAt b′ j .own ≡ senderAt b j .own
@@ -265,18 +265,18 @@ module _ (t : Table) (b : Board) (i : ℕ) (new : Sent) where
             idle-j : isIdle (senderAt b′ j .state) ≡ isIdle (senderAt b j .state)
             idle-j = ap isIdle (state-old j ne)
 
-            moved : Due t b j → Due t b′ j
+            moved : AnswerDue t b j → AnswerDue t b′ j
             moved (has-reply x y) = has-reply (idle-j ∙ x) (omega (arith, y, ap (λ (d : Sender). d .reply) (sender-old j ne)))
             moved (has-match x y) = has-match (idle-j ∙ x) (omega (arith, y, ap (λ (d : Sender). d .matched) (sender-old j ne)))
             moved (has-signal x y c) = has-signal (idle-j ∙ x) (ap (λ (d : Sender). d .signalled) (sender-old j ne) ∙ y) (subst⁻¹ (λ (q : ℕ). messageAt b′ (q - 1) .status ≡ consumed) own-j (now-is _ consumed c (apart refl)))
-            moved (will-eat x y) = will-eat (idle-j ∙ x) (subst⁻¹ (λ (q : ℕ). Eats (senderAt b′ j .state) (q - 1)) own-j (subst⁻¹ (λ (q : State). Eats q (senderAt b j .own - 1)) (state-old j ne) y))
+            moved (will-consume x y) = will-consume (idle-j ∙ x) (subst⁻¹ (λ (q : ℕ). WillConsume (senderAt b′ j .state) (q - 1)) own-j (subst⁻¹ (λ (q : State). WillConsume q (senderAt b j .own - 1)) (state-old j ne) y))
             moved (will-tell x y z) = at (same? y i)
               where
-                at : (y ≡ i) ⊎ (y ≢ i) → Due t b′ j
-                at (inl q) = absurd (subst (λ (r : State). Tells t b r (senderAt b j .own - 1)) was-idle (subst (λ (r : ℕ). Tells t b (senderAt b r .state) (senderAt b j .own - 1)) q z))
-                at (inr q) = will-tell (idle-j ∙ x) y (subst⁻¹ (λ (r : ℕ). Tells t b′ (senderAt b′ y .state) (r - 1)) own-j (subst⁻¹ (λ (r : State). Tells t b′ r (senderAt b j .own - 1)) (state-old y q) (tells-same y (senderAt b j .own - 1) z)))
+                at : (y ≡ i) ⊎ (y ≢ i) → AnswerDue t b′ j
+                at (inl q) = absurd (subst (λ (r : State). WillTell t b r (senderAt b j .own - 1)) was-idle (subst (λ (r : ℕ). WillTell t b (senderAt b r .state) (senderAt b j .own - 1)) q z))
+                at (inr q) = will-tell (idle-j ∙ x) y (subst⁻¹ (λ (r : ℕ). WillTell t b′ (senderAt b′ y .state) (r - 1)) own-j (subst⁻¹ (λ (r : State). WillTell t b′ r (senderAt b j .own - 1)) (state-old y q) (tells-same y (senderAt b j .own - 1) z)))
 
-            due : Due t b′ j
+            due : AnswerDue t b′ j
             due = moved (v .answering j k some-b wt-b l-b e-b)
 
     ranges : Ranges t b′
@@ -290,7 +290,7 @@ module _ (t : Table) (b : Board) (i : ℕ) (new : Sent) where
             go (inr z) = let l′ : m < length (b .messages) = omega (arith, messages-now) in subst⁻¹ P (old-message m l′) (f m l′)
 
     pub added-keeps : Inv t b′
-    added-keeps = record { senders = senders-now ∙ v .senders; locals = locals; messages = messages; holding = holding-after t b b′ i (v .holding) hands; matched = matched; owners = owners; obligation = obligation; answering = answering; ranges = ranges }
+    added-keeps = record { senders = senders-now ∙ v .senders; locals = locals; notes = notes; holding = holding-after t b b′ i (v .holding) hands; matches = matched; owners = owners; obligation = obligation; answering = answering; ranges = ranges }
 
 -- what an accepted add has been tested for
 is-idle : (x : State) → isIdle x ≡ true → x ≡ idle

@@ -16,7 +16,6 @@ use Rattle.model.specs.Tables.{Table}
 use Rattle.model.specs.Boards.{Sent, centsOf, amount, Match, Board, messageAt}
 use Rattle.model.specs.Pools.{without, distinct, centsAdded, centsMatched, readMatch}
 use Rattle.model.proofs.Tests.{neither, either, never, both, and}
-use Rattle.model.proofs.Answers.{still}
 use Rattle.model.proofs.PoolLaws.{without-distinct, without-in}
 
 without-none : (y : ℕ) (xs : List ℕ) → isIn y xs ≡ false → without (y ∷ []) xs ≡ xs

@@ -27,10 +27,10 @@ use Rattle.model.proofs.AcceptedChords.{TableOk, table-ok}
 use Rattle.model.proofs.Words.{answered-said}
 use Rattle.model.proofs.Local.{Waits, StateOk}
 use Rattle.model.proofs.Obligation.{Unmatched}
-use Rattle.model.proofs.Answers.{Due, has-reply, has-match, has-signal, will-eat, will-tell}
+use Rattle.model.proofs.Answering.{AnswerDue, has-reply, has-match, has-signal, will-consume, will-tell}
 use Rattle.model.proofs.Invariant.{Inv}
 use Rattle.model.proofs.Quiet.{consumed-matched, pending-unmatched, none-obliged, not-matched, not-signalled}
-use Rattle.model.proofs.Quiet.{none-eaten, none-tell, pending-or}
+use Rattle.model.proofs.Quiet.{none-consumes, none-tell, pending-or}
 use Rattle.model.proofs.Cents.{matched-reads, cents-same}
 use Rattle.model.proofs.PoolRun.{PoolOk, as-sent, count, meets-full, sentOf}
 use Rattle.model.proofs.Schedule.{Reached, reached}
@@ -89,7 +89,7 @@ module _ (t : Table) (rests : List ℕ) (cs : List Call) (tok : TableOk t) where
         where
           go : (u : Bool) → isIn n (matchAt b j .messages) ≡ u → isIn n (matchAt b j .messages) ≡ false
           go false z = z
-          go true z = absurd (ne (v .matched .once n j k q l z e))
+          go true z = absurd (ne (v .matches .once n j k q l z e))
 
   -- a sender with a match of its own message, at a board on the way
   holds-own : (before rest : List Call) → cs ≡ before ++ rest → (i k : ℕ)
@@ -128,7 +128,7 @@ module _ (t : Table) (rests : List ℕ) (cs : List Call) (tok : TableOk t) where
       let a = answered-said t (boardAfter t rests before) i k q in
       let w = reached t rests cs before (steps i ∷ rest) tok e .inv in
       let s = subst (StateOk t (boardAfter t rests before) _ _ _) (a .is-blocked) (w .locals i .state-is) in
-      let m = w .messages .match (senderAt (boardAfter t rests before) i .own - 1) (omega (arith, s .0, w .locals i .own-in)) (a .is-consumed) in
+      let m = w .notes .match (senderAt (boardAfter t rests before) i .own - 1) (omega (arith, s .0, w .locals i .own-in)) (a .is-consumed) in
       let same : m .0 ≡ k = omega (arith, m .1, a .match-is) in
       holds-own before (steps i ∷ rest) e i k (s .0) (s .1) (omega (arith, m .2, same))
       (subst (λ (x : ℕ). isIn (senderAt (boardAfter t rests before) i .own - 1) (matchAt (boardAfter t rests before) x .messages) ≡ true)
@@ -166,11 +166,11 @@ module _ (t : Table) (rests : List ℕ) (cs : List Call) (tok : TableOk t) where
         in-it j h = ok .inside-is _ (every-nth (λ n. isIn n (p .inside)) ns 0 a j h)
 
     -- a sender whose message is matched has its reply
-    has-answer : (i : ℕ) → Due t b i → 1 ≤ senderAt b i .reply
+    has-answer : (i : ℕ) → AnswerDue t b i → 1 ≤ senderAt b i .reply
     has-answer i (has-reply e x) = x
     has-answer i (has-match e x) = absurd (not-matched t b v q i e x)
     has-answer i (has-signal e x c) = absurd (not-signalled t b v q i e x)
-    has-answer i (will-eat e x) = absurd (none-eaten t b v q _ i x)
+    has-answer i (will-consume e x) = absurd (none-consumes t b v q _ i x)
     has-answer i (will-tell e j x) = absurd (none-tell t b v q _ j x)
 
     waits-if : (i n : ℕ) → senderAt b i .own ≡ suc n → n < length (b .messages) → isSync t (channelOf b n) ≡ true
@@ -182,7 +182,7 @@ module _ (t : Table) (rests : List ℕ) (cs : List Call) (tok : TableOk t) where
         let same : senderAt b i .own - 1 ≡ n = omega (arith, o) in
         never (sym (pending-unmatched t b v q n e k (r .2)) ∙ ap (λ (x : ℕ). isIn x (matchAt b k .messages)) (sym same) ∙ r .3)
     waits-if i n o l w (inr e) zero z =
-        let r = v .messages .match n l e in
+        let r = v .notes .match n l e in
         let same : n ≡ senderAt b i .own - 1 = omega (arith, o) in
         let due = v .answering i (r .0) (omega (arith, o)) (subst (λ (x : ℕ). isSync t (channelOf b x) ≡ true) same w) (r .2)
         (subst (λ (x : ℕ). isIn x (matchAt b (r .0) .messages) ≡ true) same (r .3)) in

@@ -7,12 +7,14 @@ use mathlib.Core.List.{List, map, [], _∷_}
 use Prim.Native.Nat.{ℕ, _<_, zero, suc}
 use borrow.Author.Tests.{eq-eqb, ne-eqb}
 use lib.Dec.{eqb}
-use lib.ListN.{set, length, getD, length-set, List·getD-map}
-use lib.Seq.{getD-set-same, getD-set-other}
+use lib.ListN.{set, length, getD, length-set, List·getD-map, length-append}
+use lib.Seq.{getD-set-same, getD-set-other, getD-append-seam}
+use native.Mathlib.Omega.{arith}
 use Rattle.model.specs.Basics.{pick}
-use Rattle.model.specs.Boards.{Message, noMessage, Board, messageAt, Sender, senderAt, idleSender}
+use Rattle.model.specs.Boards.{Message, noMessage, Board, messageAt, Sender, senderAt, idleSender, Match}
+use Rattle.model.specs.Boards.{matchAt}
 use Rattle.model.specs.Effects.{Change, none, turn, turned, records, claims, signals, Turn, Effect, apply}
-use Rattle.model.specs.Effects.{messagesAfter, signalledSender, sendersAfter}
+use Rattle.model.specs.Effects.{messagesAfter, signalledSender, sendersAfter, matchesAfter}
 use Rattle.model.proofs.Tests.{same?}
 
 -- the item at a place after a change
@@ -107,3 +109,12 @@ own-at b i s h = rw (senders-at b i s i h, eq-eqb i i refl) (like (s .change) (s
 
 pub other-at : (b : Board) (i : ℕ) (s : Effect) (j : ℕ) → i < length (b .senders) → j ≢ i → Like (senderAt b j) (senderAt (apply b i s) j)
 other-at b i s j h ne = rw (senders-at b i s j h, ne-eqb j i ne) (like (s .change) (senderAt b j))
+
+-- a match recorded
+pub records-count : (b : Board) (i : ℕ) (s : Effect) (n : ℕ) (m : Match) → s .change ≡ records n m → length (apply b i s .matches) ≡ suc (length (b .matches))
+unfolding apply matchesAfter
+records-count b i s n m ec = rw ec (omega (arith, length-append (b .matches) (m ∷ [])))
+
+pub records-last : (b : Board) (i : ℕ) (s : Effect) (n : ℕ) (m : Match) → s .change ≡ records n m → (k : ℕ) → k ≡ length (b .matches) → matchAt (apply b i s) k ≡ m
+unfolding apply matchesAfter
+records-last b i s n m ec k e = rw (ec, e) (getD-append-seam (b .matches) m [] _)

@@ -11,22 +11,21 @@ use lib.ListN.{length, length-append, getD, List·getD-append}
 use native.Mathlib.Omega.{arith}
 use Rattle.model.specs.Basics.{pick}
 use Rattle.model.specs.Boards.{Message, Board, messageAt, consumed, matchAt, Status, pending, claimed, woken}
-use Rattle.model.specs.Boards.{Match, noMatch}
+use Rattle.model.specs.Boards.{isPending, Match, noMatch}
 use Rattle.model.specs.Effects.{Turn, turned, turn, Change, none, records, claims, signals, frees, consumes}
 use Rattle.model.specs.Effects.{wakes-by, resumes, matchesAfter, Effect, apply}
-use Rattle.model.specs.Steps.{more}
-use Rattle.model.proofs.Tests.{same?}
+use Rattle.model.proofs.Tests.{never, same?}
 use Rattle.model.proofs.Frame.{messageAfter, messages-count, messages-at}
 
-pub record Kept (x y : Message) : Type 0 where
+pub record SameSent (x y : Message) : Type 0 where
   pub sent : y .sent ≡ x .sent
   pub channel : y .sent .channel ≡ x .sent .channel
 
-kept-if : (t : Bool) (τ : Turn) (x : Message) → Kept x (pick t (turned τ x) x)
+kept-if : (t : Bool) (τ : Turn) (x : Message) → SameSent x (pick t (turned τ x) x)
 kept-if true τ x = record { sent = refl; channel = refl }
 kept-if false τ x = record { sent = refl; channel = refl }
 
-pub message-kept : (c : Change) (m : ℕ) (x : Message) → Kept x (messageAfter c m x)
+pub message-kept : (c : Change) (m : ℕ) (x : Message) → SameSent x (messageAfter c m x)
 message-kept none m x = record { sent = refl; channel = refl }
 message-kept (turn n τ) m x = kept-if (eqb m n) τ x
 message-kept (records n r) m x = kept-if (eqb m n) claims x
@@ -34,7 +33,7 @@ message-kept (signals n) m x = record { sent = refl; channel = refl }
 
 pub record Grows (b b′ : Board) : Type 0 where
   pub messages-more : length (b .messages) ≤ length (b′ .messages)
-  pub kept : (n : ℕ) → n < length (b .messages) → Kept (messageAt b n) (messageAt b′ n)
+  pub kept : (n : ℕ) → n < length (b .messages) → SameSent (messageAt b n) (messageAt b′ n)
   pub stays-consumed : (n : ℕ) → n < length (b .messages) → messageAt b n .status ≡ consumed → (messageAt b′ n .status ≡ consumed) × (messageAt b′ n .match ≡ messageAt b n .match)
   pub matches-more : length (b .matches) ≤ length (b′ .matches)
   pub matches-same : (k : ℕ) → k < length (b .matches) → matchAt b′ k ≡ matchAt b k
@@ -66,6 +65,12 @@ code consumed = 3
 
 pub apart : {s u : Status} → eqb (code s) (code u) ≡ false → s ≢ u
 apart {s} {u} e q = eqb-false (code s) (code u) e (ap code q)
+
+pub is-pending : (s : Status) → isPending s ≡ true → s ≡ pending
+is-pending pending e = refl
+is-pending claimed e = never e
+is-pending woken e = never e
+is-pending consumed e = never e
 
 not-consumed : (τ : Turn) → statusBefore τ ≢ consumed
 not-consumed claims = apart refl

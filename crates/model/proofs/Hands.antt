@@ -16,7 +16,7 @@ use Rattle.model.specs.Effects.{frees, consumes, wakes-by, resumes}
 use Rattle.model.proofs.Tests.{same?}
 use Rattle.model.proofs.Frame.{messages-count, messages-at, other-at, own-at}
 use Rattle.model.proofs.Grows.{statusBefore, Lawful, apart}
-use Rattle.model.proofs.Holding.{Holds, Hands}
+use Rattle.model.proofs.Holding.{Holds, HoldingStep}
 
 -- an item with a status other than pending is on the board
 pub on-board : (b : Board) (n : ℕ) (x : Status) → messageAt b n .status ≡ x → x ≢ pending → n < length (b .messages)
@@ -78,7 +78,7 @@ Drops (records m r) n = ⊥
 Drops (signals m) n = ⊥
 
 -- holdings before S and after S′ agree but for what the change takes or drops
-pub record Trades (t : Table) (c : Change) (S S′ : State) : Type 0 where
+pub record HoldingKept (t : Table) (c : Change) (S S′ : State) : Type 0 where
   pub held-before : (n : ℕ) → Holds t S′ n → Holds t S n ⊎ Takes c n
   pub held-after : (n : ℕ) → Holds t S n → Holds t S′ n ⊎ Drops c n
   pub takes-held : (n : ℕ) → Takes c n → Holds t S′ n
@@ -132,8 +132,8 @@ module _ (b : Board) (i : ℕ) (s : Effect) (l : Lawful b (s .change)) (n : ℕ)
   drops-now (records m r) l e x = absurd x
   drops-now (signals m) l e x = absurd x
 
-pub hands-of : (t : Table) (b : Board) (i : ℕ) (s : Effect) → i < length (b .senders) → Lawful b (s .change) → ((n : ℕ) → Holds t (senderAt b i .state) n → messageAt b n .status ≡ claimed) → Trades t (s .change) (senderAt b i .state) (s .sender .state) → Hands t b (apply b i s) i
-hands-of t b i s h l mine x = record { others = λ j ne. other-at b i s j h ne .state; now-claimed = λ n p. now n (back n p) (status-is b i s l n); taken = λ n p. took n (x .held-before n (back n p)); released = λ n c. let-go n c (status-is b i s l n); kept = λ n c. keeps n c (status-is b i s l n) }
+pub holding-step : (t : Table) (b : Board) (i : ℕ) (s : Effect) → i < length (b .senders) → Lawful b (s .change) → ((n : ℕ) → Holds t (senderAt b i .state) n → messageAt b n .status ≡ claimed) → HoldingKept t (s .change) (senderAt b i .state) (s .sender .state) → HoldingStep t b (apply b i s) i
+holding-step t b i s h l mine x = record { others = λ j ne. other-at b i s j h ne .state; now-claimed = λ n p. now n (back n p) (status-is b i s l n); taken = λ n p. took n (x .held-before n (back n p)); released = λ n c. let-go n c (status-is b i s l n); kept = λ n c. keeps n c (status-is b i s l n) }
   where
     back : (n : ℕ) → Holds t (senderAt (apply b i s) i .state) n → Holds t (s .sender .state) n
     back n p = subst (λ (z : State). Holds t z n) (own-at b i s h .state) p

@@ -39,14 +39,14 @@ pub record Holding (t : Table) (b : Board) : Type 0 where
   pub has-holder : (n : ℕ) → messageAt b n .status ≡ claimed → (i : ℕ) × Holds t (senderAt b i .state) n
 
 -- what a step of desk i from b to b′ owes: its own holdings before and after, and the items' statuses
-pub record Hands (t : Table) (b b′ : Board) (i : ℕ) : Type 0 where
+pub record HoldingStep (t : Table) (b b′ : Board) (i : ℕ) : Type 0 where
   pub others : (j : ℕ) → j ≢ i → senderAt b′ j .state ≡ senderAt b j .state
   pub now-claimed : (n : ℕ) → Holds t (senderAt b′ i .state) n → messageAt b′ n .status ≡ claimed
   pub taken : (n : ℕ) → Holds t (senderAt b′ i .state) n → Holds t (senderAt b i .state) n ⊎ (messageAt b n .status ≢ claimed)
   pub released : (n : ℕ) → messageAt b n .status ≡ claimed → (messageAt b′ n .status ≡ claimed) ⊎ Holds t (senderAt b i .state) n
   pub kept : (n : ℕ) → messageAt b′ n .status ≡ claimed → Holds t (senderAt b′ i .state) n ⊎ ((messageAt b n .status ≡ claimed) × (Holds t (senderAt b i .state) n → Holds t (senderAt b′ i .state) n))
 
-module _ (t : Table) (b b′ : Board) (i : ℕ) (h : Holding t b) (a : Hands t b b′ i) where
+module _ (t : Table) (b b′ : Board) (i : ℕ) (h : Holding t b) (a : HoldingStep t b b′ i) where
   before : (j n : ℕ) → j ≢ i → Holds t (senderAt b′ j .state) n → Holds t (senderAt b j .state) n
   before j n ne q = rw (a .others j ne) at q
 

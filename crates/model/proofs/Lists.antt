@@ -4,17 +4,16 @@ use mathlib.Core.Path.{_≡_, refl, sym, _∙_}
 use mathlib.Core.Logic.{_⊎_, inl, inr, _≢_}
 use mathlib.Core.Bool.{true, false, Bool}
 use mathlib.Core.List.{List, [], _∷_, _++_}
-use Prim.Native.Nat.{_-_, ℕ, _<_, suc, zero, _+_, _≤_}
+use Prim.Native.Nat.{ℕ, _<_, suc, zero, _+_, _≤_}
 use borrow.Author.Tests.{eq-eqb, eqb-true}
 use lib.Dec.{eqb}
 use lib.ListN.{length, getD}
 use native.Mathlib.Nat.{not-suc-le-zero, le-of-suc-le-suc}
 use native.Mathlib.Omega.{arith}
 use Rattle.model.specs.Basics.{isIn, every, firstBy}
-use Rattle.model.specs.Tables.{naming, Table, namingUpTo, chordAt}
 use Rattle.model.specs.Boards.{Message, noMessage}
 use Rattle.model.specs.Steps.{lowest, someMessage}
-use Rattle.model.proofs.Tests.{or-right, never, either, both, and, neither, same?}
+use Rattle.model.proofs.Tests.{or-right, never, either, both, and, neither}
 
 -- members
 pub nth-isIn : (xs : List ℕ) (j : ℕ) → j < length xs → isIn (getD xs j 0) xs ≡ true
@@ -103,37 +102,3 @@ pub none-of : (f : Message → Bool) (is : List Message) → someMessage f is �
 none-of f [] e j h = absurd (not-suc-le-zero h)
 none-of f (x ∷ xs) e zero h = neither {t = f x} e .0
 none-of f (x ∷ xs) e (suc j) h = none-of f xs (neither {t = f x} e .1) j (le-of-suc-le-suc h)
-
--- the rules naming a tray
-naming-not : (t : Table) (channel from n q : ℕ) → from ≤ q → q < namingUpTo t channel from n → isIn channel (chordAt t q .channels) ≡ false
-naming-not t channel from zero q l h = absurd (omega arith)
-naming-not t channel from (suc n) q l h = go (isIn channel (chordAt t from .channels)) refl (same? from q) h (naming-not t channel (suc from) n q)
-  where
-    go : (u : Bool) → isIn channel (chordAt t from .channels) ≡ u → (from ≡ q) ⊎ (from ≢ q) → q < namingUpTo t channel from (suc n) → (suc from ≤ q → q < namingUpTo t channel (suc from) n → isIn channel (chordAt t q .channels) ≡ false) → isIn channel (chordAt t q .channels) ≡ false
-    go true e d h ih = let z : q < from = rw (e, namingUpTo) at h in absurd (omega arith)
-    go false e (inl d) h ih = rw (← d) e
-    go false e (inr d) h ih = ih (omega arith) (rw (e, namingUpTo) at h)
-
-naming-yes : (t : Table) (channel from n : ℕ) → namingUpTo t channel from n < from + n → isIn channel (chordAt t (namingUpTo t channel from n) .channels) ≡ true
-naming-yes t channel from zero h = absurd (omega arith)
-naming-yes t channel from (suc n) h = go (isIn channel (chordAt t from .channels)) refl h (naming-yes t channel (suc from) n)
-  where
-    go : (u : Bool) → isIn channel (chordAt t from .channels) ≡ u → namingUpTo t channel from (suc n) < from + suc n → (namingUpTo t channel (suc from) n < suc from + n → isIn channel (chordAt t (namingUpTo t channel (suc from) n) .channels) ≡ true) → isIn channel (chordAt t (namingUpTo t channel from (suc n)) .channels) ≡ true
-    go true e h ih = rw (e, namingUpTo) e
-    go false e h ih = rw (e, namingUpTo) (ih (let z : namingUpTo t channel (suc from) n < from + suc n = rw (e, namingUpTo) at h in omega arith))
-
-naming-le : (t : Table) (channel from n : ℕ) → from ≤ namingUpTo t channel from n
-naming-le t channel from zero = omega arith
-naming-le t channel from (suc n) = go (isIn channel (chordAt t from .channels)) refl (naming-le t channel (suc from) n)
-  where
-    go : (u : Bool) → isIn channel (chordAt t from .channels) ≡ u → suc from ≤ namingUpTo t channel (suc from) n → from ≤ namingUpTo t channel from (suc n)
-    go true e ih = rw (e, namingUpTo) (omega arith)
-    go false e ih = rw (e, namingUpTo) (omega arith)
-
-pub names-not : (t : Table) (channel from q : ℕ) → from ≤ q → q < naming t channel from → isIn channel (chordAt t q .channels) ≡ false
-unfolding naming
-names-not t channel from q l h = naming-not t channel from (length (t .chords) - from) q l h
-
-pub names-yes : (t : Table) (channel from : ℕ) → naming t channel from < length (t .chords) → isIn channel (chordAt t (naming t channel from) .channels) ≡ true
-unfolding naming
-names-yes t channel from h = naming-yes t channel from (length (t .chords) - from) (omega (arith, naming-le t channel from (length (t .chords) - from)))

@@ -18,7 +18,8 @@ use Rattle.model.specs.Effects.{Change, none, turn, records, signals, Ef
 use Rattle.model.specs.Steps.{alike, subjectPlace, toTell, startAt, passFrom, restsThen, goesIdle, matchedEnd}
 use Rattle.model.specs.Steps.{wakerEnd, syncEnd, endsBy, job-end}
 use Rattle.model.proofs.Tests.{same?}
-use Rattle.model.proofs.Lists.{isIn-nth, names-yes}
+use Rattle.model.proofs.Lists.{isIn-nth}
+use Rattle.model.proofs.Chords.{names-yes}
 use Rattle.model.proofs.Frame.{senderAfter, senders-at}
 use Rattle.model.proofs.Grows.{Grows, Lawful, grows-after}
 
@@ -36,7 +37,7 @@ pub record Full (t : Table) (b : Board) (h r : ℕ) (c : List ℕ) : Type 0 wher
   pub selection : Selection t b h r c
   pub all : length c ≡ size t r
 
-pub record Consuming (t : Table) (b : Board) (h r : ℕ) (c : List ℕ) (k m : ℕ) : Type 0 where
+pub record AtConsume (t : Table) (b : Board) (h r : ℕ) (c : List ℕ) (k m : ℕ) : Type 0 where
   pub full : Full t b h r c
   pub at : k < size t r
   pub to-match : wakes t r (messageAt b h .sent .channel) ≡ false
@@ -45,13 +46,13 @@ pub record Consuming (t : Table) (b : Board) (h r : ℕ) (c : List ℕ) (k m : �
   pub some : 1 ≤ m
   pub done : (j : ℕ) → j < k → (messageAt b (getD c j 0) .status ≡ consumed) × (messageAt b (getD c j 0) .match ≡ m)
 
-pub record Telling (t : Table) (b : Board) (h r : ℕ) (c : List ℕ) (k : ℕ) : Type 0 where
+pub record AtTell (t : Table) (b : Board) (h r : ℕ) (c : List ℕ) (k : ℕ) : Type 0 where
   pub full : Full t b h r c
   pub to-match : wakes t r (messageAt b h .sent .channel) ≡ false
   pub at : k < length (toTell t (b .messages) h c)
   pub done : (j : ℕ) → j < size t r → messageAt b (getD c j 0) .status ≡ consumed
 
-pub record Waking (t : Table) (b : Board) (h r : ℕ) (c : List ℕ) : Type 0 where
+pub record AtWake (t : Table) (b : Board) (h r : ℕ) (c : List ℕ) : Type 0 where
   pub full : Full t b h r c
   pub to-wake : wakes t r (messageAt b h .sent .channel) ≡ true
 
@@ -59,11 +60,11 @@ abbrev pub PlacedAt : Table → Board → ℕ → ℕ → List ℕ → Bool → 
 PlacedAt t b h r c retry (look k) = Selection t b h r c × (length c ≡ k) × (k < size t r)
 PlacedAt t b h r c retry (claim k) = Full t b h r c × (k < size t r)
 PlacedAt t b h r c retry (revert k m) = Full t b h r c × (k < m) × (m < size t r) × (retry ≡ true)
-PlacedAt t b h r c retry (consume k m) = Consuming t b h r c k m
-PlacedAt t b h r c retry (tell k) = Telling t b h r c k
-PlacedAt t b h r c retry wake = Waking t b h r c
-PlacedAt t b h r c retry (free k) = Waking t b h r c × (suc k < size t r)
-PlacedAt t b h r c retry signal = Waking t b h r c
+PlacedAt t b h r c retry (consume k m) = AtConsume t b h r c k m
+PlacedAt t b h r c retry (tell k) = AtTell t b h r c k
+PlacedAt t b h r c retry wake = AtWake t b h r c
+PlacedAt t b h r c retry (free k) = AtWake t b h r c × (suc k < size t r)
+PlacedAt t b h r c retry signal = AtWake t b h r c
 PlacedAt t b h r c retry pass-end = length c ≡ 0
 PlacedAt t b h r c retry (backoff rests) = length c ≡ 0
 
@@ -103,7 +104,7 @@ module _ (t : Table) (b b′ : Board) (g : Grows b b′) where
   tell-on h [] l = refl
   tell-on h (n ∷ ns) l = rw (g .kept n (l 0 (omega arith)) .channel, tell-on h ns (λ j q. l (suc j) (omega arith)))
 
-  waking-on : (h r : ℕ) (c : List ℕ) → h < length (b .messages) → Waking t b h r c → Waking t b′ h r c
+  waking-on : (h r : ℕ) (c : List ℕ) → h < length (b .messages) → AtWake t b h r c → AtWake t b′ h r c
   waking-on h r c l q = record { full = full-on h r c l (q .full); to-wake = rw (g .kept h l .channel) (q .to-wake) }
 
   placed-on : (h r : ℕ) (c : List ℕ) (retry : Bool) → h < length (b .messages) → (p : Phase) → PlacedAt t b h r c retry p → PlacedAt t b′ h r c retry p
@@ -175,15 +176,23 @@ module _ (t : Table) (b : Board) (d : Sender) (h : ℕ) (q : SenderOk t b d) (so
   ends-ok = by-ok (isSync t (messageAt b (d .own - 1) .sent .channel)) refl
 
 -- told or not, a desk is in order; so are all after a step, if the one that stepped is
-told-ok : (t : Table) (b : Board) (c : Change) (d : Sender) → SenderOk t b d → SenderOk t b (senderAfter c d)
-told-ok t b none d q = q
-told-ok t b (turn n τ) d q = q
-told-ok t b (records n m) d q = q
-told-ok t b (signals n) d q = record { own-in = q .own-in; waker-is = q .waker-is; reply-is = q .reply-is; matched-is = q .matched-is; state-is = q .state-is }
+signalled-ok : (t : Table) (b : Board) (c : Change) (d : Sender) → SenderOk t b d → SenderOk t b (senderAfter c d)
+signalled-ok t b none d q = q
+signalled-ok t b (turn n τ) d q = q
+signalled-ok t b (records n m) d q = q
+signalled-ok t b (signals n) d q = record { own-in = q .own-in; waker-is = q .waker-is; reply-is = q .reply-is; matched-is = q .matched-is; state-is = q .state-is }
 
 pub locals-after : (t : Table) (b : Board) (i : ℕ) (s : Effect) → i < length (b .senders) → Lawful b (s .change) → ((j : ℕ) → SenderOk t b (senderAt b j)) → SenderOk t (apply b i s) (s .sender) → (j : ℕ) → SenderOk t (apply b i s) (senderAt (apply b i s) j)
-locals-after t b i s h l q p j = rw (senders-at b i s j h) (told-ok t (apply b i s) (s .change) _ (go (same? j i)))
+locals-after t b i s h l q p j = rw (senders-at b i s j h) (signalled-ok t (apply b i s) (s .change) _ (go (same? j i)))
   where
     go : (j ≡ i) ⊎ (j ≢ i) → SenderOk t (apply b i s) (pick (eqb j i) (s .sender) (senderAt b j))
     go (inl e) = rw (eq-eqb j i e) p
     go (inr e) = rw (ne-eqb j i e) (sender-on t b (apply b i s) (grows-after b i s l) (senderAt b j) (q j))
+
+-- what a step owes here: a lawful change, and the stepping sender in order
+pub record SenderKept (t : Table) (b : Board) (i : ℕ) (s : Effect) : Type 0 where
+  pub lawful : Lawful b (s .change)
+  pub in-order : SenderOk t (apply b i s) (s .sender)
+
+pub kept-sender : (t : Table) (b : Board) (i : ℕ) (s : Effect) → Lawful b (s .change) → SenderOk t b (s .sender) → SenderKept t b i s
+kept-sender t b i s l q = record { lawful = l; in-order = sender-on t b (apply b i s) (grows-after b i s l) (s .sender) q }

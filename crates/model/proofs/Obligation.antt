@@ -120,13 +120,13 @@ wakened b i s l n e = go (woken-after b (s .change) l n e)
     go (inr p) = resumes-now p
 
 -- what the desk that steps must see to, for one rule and list
-pub record Sees (t : Table) (b : Board) (i : ℕ) (s : Effect) (q : ℕ) (ns : List ℕ) : Type 0 where
+pub record ObligationKept (t : Table) (b : Board) (i : ℕ) (s : Effect) (q : ℕ) (ns : List ℕ) : Type 0 where
   pub subject : (w : Job) → senderAt b i .state ≡ working w → isIn (w .subject) ns ≡ true → Covers w q → Obliged t (apply b i s) q ns
   pub waker : (w : Job) (v : ℕ) → senderAt b i .state ≡ working w → suc (w .subject) ≡ senderAt b i .own → senderAt b i .waker ≡ suc v → isIn v ns ≡ true → Obliged t (apply b i s) q ns
   pub resumed : (n : ℕ) → s .change ≡ turn n resumes → isIn n ns ≡ true → Obliged t (apply b i s) q ns
   pub noted : (n v : ℕ) → s .change ≡ turn n resumes → messageAt b n .waker ≡ suc v → isIn v ns ≡ true → Obliged t (apply b i s) q ns
 
-module _ (t : Table) (b : Board) (i : ℕ) (s : Effect) (q : ℕ) (ns : List ℕ) (h : i < length (b .senders)) (l : Lawful b (s .change)) (z : Sees t b i s q ns) where
+module _ (t : Table) (b : Board) (i : ℕ) (s : Effect) (q : ℕ) (ns : List ℕ) (h : i < length (b .senders)) (l : Lawful b (s .change)) (z : ObligationKept t b i s q ns) where
   subject-after : (j : ℕ) (w : Job) → (j ≡ i) ⊎ (j ≢ i) → senderAt b j .state ≡ working w → isIn (w .subject) ns ≡ true → Covers w q → Obliged t (apply b i s) q ns
   subject-after j w (inl e) st n c = z .subject w (rw e at st) n c
   subject-after j w (inr e) st n c = by-subject j w (other-at b i s j h e .state ∙ st) n c

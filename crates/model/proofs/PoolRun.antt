@@ -19,18 +19,18 @@ use Rattle.model.specs.Effects.{Effect, apply, matchesAfter, Change, non
 use Rattle.model.specs.Effects.{valueOf}
 use Rattle.model.specs.Steps.{alike}
 use Rattle.model.specs.Adds.{added, newMessage}
+use Rattle.model.specs.Sound.{owns}
 use Rattle.model.specs.Pools.{Pool, ownOf, distinct, centsAdded, sentAt, meets, channelsMeet, matchReads}
 use Rattle.model.specs.Pools.{noRead, readMatch, fair, without, leaves, MatchRead, enters}
 use Rattle.model.proofs.Tests.{and, both, never, same?, either, or-right}
 use Rattle.model.proofs.Lists.{nth-every, every-nth, nth-isIn}
 use Rattle.model.proofs.Words.{isRecord}
-use Rattle.model.proofs.Frame.{messages-count, sents-after}
+use Rattle.model.proofs.Frame.{messages-count, sents-after, records-count, records-last}
 use Rattle.model.proofs.Grows.{Grows, grows-after}
 use Rattle.model.proofs.Local.{Full, Selection}
 use Rattle.model.proofs.Choice.{alike-via}
-use Rattle.model.proofs.Moves.{records-count, records-last}
 use Rattle.model.proofs.Obligation.{Unmatched, Meets, unmatched-before}
-use Rattle.model.proofs.Invariant.{Inv, Facts, step-own}
+use Rattle.model.proofs.Invariant.{Inv, Owes, step-own}
 use Rattle.model.proofs.PoolLaws.{one-distinct, channels-true, true-channels, distinct-one, sameZ-refl}
 use Rattle.model.proofs.PoolLaws.{in-snoc, in-without, without-in, without-distinct, snoc-distinct}
 use Rattle.model.proofs.Cents.{centsIn, cents-same, some-out, cents-in-snoc, added-snoc, cents-snoc}
@@ -119,9 +119,9 @@ is-record (signals n) e = never e
 
 -- a step
 module _ (t : Table) (last b : Board) (p : Pool) (ok : PoolOk t last b p) (i : ℕ) (e : Effect)
-    (v : Inv t b) (l : i < 32) (f : Facts t b i e) where
+    (v : Inv t b) (l : i < 32) (f : Owes t b i e) where
   g : Grows b (apply b i e)
-  g = grows-after b i e (f .moved .lawful)
+  g = grows-after b i e (f .local .lawful)
 
   still-in : (n : ℕ) → n < length (apply b i e .messages) → n < length (b .messages)
   still-in n h = omega (arith, messages-count b i e)
@@ -167,7 +167,7 @@ module _ (t : Table) (last b : Board) (p : Pool) (ok : PoolOk t last b p) (i : �
     full = f .recorded .subject x m ec
 
     fresh : (j : ℕ) → j < length (m .messages) → Unmatched b (getD (m .messages) j 0) × (getD (m .messages) j 0 < length (b .messages))
-    fresh j q = let r = f .ate .begins x m ec (getD (m .messages) j 0) (nth-isIn (m .messages) j q) in (r .1, r .2)
+    fresh j q = let r = f .matches .begins x m ec (getD (m .messages) j 0) (nth-isIn (m .messages) j q) in (r .1, r .2)
 
     all-in : every (λ n. isIn n (p .inside)) (m .messages) ≡ true
     all-in = nth-every _ (m .messages) 0 (λ j q. let r = fresh j q in ok .is-inside _ (r .1) (r .0))
@@ -264,7 +264,7 @@ module _ (t : Table) (last b : Board) (p : Pool) (ok : PoolOk t last b p) (i : �
     where
       go : (u : Bool) → isIn (length (b .messages)) (matchAt b k .messages) ≡ u → isIn (length (b .messages)) (matchAt b k .messages) ≡ false
       go false e = e
-      go true e = absurd (omega (arith, v .matched .on-board (length (b .messages)) k h e))
+      go true e = absurd (omega (arith, v .matches .on-board (length (b .messages)) k h e))
 
   not-yet : (u : Bool) → isIn (length (b .messages)) (p .inside) ≡ u → isIn (length (b .messages)) (p .inside) ≡ false
   not-yet false e = e

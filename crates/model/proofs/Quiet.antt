@@ -19,9 +19,9 @@ use Rattle.model.proofs.Local.{StateOk}
 use Rattle.model.proofs.Holding.{Holds}
 use Rattle.model.proofs.Obligation.{Meets, Unmatched, Obliged, by-subject, by-waker, by-woken, by-noted}
 use Rattle.model.proofs.Hands.{on-board}
-use Rattle.model.proofs.Matches.{Eats}
-use Rattle.model.proofs.Owners.{woken-waits, Rouses}
-use Rattle.model.proofs.Answers.{Tells}
+use Rattle.model.proofs.Matches.{WillConsume}
+use Rattle.model.proofs.Owners.{woken-waits, WillSignal}
+use Rattle.model.proofs.Answering.{WillTell}
 use Rattle.model.proofs.Invariant.{Inv}
 
 still-at : (ds : List Sender) (j : ℕ) → every (λ d. not (canStep (d .state) (d .signalled))) ds ≡ true → canStep (getD ds j idleSender .state) (getD ds j idleSender .signalled) ≡ false
@@ -34,14 +34,14 @@ module _ (t : Table) (b : Board) (v : Inv t b) (q : quiet b ≡ true) where
   no-work i w st = never (sym (still-at (b .senders) i q) ∙ ap (λ (x : State). canStep x (senderAt b i .signalled)) st)
 
   none-woken : (n : ℕ) → messageAt b n .status ≡ woken → ⊥
-  none-woken n e = let r = v .owners .owned n (on-board b n woken e (apart refl)) (woken-waits t b (v .messages) n e) (λ c. apart refl (sym e ∙ c)) in go (r .0) (senderAt b (r .0) .state) refl (r .1) (v .owners .roused n e (r .0) (r .2))
+  none-woken n e = let r = v .owners .owned n (on-board b n woken e (apart refl)) (woken-waits t b (v .notes) n e) (λ c. apart refl (sym e ∙ c)) in go (r .0) (senderAt b (r .0) .state) refl (r .1) (v .owners .signal-due n e (r .0) (r .2))
     where
-      busy : (x : State) → Rouses t x n → (w : Job) × (x ≡ working w)
+      busy : (x : State) → WillSignal t x n → (w : Job) × (x ≡ working w)
       busy idle p = absurd p
       busy (working w) p = (w, refl)
       busy blocked p = absurd p
 
-      go : (j : ℕ) (x : State) → senderAt b j .state ≡ x → isIdle (senderAt b j .state) ≡ false → (senderAt b j .signalled ≡ true) ⊎ ((i : ℕ) × Rouses t (senderAt b i .state) n) → ⊥
+      go : (j : ℕ) (x : State) → senderAt b j .state ≡ x → isIdle (senderAt b j .state) ≡ false → (senderAt b j .signalled ≡ true) ⊎ ((i : ℕ) × WillSignal t (senderAt b i .state) n) → ⊥
       go j x e f (inr p) = let z = busy (senderAt b (p .0) .state) (p .1) in no-work (p .0) (z .0) (z .1)
       go j idle e f (inl p) = never (sym f ∙ ap isIdle e)
       go j (working w) e f (inl p) = no-work j w e
@@ -55,10 +55,10 @@ module _ (t : Table) (b : Board) (v : Inv t b) (q : quiet b ≡ true) where
       go i (working w) e p = no-work i w e
       go i blocked e p = p
 
-  pub none-eaten : (n i : ℕ) → Eats (senderAt b i .state) n → ⊥
-  none-eaten n i p = go (senderAt b i .state) refl p
+  pub none-consumes : (n i : ℕ) → WillConsume (senderAt b i .state) n → ⊥
+  none-consumes n i p = go (senderAt b i .state) refl p
     where
-      go : (x : State) → senderAt b i .state ≡ x → Eats x n → ⊥
+      go : (x : State) → senderAt b i .state ≡ x → WillConsume x n → ⊥
       go idle e p = p
       go (working w) e p = no-work i w e
       go blocked e p = p
@@ -85,21 +85,21 @@ module _ (t : Table) (b : Board) (v : Inv t b) (q : quiet b ≡ true) where
   pub pending-unmatched : (n : ℕ) → messageAt b n .status ≡ pending → Unmatched b n
   pending-unmatched n e k l = go (isIn n (matchAt b k .messages)) refl
     where
-      taken : (messageAt b n .status ≡ consumed) ⊎ ((i : ℕ) × Eats (senderAt b i .state) n) → ⊥
+      taken : (messageAt b n .status ≡ consumed) ⊎ ((i : ℕ) × WillConsume (senderAt b i .state) n) → ⊥
       taken (inl c) = apart refl (sym e ∙ c)
-      taken (inr p) = none-eaten n (p .0) (p .1)
+      taken (inr p) = none-consumes n (p .0) (p .1)
 
       go : (u : Bool) → isIn n (matchAt b k .messages) ≡ u → isIn n (matchAt b k .messages) ≡ false
       go false z = z
-      go true z = absurd (taken (v .matched .taken n k l z))
+      go true z = absurd (taken (v .matches .taken n k l z))
 
   pub consumed-matched : (n : ℕ) → n < length (b .messages) → messageAt b n .status ≡ consumed → Unmatched b n → ⊥
-  consumed-matched n l e u = let r = v .messages .match n l e in never (sym (u (r .0) (r .2)) ∙ r .3)
+  consumed-matched n l e u = let r = v .notes .match n l e in never (sym (u (r .0) (r .2)) ∙ r .3)
 
-  pub none-tell : (n i : ℕ) → Tells t b (senderAt b i .state) n → ⊥
+  pub none-tell : (n i : ℕ) → WillTell t b (senderAt b i .state) n → ⊥
   none-tell n i p = go (senderAt b i .state) refl p
     where
-      go : (x : State) → senderAt b i .state ≡ x → Tells t b x n → ⊥
+      go : (x : State) → senderAt b i .state ≡ x → WillTell t b x n → ⊥
       go idle e p = p
       go (working w) e p = no-work i w e
       go blocked e p = p

@@ -10,13 +10,12 @@ use native.Mathlib.Omega.{arith}
 use Rattle.model.specs.Basics.{pick}
 use Rattle.model.specs.Tables.{Table}
 use Rattle.model.specs.Boards.{Board, messageAt, matchAt, Match, Sent, Message}
-use Rattle.model.specs.Effects.{Change, none, signals, records, turn, turned, claims, Turn, frees, consumes}
+use Rattle.model.specs.Effects.{Change, none, signals, records, turned, turn, claims, Turn, frees, consumes}
 use Rattle.model.specs.Effects.{wakes-by, resumes, Effect, apply}
 use Rattle.model.specs.Adds.{centsOk}
-use Rattle.model.proofs.Frame.{messageAfter, messages-count, messages-at}
+use Rattle.model.proofs.Frame.{messageAfter, messages-count, messages-at, records-last}
 use Rattle.model.proofs.Grows.{Lawful, Grows, grows-after}
-use Rattle.model.proofs.Moves.{records-last}
-use Rattle.model.proofs.Notes.{Writes, WritesBy}
+use Rattle.model.proofs.Notes.{NotesKept, Writes}
 use Rattle.model.proofs.Matches.{recorded}
 
 pub record Ranges (t : Table) (b : Board) : Type 0 where
@@ -27,7 +26,7 @@ pub record Ranges (t : Table) (b : Board) : Type 0 where
   pub match-in : (n : ℕ) → n < length (b .messages) → messageAt b n .match ≤ length (b .matches)
   pub chord-in : (k : ℕ) → k < length (b .matches) → matchAt b k .chord < length (t .chords)
 
-match-by : (t : Table) (b b′ : Board) (c : Change) → WritesBy t b′ c → length (b .matches) ≤ length (b′ .matches) → (n : ℕ) → messageAt b n .match ≤ length (b .matches) → messageAfter c n (messageAt b n) .match ≤ length (b′ .matches)
+match-by : (t : Table) (b b′ : Board) (c : Change) → NotesKept t b′ c → length (b .matches) ≤ length (b′ .matches) → (n : ℕ) → messageAt b n .match ≤ length (b .matches) → messageAfter c n (messageAt b n) .match ≤ length (b′ .matches)
 match-by t b b′ none x g n h = omega arith
 match-by t b b′ (signals m) x g n h = omega arith
 match-by t b b′ (records m r) x g n h = go (eqb n m)
@@ -45,7 +44,7 @@ match-by t b b′ (turn m τ) x g n h = go (eqb n m) τ x
     go true (wakes-by a) x = omega arith
     go true resumes x = omega arith
 
-pub ranges-after : (t : Table) (b : Board) (i : ℕ) (s : Effect) → Lawful b (s .change) → WritesBy t (apply b i s) (s .change) → ((x : ℕ) (m : Match) → s .change ≡ records x m → (m .chord < length (t .chords)) × (length (b .matches) < 1024)) → Ranges t b → Ranges t (apply b i s)
+pub ranges-after : (t : Table) (b : Board) (i : ℕ) (s : Effect) → Lawful b (s .change) → NotesKept t (apply b i s) (s .change) → ((x : ℕ) (m : Match) → s .change ≡ records x m → (m .chord < length (t .chords)) × (length (b .matches) < 1024)) → Ranges t b → Ranges t (apply b i s)
 ranges-after t b i s l w f r = record { messages-few = omega (arith, r .messages-few, messages-count b i s); matches-few = few; channel-in = λ n h. subst⁻¹ (λ (x : ℕ). x < length (t .kinds)) (g .kept n (in-b n h) .channel) (r .channel-in n (in-b n h)); cents-in = λ n h. ap (λ (c : Sent). centsOk (c .cents)) (g .kept n (in-b n h) .sent) ∙ r .cents-in n (in-b n h); match-in = λ n h. subst⁻¹ (λ (x : Message). x .match ≤ length (apply b i s .matches)) (messages-at b i s n (in-b n h)) (match-by t b (apply b i s) (s .change) w (g .matches-more) n (r .match-in n (in-b n h))); chord-in = λ k h. chords k (recorded b i s (s .change) refl k h) }
   where
     g : Grows b (apply b i s)

@@ -9,7 +9,7 @@ use lib.ListN.{getD, replicate, getD-replicate, List·getD-eq-default, length-re
 use native.Mathlib.Omega.{arith}
 use Rattle.model.specs.Tables.{Table}
 use Rattle.model.specs.Boards.{senderAt, emptyBoard, Board, idleSender, Sender}
-use Rattle.model.specs.Effects.{none, Outcome, refused, does}
+use Rattle.model.specs.Effects.{Outcome, refused, does}
 use Rattle.model.specs.Steps.{stepBy}
 use Rattle.model.specs.Adds.{addRefusal}
 use Rattle.model.specs.Sound.{owns}
@@ -22,7 +22,9 @@ use Rattle.model.proofs.Words.{matched-said, MatchedSaid}
 use Rattle.model.proofs.Grows.{apart, Grows, grows-refl, grows-after, grows-trans}
 use Rattle.model.proofs.Local.{SenderOk}
 use Rattle.model.proofs.Holding.{Holds}
-use Rattle.model.proofs.Invariant.{Inv, stepBy-facts, AnswerFacts, step-keeps}
+use Rattle.model.proofs.Invariant.{Inv, step-keeps}
+use Rattle.model.proofs.StepBy.{step-owes, OutcomeOwes}
+use Rattle.model.proofs.Adds.{grows}
 use Rattle.model.proofs.PoolRun.{PoolOk, pool-entered, step-pool}
 use Rattle.model.proofs.Adds as A
 
@@ -46,14 +48,14 @@ empty-inv t rests tok = record {
     matched-is = λ k e. absurd (omega arith);
     state-is = tt;
   });
-  messages = record { waker-is = λ n v l. none l; match = λ n l. none l; woken-is = λ n l. none l };
+  notes = record { waker-is = λ n v l. none l; match = λ n l. none l; woken-is = λ n l. none l };
   holding = record {
     claimed-is = λ i n x. absurd (holds-none i n x);
     one-holder = λ i j n x. absurd (holds-none i n x);
     has-holder = λ n e. absurd (apart refl e);
   };
-  matched = record { taken = λ n k l. none l; once = λ n j k l. none l; on-board = λ n k l. none l };
-  owners = record { own-one = λ i j l. absurd (owns-none i l); owned = λ n l. none l; roused = λ n e. absurd (apart refl e) };
+  matches = record { taken = λ n k l. none l; once = λ n j k l. none l; on-board = λ n k l. none l };
+  owners = record { own-one = λ i j l. absurd (owns-none i l); owned = λ n l. none l; signal-due = λ n e. absurd (apart refl e) };
   obligation = λ q ns m u. none (m .inside 0 (omega (arith, m .all, tok .chord-some q (m .chord-in))));
   answering = λ i k l. absurd (owns-none i l);
   ranges = record {
@@ -100,9 +102,9 @@ call-inv t b (adds i x) v = go (addRefusal t b i x) refl
     go : (f : ℕ) → addRefusal t b i x ≡ f → Inv t (addAnswer t b i x f .board)
     go zero e = let a = A.add-accepted t b i x e in A.added-keeps t b i x v (a .0) (a .1) (a .2) (a .3) (a .4)
     go (suc f) e = v
-call-inv t b (steps i) v = go (stepBy t b i) (stepBy-facts t b i v)
+call-inv t b (steps i) v = go (stepBy t b i) (step-owes t b i v)
   where
-    go : (o : Outcome) → AnswerFacts t b i o → Inv t (stepAnswer b i o .board)
+    go : (o : Outcome) → OutcomeOwes t b i o → Inv t (stepAnswer b i o .board)
     go (refused f) x = v
     go (does e) x = step-keeps t b i e (x .0) v (x .1)
 
@@ -112,11 +114,11 @@ call-grows t b (adds i x) v = go (addRefusal t b i x)
     go : (f : ℕ) → Grows b (addAnswer t b i x f .board)
     go zero = A.grows t b i x
     go (suc f) = grows-refl b
-call-grows t b (steps i) v = go (stepBy t b i) (stepBy-facts t b i v)
+call-grows t b (steps i) v = go (stepBy t b i) (step-owes t b i v)
   where
-    go : (o : Outcome) → AnswerFacts t b i o → Grows b (stepAnswer b i o .board)
+    go : (o : Outcome) → OutcomeOwes t b i o → Grows b (stepAnswer b i o .board)
     go (refused f) x = grows-refl b
-    go (does e) x = grows-after b i e (x .1 .moved .lawful)
+    go (does e) x = grows-after b i e (x .1 .local .lawful)
 
 call-pool : (t : Table) (last b : Board) (p : Pool) (c : Call) → Inv t b → PoolOk t last b p
     → Grows (answerTo t b c .board) last
@@ -127,9 +129,9 @@ call-pool t last b p (adds i x) v ok = go (addRefusal t b i x) refl
         → PoolOk t last (addAnswer t b i x f .board) (played t (matchReads t last) p (adds i x) (addAnswer t b i x f .said))
     go zero e g = pool-entered t last b p ok i x v (A.add-accepted t b i x e .0) g
     go (suc f) e g = ok
-call-pool t last b p (steps i) v ok = go (stepBy t b i) (stepBy-facts t b i v) (matched-said t b i)
+call-pool t last b p (steps i) v ok = go (stepBy t b i) (step-owes t b i v) (matched-said t b i)
   where
-    go : (o : Outcome) → AnswerFacts t b i o → MatchedSaid o → Grows (stepAnswer b i o .board) last
+    go : (o : Outcome) → OutcomeOwes t b i o → MatchedSaid o → Grows (stepAnswer b i o .board) last
         → PoolOk t last (stepAnswer b i o .board) (played t (matchReads t last) p (steps i) (stepAnswer b i o .said))
     go (refused f) x m g = ok
     go (does e) x m g = step-pool t last b p ok i e v (x .0) (x .1) g m

@@ -10,7 +10,7 @@ use lib.ListN.{length, getD}
 use native.Mathlib.Omega.{arith}
 use Rattle.model.specs.Basics.{every}
 use Rattle.model.specs.Tables.{Table, size}
-use Rattle.model.specs.Boards.{Board, messageAt, wake, Status, pending, claimed, claim, woken, consume}
+use Rattle.model.specs.Boards.{Board, messageAt, wake, Status, pending, claim, claimed, woken, consume}
 use Rattle.model.specs.Boards.{consumed, matchAt, Job, Phase, look, revert, tell, free, signal, pass-end}
 use Rattle.model.specs.Boards.{backoff, Sender, State, idle, working, blocked, isIdle, idleSender, noMessage}
 use Rattle.model.specs.Boards.{noMatch, senderAt}
@@ -31,19 +31,19 @@ module _ (t : Table) (b : Board) (v : Inv t b) where
   unfolding messageOk
   message-true n l =
       and (lt-ltb _ _ (v .ranges .channel-in n l)) (and (v .ranges .cents-in n l) (and (le-leb _ _ (v .ranges .match-in n l))
-      (and (le-leb _ _ (plus-one (messageAt b n .waker) (length (b .messages)) (λ w e. v .messages .waker-is n w l e .0)))
+      (and (le-leb _ _ (plus-one (messageAt b n .waker) (length (b .messages)) (λ w e. v .notes .waker-is n w l e .0)))
       (note (messageAt b n .status) refl))))
     where
       note : (s : Status) → messageAt b n .status ≡ s → noteOk (messageAt b n) s ≡ true
       note pending e = refl
       note claimed e = refl
-      note woken e = le-leb 1 (messageAt b n .waker) (v .messages .woken-is n l e)
-      note consumed e = le-leb 1 (messageAt b n .match) (omega (arith, v .messages .match n l e .1))
+      note woken e = le-leb 1 (messageAt b n .waker) (v .notes .woken-is n l e)
+      note consumed e = le-leb 1 (messageAt b n .match) (omega (arith, v .notes .match n l e .1))
 
   match-true : (k : ℕ) → k < length (b .matches) → matchOk t b (matchAt b k) ≡ true
   unfolding matchOk
   match-true k l = and (lt-ltb _ _ (v .ranges .chord-in k l)) (nth-every _ (matchAt b k .messages) 0 (λ j h.
-      lt-ltb _ _ (v .matched .on-board _ k l (nth-isIn (matchAt b k .messages) j h))))
+      lt-ltb _ _ (v .matches .on-board _ k l (nth-isIn (matchAt b k .messages) j h))))
 
   module _ (w : Job) where
     below-true : Selection t b (w .subject) (w .chord) (w .chosen) → allBelow (length (b .messages)) (w .chosen) ≡ true
