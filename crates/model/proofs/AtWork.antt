@@ -82,13 +82,15 @@ module _ {t : Table} {b : Board} {i : ℕ} {w : Job} {p : Phase} (c : AtWork t b
   from-work x s k = subst⁻¹ (λ (z : State). HoldingKept t x z s) (c .state) k
 
   -- a job of the same subject
-  pub job-at : (q : Phase) (chosen : List ℕ) (retry : Bool) (k : ℕ) → PlacedAt t b (w .subject) (w .chord) chosen retry q
+  pub job-at : (q : Phase) (chosen : List ℕ) (retry : Bool) (k : ℕ)
+      → PlacedAt t b (w .subject) (w .chord) chosen retry q
       → JobAt t b (senderAt b i .own) (senderAt b i .waker)
       (record { subject = w .subject; chord = w .chord; phase = q; chosen = chosen; retry = retry; retries = k }) q
   job-at q chosen retry k x = record { subject-in = c .job .subject-in; subject-is = c .job .subject-is; placed = x }
 
   pub pass-at : (from k : ℕ) (retry : Bool)
-      → JobAt t b (senderAt b i .own) (senderAt b i .waker) (passFrom t (w .subject) (channelOf b (w .subject)) from retry k)
+      → JobAt t b (senderAt b i .own) (senderAt b i .waker)
+      (passFrom t (w .subject) (channelOf b (w .subject)) from retry k)
       (passFrom t (w .subject) (channelOf b (w .subject)) from retry k .phase)
   pass-at from k retry = pass-ok t b _ _ (w .subject) from k retry (c .job .subject-in) (c .job .subject-is)
 
@@ -102,7 +104,8 @@ module _ {t : Table} {b : Board} {i : ℕ} {w : Job} {p : Phase} (c : AtWork t b
     module _ (w′ : Job) (d : s .sender ≡ inJob (senderAt b i) w′) where
       pub job-kept : JobAt t b (senderAt b i .own) (senderAt b i .waker) w′ (w′ .phase) → SenderKept t b i s
       job-kept j = kept-sender t b i s l
-          (rw d (with-state t b (senderAt b i) (working w′) (senderAt b i .signalled) (c .inv .locals i) (c .own-some, j)))
+          (rw d (with-state t b (senderAt b i) (working w′) (senderAt b i .signalled) (c .inv .locals i)
+          (c .own-some, j)))
 
       pub job-goes-on : isTame (s .change) ≡ true → still p ≡ true → signalling p ≡ false
           → JobAt t b (senderAt b i .own) (senderAt b i .waker) w′ (w′ .phase)
@@ -115,7 +118,9 @@ module _ {t : Table} {b : Board} {i : ℕ} {w : Job} {p : Phase} (c : AtWork t b
           let x = tame (s .change) e in
           record {
             local = job-kept j;
-            holding = subst⁻¹ (λ (z : Sender). HoldingKept t (s .change) (senderAt b i .state) (z .state)) d (from-work _ _ k);
+            holding =
+                subst⁻¹ (λ (z : Sender). HoldingKept t (s .change) (senderAt b i .state) (z .state)) d
+                (from-work _ _ k);
             notes = x .no-note t (apply b i s);
             matches = no-consume b i s w p (c .state) (c .phase) st (x .no-record);
             owners = λ n. plain t b i w (c .state) s w′ p (c .phase) sg (ap (λ (z : Sender). z .state) d)
@@ -133,7 +138,8 @@ module _ {t : Table} {b : Board} {i : ℕ} {w : Job} {p : Phase} (c : AtWork t b
         → apply b i s .messages ≡ b .messages
         → HoldingKept t (s .change) (working w) (s .sender .state)
         → ((n : ℕ) → WillSignal t (senderAt b i .state) n → s .change ≡ signals n)
-        → ((q : ℕ) (ns : List ℕ) → Case t b i s q ns → isIn (w .subject) ns ≡ true → Covers w q → Obliged t (apply b i s) q ns)
+        → ((q : ℕ) (ns : List ℕ) → Case t b i s q ns → isIn (w .subject) ns ≡ true → Covers w q → Obliged t
+        (apply b i s) q ns)
         → Owes t b i s
     job-ends e st d same k sg f =
         let x = tame (s .change) e in

@@ -59,7 +59,8 @@ module _ (t : Table) (sent : ℕ → Sent) where
       go true q n z ih =
           let w = eqb-true x y q in
           ap (λ (k : ℕ). centsOf t sent (k ∷ xs)) w
-          ∙ ap (λ (l : List ℕ). centsOf t sent (y ∷ l)) (sym (without-none y xs (subst (λ (k : ℕ). isIn k xs ≡ false) w n)))
+          ∙ ap (λ (l : List ℕ). centsOf t sent (y ∷ l))
+          (sym (without-none y xs (subst (λ (k : ℕ). isIn k xs ≡ false) w n)))
       go false q n (inl z) ih = absurd (eqb-false x y q (sym (eqb-true y x z)))
       go false q n (inr z) ih =
           ap (λ (k : ℤ). amount t (sent x) +ℤ k) (ih z)
@@ -84,7 +85,8 @@ module _ (t : Table) (sent : ℕ → Sent) where
       still (z ∷ zs) n e =
           let p = both {t = isIn z xs} e in
           let q = neither {t = eqb y z} n in
-          and (without-in z (y ∷ []) xs (p .0) (rw (ne-eqb z y (λ w. eqb-false y z (q .0) (sym w))))) (still zs (q .1) (p .1))
+          and (without-in z (y ∷ []) xs (p .0) (rw (ne-eqb z y (λ w. eqb-false y z (q .0) (sym w)))))
+          (still zs (q .1) (p .1))
 
   pub cents-snoc : (xs : List ℕ) (n : ℕ) → centsOf t sent (xs ++ (n ∷ [])) ≡ centsOf t sent xs +ℤ amount t (sent n)
   cents-snoc [] n = +ℤ-idr (amount t (sent n)) ∙ sym (+ℤ-idl (amount t (sent n)))
@@ -97,7 +99,8 @@ module _ (t : Table) (sent : ℕ → Sent) where
   centsIn [] = pos 0
   centsIn (m ∷ ms) = centsOf t sent (m .messages) +ℤ centsIn ms
 
-  pub cents-in-snoc : (ms : List Match) (m : Match) → centsIn (ms ++ (m ∷ [])) ≡ centsIn ms +ℤ centsOf t sent (m .messages)
+  pub cents-in-snoc : (ms : List Match) (m : Match)
+      → centsIn (ms ++ (m ∷ [])) ≡ centsIn ms +ℤ centsOf t sent (m .messages)
   cents-in-snoc [] m = +ℤ-idr (centsOf t sent (m .messages)) ∙ sym (+ℤ-idl (centsOf t sent (m .messages)))
   cents-in-snoc (x ∷ xs) m =
       ap (λ (k : ℤ). centsOf t sent (x .messages) +ℤ k) (cents-in-snoc xs m)
@@ -116,4 +119,5 @@ added-snoc t (y ∷ ys) x =
 pub matched-reads : (t : Table) (b : Board) (ms : List Match)
     → centsMatched (map (readMatch t b) ms) ≡ centsIn t (λ n. messageAt b n .sent) ms
 matched-reads t b [] = refl
-matched-reads t b (m ∷ ms) = ap (λ (k : ℤ). centsOf t (λ n. messageAt b n .sent) (m .messages) +ℤ k) (matched-reads t b ms)
+matched-reads t b (m ∷ ms) =
+    ap (λ (k : ℤ). centsOf t (λ n. messageAt b n .sent) (m .messages) +ℤ k) (matched-reads t b ms)

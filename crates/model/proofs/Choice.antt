@@ -31,25 +31,35 @@ pub alike-via : (r : Chord) (a b c : Sent) → alike r a b ≡ true → alike r 
 unfolding alike
 alike-via r a b c = go (not (r .equal))
   where
-    go : (u : Bool) → (u || eqb (b .property) (a .property)) ≡ true → (u || eqb (c .property) (a .property)) ≡ true → (u || eqb (c .property) (b .property)) ≡ true
+    go : (u : Bool) → (u || eqb (b .property) (a .property)) ≡ true → (u || eqb (c .property) (a .property)) ≡ true
+        → (u || eqb (c .property) (b .property)) ≡ true
     go true e f = refl
-    go false e f = eq-eqb (c .property) (b .property) (eqb-true (c .property) (a .property) f ∙ sym (eqb-true (b .property) (a .property) e))
+    go false e f =
+        eq-eqb (c .property) (b .property)
+        (eqb-true (c .property) (a .property) f ∙ sym (eqb-true (b .property) (a .property) e))
 
 -- an item open to the member k of the job
 abbrev pub opens : Table → Board → Job → ℕ → ℕ → Bool
-opens t b w k n = isFree (chordAt t (w .chord)) (channelAt t (w .chord) k) (messageAt b (w .subject) .sent) (w .chosen) n (messageAt b n)
+opens t b w k n =
+    isFree (chordAt t (w .chord)) (channelAt t (w .chord) k) (messageAt b (w .subject) .sent) (w .chosen) n
+    (messageAt b n)
 
-pub choice-none : (t : Table) (b : Board) (w : Job) (k : ℕ) → choice t b w k ≡ 0 → (n : ℕ) → n < length (b .messages) → opens t b w k n ≡ false
+pub choice-none : (t : Table) (b : Board) (w : Job) (k : ℕ) → choice t b w k ≡ 0 → (n : ℕ)
+    → n < length (b .messages) → opens t b w k n ≡ false
 unfolding choice
 choice-none t b w k e n l = go (eqb (subjectPlace t b (w .subject) (w .chord)) k) refl
   where
     go : (u : Bool) → eqb (subjectPlace t b (w .subject) (w .chord)) k ≡ u → opens t b w k n ≡ false
     go true q = let z : suc (w .subject) ≡ 0 = rw (q, choice) at e in absurd (omega arith)
-    go false q = rw zero-add at (lowest-none (isFree (chordAt t (w .chord)) (channelAt t (w .chord) k) (messageAt b (w .subject) .sent) (w .chosen)) 0 (b .messages) (rw (q, choice) at e) n l)
+    go false q =
+        rw zero-add at (lowest-none
+        (isFree (chordAt t (w .chord)) (channelAt t (w .chord) k) (messageAt b (w .subject) .sent) (w .chosen)) 0
+        (b .messages) (rw (q, choice) at e) n l)
 
 pub data Chosen (t : Table) (b : Board) (w : Job) (k n : ℕ) : Type 0 where
   the-subject : subjectPlace t b (w .subject) (w .chord) ≡ k → n ≡ w .subject → Chosen t b w k n
-  another : subjectPlace t b (w .subject) (w .chord) ≢ k → n < length (b .messages) → opens t b w k n ≡ true → Chosen t b w k n
+  another : subjectPlace t b (w .subject) (w .chord) ≢ k → n < length (b .messages) → opens t b w k n ≡ true
+      → Chosen t b w k n
 
 pub choice-some : (t : Table) (b : Board) (w : Job) (k n : ℕ) → choice t b w k ≡ suc n → Chosen t b w k n
 unfolding choice
@@ -57,18 +67,30 @@ choice-some t b w k n e = go (eqb (subjectPlace t b (w .subject) (w .chord)) k) 
   where
     go : (u : Bool) → eqb (subjectPlace t b (w .subject) (w .chord)) k ≡ u → Chosen t b w k n
     go true q = the-subject (eqb-true _ _ q) (let z : suc (w .subject) ≡ suc n = rw (q, choice) at e in omega arith)
-    go false q = let r = lowest-at (isFree (chordAt t (w .chord)) (channelAt t (w .chord) k) (messageAt b (w .subject) .sent) (w .chosen)) (b .messages) n (rw (q, choice) at e) in another (eqb-false _ _ q) (r .0) (r .1)
+    go false q =
+        let r = lowest-at
+        (isFree (chordAt t (w .chord)) (channelAt t (w .chord) k) (messageAt b (w .subject) .sent) (w .chosen))
+        (b .messages) n (rw (q, choice) at e) in
+        another (eqb-false _ _ q) (r .0) (r .1)
 
 -- lists longer by one
-pub snoc-all : (P : ℕ → ℕ → Type 0) (c : List ℕ) (n : ℕ) → ((j : ℕ) → j < length c → P j (getD c j 0)) → P (length c) n → (j : ℕ) → j < length (c ++ (n ∷ [])) → P j (getD (c ++ (n ∷ [])) j 0)
+pub snoc-all : (P : ℕ → ℕ → Type 0) (c : List ℕ) (n : ℕ) → ((j : ℕ) → j < length c → P j (getD c j 0))
+    → P (length c) n → (j : ℕ) → j < length (c ++ (n ∷ [])) → P j (getD (c ++ (n ∷ [])) j 0)
 snoc-all P c n f p j h = go (same? j (length c))
   where
     go : (j ≡ length c) ⊎ (j ≢ length c) → P j (getD (c ++ (n ∷ [])) j 0)
     go (inl e) = rw (e, getD-append-seam c n [] 0) p
-    go (inr e) = let l : j < length c = omega (arith, length-append c (n ∷ [])) in rw (List·getD-append c (n ∷ []) 0 j l) (f j l)
+    go (inr e) =
+        let l : j < length c = omega (arith, length-append c (n ∷ [])) in
+        rw (List·getD-append c (n ∷ []) 0 j l) (f j l)
 
-pub snoc-one : (c : List ℕ) (n : ℕ) → ((i j : ℕ) → i < length c → j < length c → getD c i 0 ≡ getD c j 0 → i ≡ j) → ((i : ℕ) → i < length c → getD c i 0 ≢ n) → (i j : ℕ) → i < length (c ++ (n ∷ [])) → j < length (c ++ (n ∷ [])) → getD (c ++ (n ∷ [])) i 0 ≡ getD (c ++ (n ∷ [])) j 0 → i ≡ j
-snoc-one c n one fresh i j hi hj = snoc-all (λ i x. x ≡ getD (c ++ (n ∷ [])) j 0 → i ≡ j) c n (λ i l. snoc-all (λ j y. getD c i 0 ≡ y → i ≡ j) c n (λ j m. one i j l m) (λ e. absurd (fresh i l e)) j hj) (snoc-all (λ j y. n ≡ y → length c ≡ j) c n (λ j m e. absurd (fresh j m (sym e))) (λ e. refl) j hj) i hi
+pub snoc-one : (c : List ℕ) (n : ℕ) → ((i j : ℕ) → i < length c → j < length c → getD c i 0 ≡ getD c j 0 → i ≡ j)
+    → ((i : ℕ) → i < length c → getD c i 0 ≢ n) → (i j : ℕ) → i < length (c ++ (n ∷ [])) → j < length (c ++ (n ∷ []))
+    → getD (c ++ (n ∷ [])) i 0 ≡ getD (c ++ (n ∷ [])) j 0 → i ≡ j
+snoc-one c n one fresh i j hi hj =
+    snoc-all (λ i x. x ≡ getD (c ++ (n ∷ [])) j 0 → i ≡ j) c n
+    (λ i l. snoc-all (λ j y. getD c i 0 ≡ y → i ≡ j) c n (λ j m. one i j l m) (λ e. absurd (fresh i l e)) j hj)
+    (snoc-all (λ j y. n ≡ y → length c ≡ j) c n (λ j m e. absurd (fresh j m (sym e))) (λ e. refl) j hj) i hi
 
 pub record Fresh (t : Table) (b : Board) (h r : ℕ) (c : List ℕ) (n : ℕ) : Type 0 where
   pub on-board : n < length (b .messages)
@@ -77,13 +99,50 @@ pub record Fresh (t : Table) (b : Board) (h r : ℕ) (c : List ℕ) (n : ℕ) : 
   pub new : (i : ℕ) → i < length c → getD c i 0 ≢ n
   pub at-subject : length c ≡ subjectPlace t b h r → n ≡ h
 
-pub chose-selection : (t : Table) (b : Board) (h r : ℕ) (c : List ℕ) (n : ℕ) → Selection t b h r c → Fresh t b h r c n → Selection t b h r (c ++ (n ∷ []))
-chose-selection t b h r c n q f = record { chord-in = q .chord-in; names = q .names; inside = snoc-all (λ j x. x < length (b .messages)) c n (q .inside) (f .on-board); kinds = snoc-all (λ j x. messageAt b x .sent .channel ≡ channelAt t r j) c n (q .kinds) (f .channel); props = snoc-all (λ j x. alike (chordAt t r) (messageAt b h .sent) (messageAt b x .sent) ≡ true) c n (q .props) (f .property); one = snoc-one c n (q .one) (f .new); subject-at = snoc-all (λ j x. j ≡ subjectPlace t b h r → x ≡ h) c n (q .subject-at) (f .at-subject) }
+pub chose-selection : (t : Table) (b : Board) (h r : ℕ) (c : List ℕ) (n : ℕ) → Selection t b h r c
+    → Fresh t b h r c n → Selection t b h r (c ++ (n ∷ []))
+chose-selection t b h r c n q f = record {
+  chord-in = q .chord-in;
+  names = q .names;
+  inside = snoc-all (λ j x. x < length (b .messages)) c n (q .inside) (f .on-board);
+  kinds = snoc-all (λ j x. messageAt b x .sent .channel ≡ channelAt t r j) c n (q .kinds) (f .channel);
+  props = snoc-all (λ j x. alike (chordAt t r) (messageAt b h .sent) (messageAt b x .sent) ≡ true) c n (q .props)
+      (f .property);
+  one = snoc-one c n (q .one) (f .new);
+  subject-at = snoc-all (λ j x. j ≡ subjectPlace t b h r → x ≡ h) c n (q .subject-at) (f .at-subject);
+}
 
-pub chosen-fresh : (t : Table) (b : Board) (w : Job) (k n : ℕ) → w .subject < length (b .messages) → Selection t b (w .subject) (w .chord) (w .chosen) → length (w .chosen) ≡ k → k < size t (w .chord) → Chosen t b w k n → Fresh t b (w .subject) (w .chord) (w .chosen) n
-chosen-fresh t b w k n hin q e l (the-subject p z) = let place : length (w .chosen) ≡ subjectPlace t b (w .subject) (w .chord) = e ∙ sym p in rw z (record { on-board = hin; channel = eqb-true _ _ (rw (← place) at (first-passes (eqb (messageAt b (w .subject) .sent .channel)) (chordAt t (w .chord) .channels) (omega arith))); property = alike-refl (chordAt t (w .chord)) (messageAt b (w .subject) .sent); new = λ i m a. eqb-false _ _ (first-before (eqb (messageAt b (w .subject) .sent .channel)) (chordAt t (w .chord) .channels) i (omega arith)) (rw a at (q .kinds i m)); at-subject = λ a. refl })
-chosen-fresh t b w k n hin q e l (another p m o) = let f = both {t = fits (chordAt t (w .chord)) (channelAt t (w .chord) k) (messageAt b (w .subject) .sent) (messageAt b n)} o in let g = both {t = isPending (messageAt b n .status)} (f .1) in let a = both {t = eqb (messageAt b n .sent .channel) (channelAt t (w .chord) k)} (f .0) in record { on-board = m; channel = rw e (eqb-true _ _ (a .0)); property = a .1; new = not-in n (w .chosen) (not-true _ (g .1)); at-subject = λ z. absurd (p (sym z ∙ e)) }
+pub chosen-fresh : (t : Table) (b : Board) (w : Job) (k n : ℕ) → w .subject < length (b .messages)
+    → Selection t b (w .subject) (w .chord) (w .chosen) → length (w .chosen) ≡ k → k < size t (w .chord)
+    → Chosen t b w k n → Fresh t b (w .subject) (w .chord) (w .chosen) n
+chosen-fresh t b w k n hin q e l (the-subject p z) =
+    let place : length (w .chosen) ≡ subjectPlace t b (w .subject) (w .chord) = e ∙ sym p in
+    rw z (record {
+      on-board = hin;
+      channel = eqb-true _ _ (rw (← place)
+          at (first-passes (eqb (messageAt b (w .subject) .sent .channel)) (chordAt t (w .chord) .channels)
+          (omega arith)));
+      property = alike-refl (chordAt t (w .chord)) (messageAt b (w .subject) .sent);
+      new = λ i m a. eqb-false _ _
+          (first-before (eqb (messageAt b (w .subject) .sent .channel)) (chordAt t (w .chord) .channels) i
+          (omega arith)) (rw a at (q .kinds i m));
+      at-subject = λ a. refl;
+    })
+chosen-fresh t b w k n hin q e l (another p m o) =
+    let f = both
+    {t = fits (chordAt t (w .chord)) (channelAt t (w .chord) k) (messageAt b (w .subject) .sent) (messageAt b n)} o in
+    let g = both {t = isPending (messageAt b n .status)} (f .1) in
+    let a = both {t = eqb (messageAt b n .sent .channel) (channelAt t (w .chord) k)} (f .0) in
+    record {
+      on-board = m;
+      channel = rw e (eqb-true _ _ (a .0));
+      property = a .1;
+      new = not-in n (w .chosen) (not-true _ (g .1));
+      at-subject = λ z. absurd (p (sym z ∙ e));
+    }
 
-pub none-claimed : (r : Chord) (channel : ℕ) (p : Sent) (is : List Message) → someClaimed r channel p is ≡ false → (j : ℕ) → j < length is → (fits r channel p (getD is j noMessage) && isClaimed (getD is j noMessage .status)) ≡ false
+pub none-claimed : (r : Chord) (channel : ℕ) (p : Sent) (is : List Message) → someClaimed r channel p is ≡ false
+    → (j : ℕ) → j < length is
+    → (fits r channel p (getD is j noMessage) && isClaimed (getD is j noMessage .status)) ≡ false
 unfolding someClaimed
 none-claimed r channel p is e j l = none-of (λ x. fits r channel p x && isClaimed (x .status)) is e j l

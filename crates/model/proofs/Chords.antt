@@ -13,44 +13,62 @@ use Rattle.model.specs.Steps.{skip}
 use Rattle.model.proofs.Tests.{same?, both}
 use Rattle.model.proofs.Lists.{first-passes}
 
-naming-not : (t : Table) (channel from n q : ℕ) → from ≤ q → q < namingUpTo t channel from n → isIn channel (chordAt t q .channels) ≡ false
+naming-not : (t : Table) (channel from n q : ℕ) → from ≤ q → q < namingUpTo t channel from n
+    → isIn channel (chordAt t q .channels) ≡ false
 naming-not t channel from zero q l h = absurd (omega arith)
-naming-not t channel from (suc n) q l h = go (isIn channel (chordAt t from .channels)) refl (same? from q) h (naming-not t channel (suc from) n q)
+naming-not t channel from (suc n) q l h =
+    go (isIn channel (chordAt t from .channels)) refl (same? from q) h (naming-not t channel (suc from) n q)
   where
-    go : (u : Bool) → isIn channel (chordAt t from .channels) ≡ u → (from ≡ q) ⊎ (from ≢ q) → q < namingUpTo t channel from (suc n) → (suc from ≤ q → q < namingUpTo t channel (suc from) n → isIn channel (chordAt t q .channels) ≡ false) → isIn channel (chordAt t q .channels) ≡ false
+    go : (u : Bool) → isIn channel (chordAt t from .channels) ≡ u → (from ≡ q) ⊎ (from ≢ q)
+        → q < namingUpTo t channel from (suc n)
+        → (suc from ≤ q → q < namingUpTo t channel (suc from) n → isIn channel (chordAt t q .channels) ≡ false)
+        → isIn channel (chordAt t q .channels) ≡ false
     go true e d h ih = let z : q < from = rw (e, namingUpTo) at h in absurd (omega arith)
     go false e (inl d) h ih = rw (← d) e
     go false e (inr d) h ih = ih (omega arith) (rw (e, namingUpTo) at h)
 
-naming-yes : (t : Table) (channel from n : ℕ) → namingUpTo t channel from n < from + n → isIn channel (chordAt t (namingUpTo t channel from n) .channels) ≡ true
+naming-yes : (t : Table) (channel from n : ℕ) → namingUpTo t channel from n < from + n
+    → isIn channel (chordAt t (namingUpTo t channel from n) .channels) ≡ true
 naming-yes t channel from zero h = absurd (omega arith)
-naming-yes t channel from (suc n) h = go (isIn channel (chordAt t from .channels)) refl h (naming-yes t channel (suc from) n)
+naming-yes t channel from (suc n) h =
+    go (isIn channel (chordAt t from .channels)) refl h (naming-yes t channel (suc from) n)
   where
-    go : (u : Bool) → isIn channel (chordAt t from .channels) ≡ u → namingUpTo t channel from (suc n) < from + suc n → (namingUpTo t channel (suc from) n < suc from + n → isIn channel (chordAt t (namingUpTo t channel (suc from) n) .channels) ≡ true) → isIn channel (chordAt t (namingUpTo t channel from (suc n)) .channels) ≡ true
+    go : (u : Bool) → isIn channel (chordAt t from .channels) ≡ u → namingUpTo t channel from (suc n) < from + suc n
+        → (namingUpTo t channel (suc from) n < suc from + n → isIn channel
+        (chordAt t (namingUpTo t channel (suc from) n) .channels) ≡ true)
+        → isIn channel (chordAt t (namingUpTo t channel from (suc n)) .channels) ≡ true
     go true e h ih = rw (e, namingUpTo) e
-    go false e h ih = rw (e, namingUpTo) (ih (let z : namingUpTo t channel (suc from) n < from + suc n = rw (e, namingUpTo) at h in omega arith))
+    go false e h ih =
+        rw (e, namingUpTo)
+        (ih (let z : namingUpTo t channel (suc from) n < from + suc n = rw (e, namingUpTo) at h in omega arith))
 
 naming-le : (t : Table) (channel from n : ℕ) → from ≤ namingUpTo t channel from n
 naming-le t channel from zero = omega arith
 naming-le t channel from (suc n) = go (isIn channel (chordAt t from .channels)) refl (naming-le t channel (suc from) n)
   where
-    go : (u : Bool) → isIn channel (chordAt t from .channels) ≡ u → suc from ≤ namingUpTo t channel (suc from) n → from ≤ namingUpTo t channel from (suc n)
+    go : (u : Bool) → isIn channel (chordAt t from .channels) ≡ u → suc from ≤ namingUpTo t channel (suc from) n
+        → from ≤ namingUpTo t channel from (suc n)
     go true e ih = rw (e, namingUpTo) (omega arith)
     go false e ih = rw (e, namingUpTo) (omega arith)
 
-pub names-not : (t : Table) (channel from q : ℕ) → from ≤ q → q < naming t channel from → isIn channel (chordAt t q .channels) ≡ false
+pub names-not : (t : Table) (channel from q : ℕ) → from ≤ q → q < naming t channel from
+    → isIn channel (chordAt t q .channels) ≡ false
 unfolding naming
 names-not t channel from q l h = naming-not t channel from (length (t .chords) - from) q l h
 
-pub names-yes : (t : Table) (channel from : ℕ) → naming t channel from < length (t .chords) → isIn channel (chordAt t (naming t channel from) .channels) ≡ true
+pub names-yes : (t : Table) (channel from : ℕ) → naming t channel from < length (t .chords)
+    → isIn channel (chordAt t (naming t channel from) .channels) ≡ true
 unfolding naming
-names-yes t channel from h = naming-yes t channel from (length (t .chords) - from) (omega (arith, naming-le t channel from (length (t .chords) - from)))
+names-yes t channel from h =
+    naming-yes t channel from (length (t .chords) - from)
+    (omega (arith, naming-le t channel from (length (t .chords) - from)))
 
 pub first-waits : (t : Table) (r : ℕ) → firstSync t r < size t r → isSync t (channelAt t r (firstSync t r)) ≡ true
 unfolding firstSync
 first-waits t r l = first-passes (isSync t) (chordAt t r .channels) l
 
-pub wakes-first : (t : Table) (r channel : ℕ) → wakes t r channel ≡ true → (firstSync t r < size t r) × (isSync t channel ≡ false)
+pub wakes-first : (t : Table) (r channel : ℕ) → wakes t r channel ≡ true
+    → (firstSync t r < size t r) × (isSync t channel ≡ false)
 unfolding wakes
 wakes-first t r channel e = let p = both {t = not (isSync t channel)} e in (ltb-true _ _ (p .1), not-true _ (p .0))
 

@@ -42,15 +42,18 @@ module _ {t : Table} {b : Board} {i : ℕ} {w : Job} {k : ℕ} (c : AtWork t b i
       go zero c = job-goes-on c _ tt _ refl refl refl refl (pass-at c _ _ _)
           (empty-hands t _ w _ (claim 0) (c .phase) (λ j x. omega arith) refl (λ m x. pass-empty t _ _ _ _ _ m x))
           (subject-of t (w .subject) _ _ _ _) (λ q ns y a x. inl (covers-retrying t (w .subject) _ _ _ q true refl))
-      go (suc k) c = job-goes-on c _ tt _ refl refl refl refl (job-at c _ _ _ _ (full, omega arith, c .job .placed .1, refl))
-          (keep-places t w _ (claim (suc k)) (revert 0 (suc k)) (c .phase) refl refl refl none refl (λ j x. x .1) (λ j x. (omega arith, x)))
+      go (suc k) c =
+          job-goes-on c _ tt _ refl refl refl refl (job-at c _ _ _ _ (full, omega arith, c .job .placed .1, refl))
+          (keep-places t w _ (claim (suc k)) (revert 0 (suc k)) (c .phase) refl refl refl none refl
+          (λ j x. x .1) (λ j x. (omega arith, x)))
           refl (λ q ns y a x. inl (inl refl))
 
   module _ (pend : isPending (messageAt b (getD (w .chosen) k 0) .status) ≡ true) where
     takes : Turns b (getD (w .chosen) k 0) claims
     takes = record { on-board = full .selection .inside k in-chosen; from = is-pending _ pend }
 
-    claims-next : eqb (suc k) (size t (w .chord)) ≡ false → Owes t b i (claimsTo (senderAt b i) w (getD (w .chosen) k 0) (claim (suc k)))
+    claims-next : eqb (suc k) (size t (w .chord)) ≡ false
+        → Owes t b i (claimsTo (senderAt b i) w (getD (w .chosen) k 0) (claim (suc k)))
     claims-next e =
         job-goes-on c _ takes _ refl refl refl refl (job-at c _ _ _ _ (full, omega (tests, c .job .placed .1)))
         (take-place t w _ (claim k) (claim (suc k)) (c .phase) refl refl refl _ k (λ n x. x) (λ n x. x) refl (omega arith)
@@ -66,7 +69,8 @@ module _ {t : Table} {b : Board} {i : ℕ} {w : Job} {k : ℕ} (c : AtWork t b i
         refl (λ q ns y a z. inl tt)
 
     -- a match
-    module _ (e : eqb (suc k) (size t (w .chord)) ≡ true) (no-wake : wakes t (w .chord) (channelOf b (w .subject)) ≡ false)
+    module _ (e : eqb (suc k) (size t (w .chord)) ≡ true)
+        (no-wake : wakes t (w .chord) (channelOf b (w .subject)) ≡ false)
         (room : leb 1024 (length (b .matches)) ≡ false) where
       abbrev s : Effect
       s = fires b (senderAt b i) w (getD (w .chosen) k 0)
@@ -103,7 +107,8 @@ module _ {t : Table} {b : Board} {i : ℕ} {w : Job} {k : ℕ} (c : AtWork t b i
           up = job-on t b (apply b i s) g (senderAt b i .own) (senderAt b i .waker) w (claim k) (c .job)
 
       begins : (n : ℕ) → isIn n (w .chosen) ≡ true
-          → WillConsumeIn (inPhase w (consume 0 (suc (length (b .matches))))) n × Unmatched b n × (n < length (b .messages))
+          → WillConsumeIn (inPhase w (consume 0 (suc (length (b .matches))))) n × Unmatched b n
+          × (n < length (b .messages))
       begins n y =
           let r = isIn-nth n (w .chosen) y in (
             record {
@@ -115,7 +120,8 @@ module _ {t : Table} {b : Board} {i : ℕ} {w : Job} {k : ℕ} (c : AtWork t b i
               high = r .1;
               is = r .2;
             },
-            fresh-match t b i w k (c .state) (c .phase) (omega (tests, full .all)) (is-pending _ pend) (c .inv .holding) (c .inv .matches) n y,
+            fresh-match t b i w k (c .state) (c .phase) (omega (tests, full .all)) (is-pending _ pend)
+                (c .inv .holding) (c .inv .matches) n y,
             rw (r .2) at (full .selection .inside (r .0) (r .1)),
           )
 
@@ -124,7 +130,9 @@ module _ {t : Table} {b : Board} {i : ℕ} {w : Job} {k : ℕ} (c : AtWork t b i
           → (suc (w .subject) ≡ senderAt b i .own) ⊎ (suc (w .subject) ≡ senderAt b i .waker) → n ≢ w .subject
       not-subject n wt ne (inl z) q = ne (ap suc q ∙ z)
       not-subject n wt ne (inr z) q =
-          never (sym (c .inv .locals i .waker-is (w .subject) (sym z) .1) ∙ ap (λ (x : ℕ). isSync t (channelOf b x)) (sym q) ∙ wt)
+          never (sym (c .inv .locals i .waker-is (w .subject) (sym z) .1)
+          ∙ ap (λ (x : ℕ). isSync t (channelOf b x)) (sym q)
+          ∙ wt)
 
       messages-of : {x : ℕ} {r : Match} → s .change ≡ records x r → w .chosen ≡ r .messages
       messages-of {x} {r} z = ap (λ (y : Change). matchOf r y .messages) z
@@ -136,17 +144,24 @@ module _ {t : Table} {b : Board} {i : ℕ} {w : Job} {k : ℕ} (c : AtWork t b i
             (omega arith, in-chosen) (λ j x ne. omega (tests, x .1, full .all)) (λ j x. (omega arith, omega (arith, in-chosen))));
         notes = tt;
         matches = record {
-          goes-on = λ n x. never (sym (ap still (sym (c .phase) ∙ (subst (λ (z : State). WillConsume z n) (c .state) x) .ph)));
+          goes-on =
+              λ n x.
+              never (sym (ap still (sym (c .phase) ∙ (subst (λ (z : State). WillConsume z n) (c .state) x) .ph)));
           begins = λ x r z n y. begins n (rw (← (messages-of z)) at y);
         };
         owners = λ n. plain t b i w (c .state) _ _ (claim k) (c .phase) refl refl refl refl refl;
         obligation = λ q ns x. go-on x w (c .state) refl _ refl refl refl refl (λ a z.
             absurd (never (sym (unmatched-of x (w .subject) a (length (b .matches)) (omega (arith, records-count b i s _ m refl)))
-            ∙ ap (λ (r : Match). isIn (w .subject) (r .messages)) (records-last b i s _ m refl (length (b .matches)) refl)
+            ∙ ap (λ (r : Match). isIn (w .subject) (r .messages))
+            (records-last b i s _ m refl (length (b .matches)) refl)
             ∙ full-subject t b (w .subject) (w .chord) (w .chosen) full)));
         recorded = record {
           number = λ x r z. refl;
-          subject = λ x r z. (w .subject, subst (λ (y : Match). Full t b (w .subject) (y .chord) (y .messages)) (ap (matchOf r) z) full);
+          subject =
+              λ x r z. (
+                w .subject,
+                subst (λ (y : Match). Full t b (w .subject) (y .chord) (y .messages)) (ap (matchOf r) z) full,
+              );
           room = λ x r z. leb-false _ _ room;
         };
         answering = record {

@@ -70,14 +70,16 @@ module _ {t : Table} {b : Board} {i : ℕ} {w : Job} {k m : ℕ} (c : AtWork t b
     done-now j h = go (same? j k)
       where
         go : (j ≡ k) ⊎ (j ≢ k)
-            → (messageAt b′ (getD (w .chosen) j 0) .status ≡ consumed) × (messageAt b′ (getD (w .chosen) j 0) .match ≡ m)
+            → (messageAt b′ (getD (w .chosen) j 0) .status ≡ consumed)
+            × (messageAt b′ (getD (w .chosen) j 0) .match ≡ m)
         go (inl e) = rw e now-is
         go (inr e) = up .placed .done j (omega arith)
 
     noted : NotesKept t b′ (turn n (consumes m))
     noted = go m refl (p .some)
       where
-        go : (y : ℕ) → m ≡ y → 1 ≤ m → (y : ℕ) × (m ≡ suc y) × (y < length (b′ .matches)) × (isIn n (matchAt b′ y .messages) ≡ true)
+        go : (y : ℕ) → m ≡ y → 1 ≤ m
+            → (y : ℕ) × (m ≡ suc y) × (y < length (b′ .matches)) × (isIn n (matchAt b′ y .messages) ≡ true)
         go zero e l = absurd (omega arith)
         go (suc y) e l = (
           y,
@@ -132,8 +134,12 @@ module _ {t : Table} {b : Board} {i : ℕ} {w : Job} {k m : ℕ} (c : AtWork t b
                   omega (arith, up .placed .match-in, z),
                   rw (o, up .placed .match y z) (nth-isIn (w .chosen) k in-chosen),
                 );
-                state-is = subst⁻¹ (λ (y : State). StateOk t b′ (senderAt b i .own) (senderAt b i .waker) m y) (c .state)
-                    (c .own-some, subst⁻¹ (λ (y : Phase). JobAt t b′ (senderAt b i .own) (senderAt b i .waker) w y) (c .phase) up);
+                state-is =
+                    subst⁻¹ (λ (y : State). StateOk t b′ (senderAt b i .own) (senderAt b i .waker) m y) (c .state) (
+                      c .own-some,
+                      subst⁻¹ (λ (y : Phase). JobAt t b′ (senderAt b i .own) (senderAt b i .waker) w y)
+                          (c .phase) up,
+                    );
               }
 
       -- the job goes on in another phase
@@ -152,7 +158,8 @@ module _ {t : Table} {b : Board} {i : ℕ} {w : Job} {k m : ℕ} (c : AtWork t b
       }
 
       -- what this sender has yet to consume: it is consumed now, or still to be
-      goes-on : (r : Sender) → ((j : ℕ) → suc k ≤ j → j < length (w .chosen) → WillConsume (r .state) (getD (w .chosen) j 0))
+      goes-on : (r : Sender)
+          → ((j : ℕ) → suc k ≤ j → j < length (w .chosen) → WillConsume (r .state) (getD (w .chosen) j 0))
           → (y : ℕ) → WillConsume (senderAt b i .state) y → (n ≡ y) ⊎ WillConsume (r .state) y
       goes-on r f y z = at (same? (a .place) k)
         where
@@ -165,10 +172,13 @@ module _ {t : Table} {b : Board} {i : ℕ} {w : Job} {k m : ℕ} (c : AtWork t b
               (f (a .place) (omega (arith, a .low, ap consumeAt (sym (c .phase) ∙ a .ph), e)) (a .high)))
 
       tells : (y : ℕ) → WillTell t b (senderAt b i .state) y → (isIn y (w .chosen) ≡ true) × (y ≢ w .subject)
-      tells y z = subst (λ (q : Phase). WillTellAt t b w y q) (c .phase) (subst (λ (q : State). WillTell t b q y) (c .state) z)
+      tells y z =
+          subst (λ (q : Phase). WillTellAt t b w y q) (c .phase)
+          (subst (λ (q : State). WillTell t b q y) (c .state) z)
 
       -- those that it will tell are in the list to tell
-      in-list : (y : ℕ) → y < length (b .messages) → isSync t (channelOf b y) ≡ true → WillTell t b (senderAt b i .state) y
+      in-list : (y : ℕ) → y < length (b .messages) → isSync t (channelOf b y) ≡ true
+          → WillTell t b (senderAt b i .state) y
           → isIn y (toTell t (b′ .messages) (w .subject) (w .chosen)) ≡ true
       in-list y l wt z =
           let r = tells y z in
@@ -178,7 +188,8 @@ module _ {t : Table} {b : Board} {i : ℕ} {w : Job} {k m : ℕ} (c : AtWork t b
         matches-kept : MatchesKept b i s
         matches-kept = record { goes-on = λ y z. at y (goes-on x f y z); begins = λ y r z. never (ap isRecord z) }
           where
-            at : (y : ℕ) → (n ≡ y) ⊎ WillConsume (x .state) y → (messageAt b′ y .status ≡ consumed) ⊎ WillConsume (x .state) y
+            at : (y : ℕ) → (n ≡ y) ⊎ WillConsume (x .state) y
+                → (messageAt b′ y .status ≡ consumed) ⊎ WillConsume (x .state) y
             at y (inl e) = inl (subst (λ (q : ℕ). messageAt b′ q .status ≡ consumed) e (now-is .0))
             at y (inr e) = inr e
 
@@ -256,7 +267,10 @@ module _ {t : Table} {b : Board} {i : ℕ} {w : Job} {k m : ℕ} (c : AtWork t b
             at = rw l (omega arith);
             done = λ j h. done-now j (omega (tests, up .placed .full .all)) .0;
           });
-          holding = from-work c _ _ (subst⁻¹ (λ (r : Sender). HoldingKept t (turn n (consumes m)) (working w) (r .state)) e (dropped _ (λ q r. r .held)));
+          holding =
+              from-work c _ _
+              (subst⁻¹ (λ (r : Sender). HoldingKept t (turn n (consumes m)) (working w) (r .state)) e
+              (dropped _ (λ q r. r .held)));
           notes = noted;
           matches = matches-kept none-later;
           owners = λ q. plain t b i w (c .state) s _ (consume k m) (c .phase) refl (ap (λ (r : Sender). r .state) e)
@@ -279,7 +293,8 @@ module _ {t : Table} {b : Board} {i : ℕ} {w : Job} {k m : ℕ} (c : AtWork t b
         }
 
         -- nobody is to be told
-        ends : toTell t (b′ .messages) (w .subject) (w .chosen) ≡ [] → x ≡ job-end t (b′ .messages) d (w .subject) → Owes t b i s
+        ends : toTell t (b′ .messages) (w .subject) (w .chosen) ≡ [] → x ≡ job-end t (b′ .messages) d (w .subject)
+            → Owes t b i s
         ends l e =
             let r = ends-more t (b′ .messages) d (w .subject) in
             record {
@@ -288,7 +303,8 @@ module _ {t : Table} {b : Board} {i : ℕ} {w : Job} {k m : ℕ} (c : AtWork t b
                   (dropped _ (λ y q. ends-empty t (b′ .messages) d (w .subject) y q)));
               notes = noted;
               matches = matches-kept none-later;
-              owners = λ q. plain-end t b i w (c .state) s d (consume k m) (c .phase) refl e (same-own u) (same-signal u)
+              owners =
+                  λ q. plain-end t b i w (c .state) s d (consume k m) (c .phase) refl e (same-own u) (same-signal u)
                   (ended .in-order) q refl;
               obligation = λ q ns v. end-it v w (c .state) refl d e (same-own u) (same-waker u)
                   (λ a y. absurd (covered w q (consume k m) (c .phase) y));
@@ -312,20 +328,37 @@ module _ {t : Table} {b : Board} {i : ℕ} {w : Job} {k m : ℕ} (c : AtWork t b
               in-order = subst⁻¹ (SenderOk t b′) e (ends-ok t b′ d (w .subject) d-ok (rw (same-own u) (c .own-some)));
             }
 
-  consumed-to : (x d : Sender) (u last : Bool) → eqb (suc n) (senderAt b i .own) ≡ u → d ≡ withMatched u (senderAt b i) m
+  consumed-to : (x d : Sender) (u last : Bool) → eqb (suc n) (senderAt b i .own) ≡ u
+      → d ≡ withMatched u (senderAt b i) m
       → eqb (suc k) (length (w .chosen)) ≡ last
-      → x ≡ consumedTo t (apply b i (record { said = Consumed n; change = turn n (consumes m); sender = x }) .messages) d w k m last
+      → x ≡ consumedTo t
+      (apply b i (record { said = Consumed n; change = turn n (consumes m); sender = x }) .messages) d w k m
+      last
       → Owes t b i (record { said = Consumed n; change = turn n (consumes m); sender = x })
-  consumed-to x d u false ue dd e ed = next x u ue (ed ∙ ap (λ (y : Sender). inJob y (inPhase w (consume (suc k) m))) dd) e
+  consumed-to x d u false ue dd e ed =
+      next x u ue (ed ∙ ap (λ (y : Sender). inJob y (inPhase w (consume (suc k) m))) dd) e
   consumed-to x d u true ue dd e ed = go (toTell t _ (w .subject) (w .chosen)) refl
     where
-      go : (ys : List ℕ) → toTell t (apply b i (record { said = Consumed n; change = turn n (consumes m); sender = x }) .messages) (w .subject) (w .chosen) ≡ ys
+      go : (ys : List ℕ)
+          → toTell t (apply b i (record { said = Consumed n; change = turn n (consumes m); sender = x }) .messages)
+          (w .subject) (w .chosen) ≡ ys
           → Owes t b i (record { said = Consumed n; change = turn n (consumes m); sender = x })
       go [] l = ends x u ue e l
-          (ed ∙ ap (consumedEnd t (apply b i (record { said = Consumed n; change = turn n (consumes m); sender = x }) .messages) d w) l ∙ ap (λ (y : Sender). job-end t (apply b i (record { said = Consumed n; change = turn n (consumes m); sender = x }) .messages) y (w .subject)) dd)
+          (ed
+          ∙ ap (consumedEnd t
+          (apply b i (record { said = Consumed n; change = turn n (consumes m); sender = x }) .messages) d w)
+          l
+          ∙ ap (λ (y : Sender). job-end t
+          (apply b i (record { said = Consumed n; change = turn n (consumes m); sender = x }) .messages) y
+          (w .subject)) dd)
       go (y ∷ ys) l = tells-next x u ue e y ys l
-          (ed ∙ ap (consumedEnd t (apply b i (record { said = Consumed n; change = turn n (consumes m); sender = x }) .messages) d w) l ∙ ap (λ (r : Sender). inJob r (inPhase w (tell 0))) dd)
+          (ed
+          ∙ ap (consumedEnd t
+          (apply b i (record { said = Consumed n; change = turn n (consumes m); sender = x }) .messages) d w)
+          l
+          ∙ ap (λ (r : Sender). inJob r (inPhase w (tell 0))) dd)
 
   pub consume-owes : Owes t b i (consume-step t b (senderAt b i) w k m)
   unfolding consume-step apply
-  consume-owes = consumed-to _ _ (eqb (suc n) (senderAt b i .own)) (eqb (suc k) (length (w .chosen))) refl refl refl refl
+  consume-owes =
+      consumed-to _ _ (eqb (suc n) (senderAt b i .own)) (eqb (suc k) (length (w .chosen))) refl refl refl refl

@@ -82,7 +82,8 @@ module _ (t : Table) (rests : List ℕ) (cs : List Call) (tok : TableOk t) where
   only-held : (n k : ℕ) → k < length (b .matches) → isIn n (matchAt b k .messages) ≡ true → timesHeld n reads ≡ 1
   only-held n k l e =
       held-once n reads k (omega (arith, length-map (b .matches) (readMatch t b)))
-      (rw (read-is k) e) (λ j q ne. rw (read-is j) (not-held j (omega (arith, length-map (b .matches) (readMatch t b))) ne))
+      (rw (read-is k) e)
+      (λ j q ne. rw (read-is j) (not-held j (omega (arith, length-map (b .matches) (readMatch t b))) ne))
     where
       not-held : (j : ℕ) → j < length (b .matches) → j ≢ k → isIn n (matchAt b j .messages) ≡ false
       not-held j q ne = go (isIn n (matchAt b j .messages)) refl
@@ -128,7 +129,9 @@ module _ (t : Table) (rests : List ℕ) (cs : List Call) (tok : TableOk t) where
       let a = answered-said t (boardAfter t rests before) i k q in
       let w = reached t rests cs before (steps i ∷ rest) tok e .inv in
       let s = subst (StateOk t (boardAfter t rests before) _ _ _) (a .is-blocked) (w .locals i .state-is) in
-      let m = w .notes .match (senderAt (boardAfter t rests before) i .own - 1) (omega (arith, s .0, w .locals i .own-in)) (a .is-consumed) in
+      let m =
+      w .notes .match (senderAt (boardAfter t rests before) i .own - 1)
+      (omega (arith, s .0, w .locals i .own-in)) (a .is-consumed) in
       let same : m .0 ≡ k = omega (arith, m .1, a .match-is) in
       holds-own before (steps i ∷ rest) e i k (s .0) (s .1) (omega (arith, m .2, same))
       (subst (λ (x : ℕ). isIn (senderAt (boardAfter t rests before) i .own - 1) (matchAt (boardAfter t rests before) x .messages) ≡ true)
@@ -148,11 +151,13 @@ module _ (t : Table) (rests : List ℕ) (cs : List Call) (tok : TableOk t) where
   }
 
   module _ (q : quiet b ≡ true) where
-    not-inside : (n : ℕ) → n < length (b .messages) → messageAt b n .status ≡ consumed → (u : Bool) → isIn n (p .inside) ≡ u → false ≡ u
+    not-inside : (n : ℕ) → n < length (b .messages) → messageAt b n .status ≡ consumed → (u : Bool)
+        → isIn n (p .inside) ≡ u → false ≡ u
     not-inside n l e false z = refl
     not-inside n l e true z = absurd (consumed-matched t b v q n l e (ok .inside-is n z .1))
 
-    pending-is : (n : ℕ) → n < length (b .messages) → (messageAt b n .status ≡ pending) ⊎ (messageAt b n .status ≡ consumed)
+    pending-is : (n : ℕ) → n < length (b .messages)
+        → (messageAt b n .status ≡ pending) ⊎ (messageAt b n .status ≡ consumed)
         → isPending (messageAt b n .status) ≡ isIn n (p .inside)
     pending-is n l (inl e) = ap isPending e ∙ sym (ok .is-inside n l (pending-unmatched t b v q n e))
     pending-is n l (inr e) = ap isPending e ∙ not-inside n l e (isIn n (p .inside)) refl
@@ -160,7 +165,9 @@ module _ (t : Table) (rests : List ℕ) (cs : List Call) (tok : TableOk t) where
     none-met : (r : ℕ) (ns : List ℕ) → r < length (t .chords) → every (λ n. isIn n (p .inside)) ns ≡ true
         → (u : Bool) → meets (chordAt t r) (sentAt (p .sent)) ns ≡ u → u ≡ false
     none-met r ns l a false e = refl
-    none-met r ns l a true e = absurd (none-obliged t b v q r ns (meets-full t b b p ok r ns l (λ j h. in-it j h .0) e) (λ j h. in-it j h .1))
+    none-met r ns l a true e =
+        absurd
+        (none-obliged t b v q r ns (meets-full t b b p ok r ns l (λ j h. in-it j h .0) e) (λ j h. in-it j h .1))
       where
         in-it : (j : ℕ) → j < length ns → (getD ns j 0 < length (b .messages)) × Unmatched b (getD ns j 0)
         in-it j h = ok .inside-is _ (every-nth (λ n. isIn n (p .inside)) ns 0 a j h)
@@ -180,14 +187,19 @@ module _ (t : Table) (rests : List ℕ) (cs : List Call) (tok : TableOk t) where
     waits-if i n o l w (inl e) (suc k) z =
         let r = v .locals i .reply-is k z in
         let same : senderAt b i .own - 1 ≡ n = omega (arith, o) in
-        never (sym (pending-unmatched t b v q n e k (r .2)) ∙ ap (λ (x : ℕ). isIn x (matchAt b k .messages)) (sym same) ∙ r .3)
+        never (sym (pending-unmatched t b v q n e k (r .2))
+        ∙ ap (λ (x : ℕ). isIn x (matchAt b k .messages)) (sym same)
+        ∙ r .3)
     waits-if i n o l w (inr e) zero z =
         let r = v .notes .match n l e in
         let same : n ≡ senderAt b i .own - 1 = omega (arith, o) in
-        let due = v .answering i (r .0) (omega (arith, o)) (subst (λ (x : ℕ). isSync t (channelOf b x) ≡ true) same w) (r .2)
+        let due =
+        v .answering i (r .0) (omega (arith, o)) (subst (λ (x : ℕ). isSync t (channelOf b x) ≡ true) same w)
+        (r .2)
         (subst (λ (x : ℕ). isIn x (matchAt b (r .0) .messages) ≡ true) same (r .3)) in
         absurd (omega (arith, z, has-answer i due))
-    waits-if i n o l w (inr e) (suc k) z = ne-eqb (suc k) 0 (λ y. omega arith) ∙ not-inside n l e (isIn n (p .inside)) refl
+    waits-if i n o l w (inr e) (suc k) z =
+        ne-eqb (suc k) 0 (λ y. omega arith) ∙ not-inside n l e (isIn n (p .inside)) refl
 
     pub quiet-at : Quiet-at t rests cs
     quiet-at = record {
@@ -198,7 +210,8 @@ module _ (t : Table) (rests : List ℕ) (cs : List Call) (tok : TableOk t) where
           (subst⁻¹ (λ (x : Sent). isSync t (x .channel) ≡ true) (as-sent t b b p ok n) w) (pending-or t b v q n) _ refl;
       cents = ok .total
           ∙ ap (λ (z : ℤ). z +ℤ centsOf t (sentOf b) (p .inside)) (sym (matched-reads t b (b .matches)))
-          ∙ ap (λ (z : ℤ). centsMatched reads +ℤ z) (cents-same t (sentOf b) (sentAt (p .sent)) (p .inside) (λ j l. as-sent t b b p ok _));
+          ∙ ap (λ (z : ℤ). centsMatched reads +ℤ z)
+          (cents-same t (sentOf b) (sentAt (p .sent)) (p .inside) (λ j l. as-sent t b b p ok _));
     }
 
 pub demand-3 : Demand-3

@@ -24,15 +24,19 @@ messageAfter (turn n τ) m x = pick (eqb m n) (turned τ x) x
 messageAfter (records n r) m x = pick (eqb m n) (turned claims x) x
 messageAfter (signals n) m x = x
 
-set-at : (is : List Message) (n m : ℕ) (x : Message) → m < length is → (m ≡ n) ⊎ (m ≢ n) → getD (set is n x) m noMessage ≡ pick (eqb m n) x (getD is m noMessage)
+set-at : (is : List Message) (n m : ℕ) (x : Message) → m < length is → (m ≡ n) ⊎ (m ≢ n)
+    → getD (set is n x) m noMessage ≡ pick (eqb m n) x (getD is m noMessage)
 set-at is n m x h (inl e) = rw (eq-eqb m n e) (rw (← e) (getD-set-same is m x noMessage h))
 set-at is n m x h (inr e) = rw (ne-eqb m n e) (getD-set-other is n m x noMessage e)
 
-at-turn : (is : List Message) (n m : ℕ) (τ : Turn) → m < length is → (m ≡ n) ⊎ (m ≢ n) → getD (set is n (turned τ (getD is n noMessage))) m noMessage ≡ pick (eqb m n) (turned τ (getD is m noMessage)) (getD is m noMessage)
+at-turn : (is : List Message) (n m : ℕ) (τ : Turn) → m < length is → (m ≡ n) ⊎ (m ≢ n)
+    → getD (set is n (turned τ (getD is n noMessage))) m noMessage ≡ pick (eqb m n) (turned τ (getD is m noMessage))
+    (getD is m noMessage)
 at-turn is n m τ h (inl e) = rw (eq-eqb m n e) (rw (← e) (getD-set-same is m _ noMessage h))
 at-turn is n m τ h (inr e) = rw (ne-eqb m n e) (getD-set-other is n m _ noMessage e)
 
-pub messages-at : (b : Board) (i : ℕ) (s : Effect) (m : ℕ) → m < length (b .messages) → messageAt (apply b i s) m ≡ messageAfter (s .change) m (messageAt b m)
+pub messages-at : (b : Board) (i : ℕ) (s : Effect) (m : ℕ) → m < length (b .messages)
+    → messageAt (apply b i s) m ≡ messageAfter (s .change) m (messageAt b m)
 unfolding apply messagesAfter
 messages-at b i s m h = go (s .change)
   where
@@ -53,12 +57,14 @@ messages-count b i s = go (s .change)
     go (signals n) = refl
 
 -- what was sent stays
-map-set : {A B : Type 0} (f : A → B) (xs : List A) (n : ℕ) (y d : A) → f y ≡ f (getD xs n d) → map f (set xs n y) ≡ map f xs
+map-set : {A B : Type 0} (f : A → B) (xs : List A) (n : ℕ) (y d : A) → f y ≡ f (getD xs n d)
+    → map f (set xs n y) ≡ map f xs
 map-set f [] n y d e = refl
 map-set f (x ∷ xs) zero y d e = ap (λ z. z ∷ map f xs) e
 map-set f (x ∷ xs) (suc n) y d e = ap (λ zs. f x ∷ zs) (map-set f xs n y d e)
 
-pub sents-after : (b : Board) (i : ℕ) (s : Effect) → map (λ x. x .sent) (apply b i s .messages) ≡ map (λ x. x .sent) (b .messages)
+pub sents-after : (b : Board) (i : ℕ) (s : Effect)
+    → map (λ x. x .sent) (apply b i s .messages) ≡ map (λ x. x .sent) (b .messages)
 unfolding apply messagesAfter
 sents-after b i s = go (s .change)
   where
@@ -75,15 +81,19 @@ senderAfter (turn n τ) d = d
 senderAfter (records n r) d = d
 senderAfter (signals n) d = signalledSender n d
 
-pub senders-at : (b : Board) (i : ℕ) (s : Effect) (j : ℕ) → i < length (b .senders) → senderAt (apply b i s) j ≡ senderAfter (s .change) (pick (eqb j i) (s .sender) (senderAt b j))
+pub senders-at : (b : Board) (i : ℕ) (s : Effect) (j : ℕ) → i < length (b .senders)
+    → senderAt (apply b i s) j ≡ senderAfter (s .change) (pick (eqb j i) (s .sender) (senderAt b j))
 unfolding apply sendersAfter
 senders-at b i s j h = go (s .change) ∙ ap (senderAfter (s .change)) (put (same? j i))
   where
-    put : (j ≡ i) ⊎ (j ≢ i) → getD (set (b .senders) i (s .sender)) j idleSender ≡ pick (eqb j i) (s .sender) (senderAt b j)
+    put : (j ≡ i) ⊎ (j ≢ i)
+        → getD (set (b .senders) i (s .sender)) j idleSender ≡ pick (eqb j i) (s .sender) (senderAt b j)
     put (inl e) = rw (eq-eqb j i e) (rw e (getD-set-same (b .senders) i (s .sender) idleSender h))
     put (inr e) = rw (ne-eqb j i e) (getD-set-other (b .senders) i j (s .sender) idleSender e)
 
-    go : (c : Change) → getD (sendersAfter c (set (b .senders) i (s .sender))) j idleSender ≡ senderAfter c (getD (set (b .senders) i (s .sender)) j idleSender)
+    go : (c : Change)
+        → getD (sendersAfter c (set (b .senders) i (s .sender))) j idleSender ≡ senderAfter c
+        (getD (set (b .senders) i (s .sender)) j idleSender)
     go none = refl
     go (turn n τ) = refl
     go (records n r) = refl
@@ -101,20 +111,37 @@ pub record Like (d e : Sender) : Type 0 where
 like : (c : Change) (d : Sender) → Like d (senderAfter c d)
 like none d = record { state = refl; own = refl; waker = refl; reply = refl; matched = refl; signalled = λ e. e }
 like (turn n τ) d = record { state = refl; own = refl; waker = refl; reply = refl; matched = refl; signalled = λ e. e }
-like (records n m) d = record { state = refl; own = refl; waker = refl; reply = refl; matched = refl; signalled = λ e. e }
-like (signals n) d = record { state = refl; own = refl; waker = refl; reply = refl; matched = refl; signalled = λ e. rw e }
+like (records n m) d = record {
+  state = refl;
+  own = refl;
+  waker = refl;
+  reply = refl;
+  matched = refl;
+  signalled = λ e. e;
+}
+like (signals n) d = record {
+  state = refl;
+  own = refl;
+  waker = refl;
+  reply = refl;
+  matched = refl;
+  signalled = λ e. rw e;
+}
 
 pub own-at : (b : Board) (i : ℕ) (s : Effect) → i < length (b .senders) → Like (s .sender) (senderAt (apply b i s) i)
 own-at b i s h = rw (senders-at b i s i h, eq-eqb i i refl) (like (s .change) (s .sender))
 
-pub other-at : (b : Board) (i : ℕ) (s : Effect) (j : ℕ) → i < length (b .senders) → j ≢ i → Like (senderAt b j) (senderAt (apply b i s) j)
+pub other-at : (b : Board) (i : ℕ) (s : Effect) (j : ℕ) → i < length (b .senders) → j ≢ i
+    → Like (senderAt b j) (senderAt (apply b i s) j)
 other-at b i s j h ne = rw (senders-at b i s j h, ne-eqb j i ne) (like (s .change) (senderAt b j))
 
 -- a match recorded
-pub records-count : (b : Board) (i : ℕ) (s : Effect) (n : ℕ) (m : Match) → s .change ≡ records n m → length (apply b i s .matches) ≡ suc (length (b .matches))
+pub records-count : (b : Board) (i : ℕ) (s : Effect) (n : ℕ) (m : Match) → s .change ≡ records n m
+    → length (apply b i s .matches) ≡ suc (length (b .matches))
 unfolding apply matchesAfter
 records-count b i s n m ec = rw ec (omega (arith, length-append (b .matches) (m ∷ [])))
 
-pub records-last : (b : Board) (i : ℕ) (s : Effect) (n : ℕ) (m : Match) → s .change ≡ records n m → (k : ℕ) → k ≡ length (b .matches) → matchAt (apply b i s) k ≡ m
+pub records-last : (b : Board) (i : ℕ) (s : Effect) (n : ℕ) (m : Match) → s .change ≡ records n m → (k : ℕ)
+    → k ≡ length (b .matches) → matchAt (apply b i s) k ≡ m
 unfolding apply matchesAfter
 records-last b i s n m ec k e = rw (ec, e) (getD-append-seam (b .matches) m [] _)

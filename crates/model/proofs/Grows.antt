@@ -34,7 +34,8 @@ message-kept (signals n) m x = record { sent = refl; channel = refl }
 pub record Grows (b b′ : Board) : Type 0 where
   pub messages-more : length (b .messages) ≤ length (b′ .messages)
   pub kept : (n : ℕ) → n < length (b .messages) → SameSent (messageAt b n) (messageAt b′ n)
-  pub stays-consumed : (n : ℕ) → n < length (b .messages) → messageAt b n .status ≡ consumed → (messageAt b′ n .status ≡ consumed) × (messageAt b′ n .match ≡ messageAt b n .match)
+  pub stays-consumed : (n : ℕ) → n < length (b .messages) → messageAt b n .status ≡ consumed
+      → (messageAt b′ n .status ≡ consumed) × (messageAt b′ n .match ≡ messageAt b n .match)
   pub matches-more : length (b .matches) ≤ length (b′ .matches)
   pub matches-same : (k : ℕ) → k < length (b .matches) → matchAt b′ k ≡ matchAt b k
 
@@ -79,11 +80,16 @@ not-consumed (consumes m) = apart refl
 not-consumed (wakes-by h) = apart refl
 not-consumed resumes = apart refl
 
-stays-turn : (b : Board) (m : ℕ) (τ : Turn) → Turns b m τ → (n : ℕ) → messageAt b n .status ≡ consumed → (n ≡ m) ⊎ (n ≢ m) → (pick (eqb n m) (turned τ (messageAt b n)) (messageAt b n) .status ≡ consumed) × (pick (eqb n m) (turned τ (messageAt b n)) (messageAt b n) .match ≡ messageAt b n .match)
+stays-turn : (b : Board) (m : ℕ) (τ : Turn) → Turns b m τ → (n : ℕ) → messageAt b n .status ≡ consumed
+    → (n ≡ m) ⊎ (n ≢ m)
+    → (pick (eqb n m) (turned τ (messageAt b n)) (messageAt b n) .status ≡ consumed)
+    × (pick (eqb n m) (turned τ (messageAt b n)) (messageAt b n) .match ≡ messageAt b n .match)
 stays-turn b m τ l n e (inl q) = absurd (not-consumed τ (sym (l .from) ∙ rw q at e))
 stays-turn b m τ l n e (inr q) = rw (ne-eqb n m q) (e, refl)
 
-stays : (b : Board) (c : Change) → Lawful b c → (n : ℕ) → messageAt b n .status ≡ consumed → (messageAfter c n (messageAt b n) .status ≡ consumed) × (messageAfter c n (messageAt b n) .match ≡ messageAt b n .match)
+stays : (b : Board) (c : Change) → Lawful b c → (n : ℕ) → messageAt b n .status ≡ consumed
+    → (messageAfter c n (messageAt b n) .status ≡ consumed)
+    × (messageAfter c n (messageAt b n) .match ≡ messageAt b n .match)
 stays b none l n e = (e, refl)
 stays b (turn m τ) l n e = stays-turn b m τ l n e (same? n m)
 stays b (records m r) l n e = stays-turn b m claims l n e (same? n m)
@@ -105,7 +111,13 @@ m-same ms (signals n) k h = refl
 
 pub grows-after : (b : Board) (i : ℕ) (s : Effect) → Lawful b (s .change) → Grows b (apply b i s)
 unfolding apply
-grows-after b i s l = record { messages-more = omega (arith, messages-count b i s); kept = λ n h. rw (messages-at b i s n h) (message-kept (s .change) n (messageAt b n)); stays-consumed = λ n h e. rw (messages-at b i s n h) (stays b (s .change) l n e); matches-more = m-more (b .matches) (s .change); matches-same = m-same (b .matches) (s .change) }
+grows-after b i s l = record {
+  messages-more = omega (arith, messages-count b i s);
+  kept = λ n h. rw (messages-at b i s n h) (message-kept (s .change) n (messageAt b n));
+  stays-consumed = λ n h e. rw (messages-at b i s n h) (stays b (s .change) l n e);
+  matches-more = m-more (b .matches) (s .change);
+  matches-same = m-same (b .matches) (s .change);
+}
 
 pub grows-refl : (b : Board) → Grows b b
 grows-refl b = record {

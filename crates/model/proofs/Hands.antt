@@ -24,16 +24,22 @@ on-board b n x e ne = go (ltb n (length (b .messages))) refl
   where
     go : (u : Bool) → ltb n (length (b .messages)) ≡ u → n < length (b .messages)
     go true z = ltb-true _ _ z
-    go false z = absurd (ne (sym e ∙ ap (λ (y : Message). y .status) (List·getD-eq-default (b .messages) noMessage (ltb-false _ _ z))))
+    go false z =
+        absurd (ne
+        (sym e ∙ ap (λ (y : Message). y .status) (List·getD-eq-default (b .messages) noMessage (ltb-false _ _ z))))
 
 -- statuses after a change
 pub data StatusIs (b b′ : Board) (c : Change) (n : ℕ) : Type 0 where
   as-was : messageAt b′ n .status ≡ messageAt b n .status → StatusIs b b′ c n
-  turned-to : (τ : Turn) → (c ≡ turn n τ) ⊎ ((m : Match) × (c ≡ records n m) × (τ ≡ claims)) → messageAt b n .status ≡ statusBefore τ → messageAt b′ n .status ≡ statusAfter τ → StatusIs b b′ c n
+  turned-to : (τ : Turn) → (c ≡ turn n τ) ⊎ ((m : Match) × (c ≡ records n m) × (τ ≡ claims))
+      → messageAt b n .status ≡ statusBefore τ → messageAt b′ n .status ≡ statusAfter τ → StatusIs b b′ c n
 
 module _ (b : Board) (i : ℕ) (s : Effect) (l : Lawful b (s .change)) (n : ℕ) where
   out-of : length (b .messages) ≤ n → messageAt (apply b i s) n .status ≡ messageAt b n .status
-  out-of h = ap (λ (y : Message). y .status) (List·getD-eq-default (apply b i s .messages) noMessage (omega (arith, messages-count b i s)) ∙ sym (List·getD-eq-default (b .messages) noMessage h))
+  out-of h =
+      ap (λ (y : Message). y .status)
+      (List·getD-eq-default (apply b i s .messages) noMessage (omega (arith, messages-count b i s))
+      ∙ sym (List·getD-eq-default (b .messages) noMessage h))
 
   turn-is : (c : Change) → Lawful b c → s .change ≡ c → n < length (b .messages) → StatusIs b (apply b i s) c n
   turn-is none l e h = as-was (rw (messages-at b i s n h, e))
@@ -85,7 +91,8 @@ pub record HoldingKept (t : Table) (c : Change) (S S′ : State) : Type 0 where
   pub drops-held : (n : ℕ) → Drops c n → Holds t S n
   pub drops-free : (n : ℕ) → Drops c n → Holds t S′ n → ⊥
 
-taken-by : (c : Change) (n : ℕ) (τ : Turn) → (c ≡ turn n τ) ⊎ ((m : Match) × (c ≡ records n m) × (τ ≡ claims)) → statusAfter τ ≡ claimed → Takes c n
+taken-by : (c : Change) (n : ℕ) (τ : Turn) → (c ≡ turn n τ) ⊎ ((m : Match) × (c ≡ records n m) × (τ ≡ claims))
+    → statusAfter τ ≡ claimed → Takes c n
 taken-by c n claims (inl e) z = rw e refl
 taken-by c n frees (inl e) z = absurd (apart refl z)
 taken-by c n (consumes k) (inl e) z = absurd (apart refl z)
@@ -93,7 +100,8 @@ taken-by c n (wakes-by h) (inl e) z = absurd (apart refl z)
 taken-by c n resumes (inl e) z = absurd (apart refl z)
 taken-by c n τ (inr e) z = rw (e .1) refl
 
-dropped-by : (c : Change) (n : ℕ) (τ : Turn) → (c ≡ turn n τ) ⊎ ((m : Match) × (c ≡ records n m) × (τ ≡ claims)) → statusBefore τ ≡ claimed → Drops c n
+dropped-by : (c : Change) (n : ℕ) (τ : Turn) → (c ≡ turn n τ) ⊎ ((m : Match) × (c ≡ records n m) × (τ ≡ claims))
+    → statusBefore τ ≡ claimed → Drops c n
 dropped-by c n claims (inl e) z = absurd (apart refl z)
 dropped-by c n frees (inl e) z = rw e refl
 dropped-by c n (consumes k) (inl e) z = rw e refl
@@ -132,8 +140,16 @@ module _ (b : Board) (i : ℕ) (s : Effect) (l : Lawful b (s .change)) (n : ℕ)
   drops-now (records m r) l e x = absurd x
   drops-now (signals m) l e x = absurd x
 
-pub holding-step : (t : Table) (b : Board) (i : ℕ) (s : Effect) → i < length (b .senders) → Lawful b (s .change) → ((n : ℕ) → Holds t (senderAt b i .state) n → messageAt b n .status ≡ claimed) → HoldingKept t (s .change) (senderAt b i .state) (s .sender .state) → HoldingStep t b (apply b i s) i
-holding-step t b i s h l mine x = record { others = λ j ne. other-at b i s j h ne .state; now-claimed = λ n p. now n (back n p) (status-is b i s l n); taken = λ n p. took n (x .held-before n (back n p)); released = λ n c. let-go n c (status-is b i s l n); kept = λ n c. keeps n c (status-is b i s l n) }
+pub holding-step : (t : Table) (b : Board) (i : ℕ) (s : Effect) → i < length (b .senders) → Lawful b (s .change)
+    → ((n : ℕ) → Holds t (senderAt b i .state) n → messageAt b n .status ≡ claimed)
+    → HoldingKept t (s .change) (senderAt b i .state) (s .sender .state) → HoldingStep t b (apply b i s) i
+holding-step t b i s h l mine x = record {
+  others = λ j ne. other-at b i s j h ne .state;
+  now-claimed = λ n p. now n (back n p) (status-is b i s l n);
+  taken = λ n p. took n (x .held-before n (back n p));
+  released = λ n c. let-go n c (status-is b i s l n);
+  kept = λ n c. keeps n c (status-is b i s l n);
+}
   where
     back : (n : ℕ) → Holds t (senderAt (apply b i s) i .state) n → Holds t (s .sender .state) n
     back n p = subst (λ (z : State). Holds t z n) (own-at b i s h .state) p
@@ -141,23 +157,29 @@ holding-step t b i s h l mine x = record { others = λ j ne. other-at b i s j h 
     forth : (n : ℕ) → Holds t (s .sender .state) n → Holds t (senderAt (apply b i s) i .state) n
     forth n p = subst⁻¹ (λ (z : State). Holds t z n) (own-at b i s h .state) p
 
-    now : (n : ℕ) → Holds t (s .sender .state) n → StatusIs b (apply b i s) (s .change) n → messageAt (apply b i s) n .status ≡ claimed
+    now : (n : ℕ) → Holds t (s .sender .state) n → StatusIs b (apply b i s) (s .change) n
+        → messageAt (apply b i s) n .status ≡ claimed
     now n p z = go (x .held-before n p) z
       where
-        go : Holds t (senderAt b i .state) n ⊎ Takes (s .change) n → StatusIs b (apply b i s) (s .change) n → messageAt (apply b i s) n .status ≡ claimed
+        go : Holds t (senderAt b i .state) n ⊎ Takes (s .change) n → StatusIs b (apply b i s) (s .change) n
+            → messageAt (apply b i s) n .status ≡ claimed
         go (inr y) z = takes-now b i s l n (s .change) l refl y
         go (inl y) (as-was e) = e ∙ mine n y
         go (inl y) (turned-to τ e f g) = absurd (x .drops-free n (dropped-by (s .change) n τ e (sym f ∙ mine n y)) p)
 
-    took : (n : ℕ) → Holds t (senderAt b i .state) n ⊎ Takes (s .change) n → Holds t (senderAt b i .state) n ⊎ (messageAt b n .status ≢ claimed)
+    took : (n : ℕ) → Holds t (senderAt b i .state) n ⊎ Takes (s .change) n
+        → Holds t (senderAt b i .state) n ⊎ (messageAt b n .status ≢ claimed)
     took n (inl y) = inl y
     took n (inr y) = inr (λ c. apart refl (sym (takes-was b i s l n (s .change) l y) ∙ c))
 
-    let-go : (n : ℕ) → messageAt b n .status ≡ claimed → StatusIs b (apply b i s) (s .change) n → (messageAt (apply b i s) n .status ≡ claimed) ⊎ Holds t (senderAt b i .state) n
+    let-go : (n : ℕ) → messageAt b n .status ≡ claimed → StatusIs b (apply b i s) (s .change) n
+        → (messageAt (apply b i s) n .status ≡ claimed) ⊎ Holds t (senderAt b i .state) n
     let-go n c (as-was e) = inl (e ∙ c)
     let-go n c (turned-to τ e f g) = inr (x .drops-held n (dropped-by (s .change) n τ e (sym f ∙ c)))
 
-    keeps : (n : ℕ) → messageAt (apply b i s) n .status ≡ claimed → StatusIs b (apply b i s) (s .change) n → Holds t (senderAt (apply b i s) i .state) n ⊎ ((messageAt b n .status ≡ claimed) × (Holds t (senderAt b i .state) n → Holds t (senderAt (apply b i s) i .state) n))
+    keeps : (n : ℕ) → messageAt (apply b i s) n .status ≡ claimed → StatusIs b (apply b i s) (s .change) n
+        → Holds t (senderAt (apply b i s) i .state) n ⊎ ((messageAt b n .status ≡ claimed)
+        × (Holds t (senderAt b i .state) n → Holds t (senderAt (apply b i s) i .state) n))
     keeps n c (turned-to τ e f g) = inl (forth n (x .takes-held n (taken-by (s .change) n τ e (sym g ∙ c))))
     keeps n c (as-was e) = inr (sym e ∙ c, λ p. go (x .held-after n p))
       where

@@ -42,9 +42,13 @@ pub record Holding (t : Table) (b : Board) : Type 0 where
 pub record HoldingStep (t : Table) (b b′ : Board) (i : ℕ) : Type 0 where
   pub others : (j : ℕ) → j ≢ i → senderAt b′ j .state ≡ senderAt b j .state
   pub now-claimed : (n : ℕ) → Holds t (senderAt b′ i .state) n → messageAt b′ n .status ≡ claimed
-  pub taken : (n : ℕ) → Holds t (senderAt b′ i .state) n → Holds t (senderAt b i .state) n ⊎ (messageAt b n .status ≢ claimed)
-  pub released : (n : ℕ) → messageAt b n .status ≡ claimed → (messageAt b′ n .status ≡ claimed) ⊎ Holds t (senderAt b i .state) n
-  pub kept : (n : ℕ) → messageAt b′ n .status ≡ claimed → Holds t (senderAt b′ i .state) n ⊎ ((messageAt b n .status ≡ claimed) × (Holds t (senderAt b i .state) n → Holds t (senderAt b′ i .state) n))
+  pub taken : (n : ℕ) → Holds t (senderAt b′ i .state) n
+      → Holds t (senderAt b i .state) n ⊎ (messageAt b n .status ≢ claimed)
+  pub released : (n : ℕ) → messageAt b n .status ≡ claimed
+      → (messageAt b′ n .status ≡ claimed) ⊎ Holds t (senderAt b i .state) n
+  pub kept : (n : ℕ) → messageAt b′ n .status ≡ claimed
+      → Holds t (senderAt b′ i .state) n
+      ⊎ ((messageAt b n .status ≡ claimed) × (Holds t (senderAt b i .state) n → Holds t (senderAt b′ i .state) n))
 
 module _ (t : Table) (b b′ : Board) (i : ℕ) (h : Holding t b) (a : HoldingStep t b b′ i) where
   before : (j n : ℕ) → j ≢ i → Holds t (senderAt b′ j .state) n → Holds t (senderAt b j .state) n
@@ -65,7 +69,8 @@ module _ (t : Table) (b b′ : Board) (i : ℕ) (h : Holding t b) (a : HoldingSt
       go (inl o) = ne (h .one-holder j i n (before j n ne q) o)
       go (inr no-claim) = no-claim (h .claimed-is j n (before j n ne q))
 
-  one-after : (j k n : ℕ) → (j ≡ i) ⊎ (j ≢ i) → (k ≡ i) ⊎ (k ≢ i) → Holds t (senderAt b′ j .state) n → Holds t (senderAt b′ k .state) n → j ≡ k
+  one-after : (j k n : ℕ) → (j ≡ i) ⊎ (j ≢ i) → (k ≡ i) ⊎ (k ≢ i) → Holds t (senderAt b′ j .state) n
+      → Holds t (senderAt b′ k .state) n → j ≡ k
   one-after j k n (inl e) (inl f) p q = e ∙ sym f
   one-after j k n (inl e) (inr f) p q = absurd (only-it k n f q (rw e at p))
   one-after j k n (inr e) (inl f) p q = absurd (only-it j n e p (rw f at q))
@@ -74,16 +79,24 @@ module _ (t : Table) (b b′ : Board) (i : ℕ) (h : Holding t b) (a : HoldingSt
   holder-after : (n : ℕ) → messageAt b′ n .status ≡ claimed → (k : ℕ) × Holds t (senderAt b′ k .state) n
   holder-after n c = go (a .kept n c)
     where
-      old : (k : ℕ) × Holds t (senderAt b k .state) n → (Holds t (senderAt b i .state) n → Holds t (senderAt b′ i .state) n) → (k : ℕ) × Holds t (senderAt b′ k .state) n
+      old : (k : ℕ) × Holds t (senderAt b k .state) n
+          → (Holds t (senderAt b i .state) n → Holds t (senderAt b′ i .state) n)
+          → (k : ℕ) × Holds t (senderAt b′ k .state) n
       old k on = go2 (same? (k .0) i)
         where
           go2 : (k .0 ≡ i) ⊎ (k .0 ≢ i) → (k : ℕ) × Holds t (senderAt b′ k .state) n
           go2 (inl e) = (i, on (rw e at (k .1)))
           go2 (inr ne) = (k .0, rw (a .others (k .0) ne) (k .1))
 
-      go : Holds t (senderAt b′ i .state) n ⊎ ((messageAt b n .status ≡ claimed) × (Holds t (senderAt b i .state) n → Holds t (senderAt b′ i .state) n)) → (k : ℕ) × Holds t (senderAt b′ k .state) n
+      go : Holds t (senderAt b′ i .state) n
+          ⊎ ((messageAt b n .status ≡ claimed) × (Holds t (senderAt b i .state) n → Holds t (senderAt b′ i .state) n))
+          → (k : ℕ) × Holds t (senderAt b′ k .state) n
       go (inl p) = (i, p)
       go (inr p) = old (h .has-holder n (p .0)) (p .1)
 
   pub holding-after : Holding t b′
-  holding-after = record { claimed-is = λ j n. claimed-after j n (same? j i); one-holder = λ j k n. one-after j k n (same? j i) (same? k i); has-holder = holder-after }
+  holding-after = record {
+    claimed-is = λ j n. claimed-after j n (same? j i);
+    one-holder = λ j k n. one-after j k n (same? j i) (same? k i);
+    has-holder = holder-after;
+  }

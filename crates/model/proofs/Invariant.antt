@@ -71,7 +71,8 @@ senders-count b i s = go (s .change)
     go none = length-set (b .senders) i (s .sender)
     go (turn n τ) = length-set (b .senders) i (s .sender)
     go (records n m) = length-set (b .senders) i (s .sender)
-    go (signals n) = length-map (set (b .senders) i (s .sender)) (signalledSender n) ∙ length-set (b .senders) i (s .sender)
+    go (signals n) =
+        length-map (set (b .senders) i (s .sender)) (signalledSender n) ∙ length-set (b .senders) i (s .sender)
 
 module _ (t : Table) (b : Board) (i : ℕ) (s : Effect) (l : i < 32) (v : Inv t b) (f : Owes t b i s) where
   abbrev b′ : Board
@@ -116,11 +117,14 @@ module _ (t : Table) (b : Board) (i : ℕ) (s : Effect) (l : i < 32) (v : Inv t 
     senders = senders-count b i s ∙ v .senders;
     locals = locals-after t b i s in-senders law (v .locals) (f .local .in-order);
     notes = notes′;
-    holding = holding-after t b b′ i (v .holding) (holding-step t b i s in-senders law (v .holding .claimed-is i) (f .holding));
+    holding =
+        holding-after t b b′ i (v .holding)
+        (holding-step t b i s in-senders law (v .holding .claimed-is i) (f .holding));
     matches = matched-after t b i s in-senders law (v .matches) (f .matches);
     owners = owners′;
     obligation = obligation′;
-    answering = answering-after t b i s in-senders law (v .locals) (v .notes) (v .owners) owners′ (f .owners notes′) notes′
+    answering =
+        answering-after t b i s in-senders law (v .locals) (v .notes) (v .owners) owners′ (f .owners notes′) notes′
         (f .matches) (v .answering) (f .answering);
     ranges = ranges-after t b i s law (f .notes)
         (λ x m e. (f .recorded .subject x m e .1 .selection .chord-in, f .recorded .room x m e)) (v .ranges);

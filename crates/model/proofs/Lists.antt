@@ -1,4 +1,5 @@
--- Laws of the definitions' list functions: members, the first that passes, the lowest that passes, rules naming a tray; the pigeonhole.
+-- Laws of the definitions' list functions: members, the first that passes, the lowest that passes, rules naming a
+-- tray; the pigeonhole.
 -- Assumes nothing.
 use mathlib.Core.Path.{_≡_, refl, sym, _∙_}
 use mathlib.Core.Logic.{_⊎_, inl, inr, _≢_}
@@ -25,7 +26,8 @@ pub isIn-nth : (x : ℕ) (xs : List ℕ) → isIn x xs ≡ true → (j : ℕ) ×
 isIn-nth x [] e = never e
 isIn-nth x (y ∷ ys) e = go (either e) (isIn-nth x ys)
   where
-    go : (eqb x y ≡ true) ⊎ (isIn x ys ≡ true) → (isIn x ys ≡ true → (j : ℕ) × (j < length ys) × (getD ys j 0 ≡ x)) → (j : ℕ) × (j < suc (length ys)) × (getD (y ∷ ys) j 0 ≡ x)
+    go : (eqb x y ≡ true) ⊎ (isIn x ys ≡ true) → (isIn x ys ≡ true → (j : ℕ) × (j < length ys) × (getD ys j 0 ≡ x))
+        → (j : ℕ) × (j < suc (length ys)) × (getD (y ∷ ys) j 0 ≡ x)
     go (inl p) ih = (0, omega arith, sym (eqb-true x y p))
     go (inr p) ih = let r = ih p in (suc (r .0), omega (arith, r .1), r .2)
 
@@ -33,12 +35,14 @@ pub not-in : (x : ℕ) (xs : List ℕ) → isIn x xs ≡ false → (j : ℕ) →
 not-in x xs e j h q = never (sym e ∙ rw q at (nth-isIn xs j h))
 
 -- all that pass
-pub every-nth : {A : Type 0} (f : A → Bool) (xs : List A) (d : A) → every f xs ≡ true → (n : ℕ) → n < length xs → f (getD xs n d) ≡ true
+pub every-nth : {A : Type 0} (f : A → Bool) (xs : List A) (d : A) → every f xs ≡ true → (n : ℕ) → n < length xs
+    → f (getD xs n d) ≡ true
 every-nth f [] d e n l = absurd (not-suc-le-zero l)
 every-nth f (x ∷ xs) d e zero l = both {t = f x} e .0
 every-nth f (x ∷ xs) d e (suc n) l = every-nth f xs d (both {t = f x} e .1) n (le-of-suc-le-suc l)
 
-pub nth-every : {A : Type 0} (f : A → Bool) (xs : List A) (d : A) → ((n : ℕ) → n < length xs → f (getD xs n d) ≡ true) → every f xs ≡ true
+pub nth-every : {A : Type 0} (f : A → Bool) (xs : List A) (d : A)
+    → ((n : ℕ) → n < length xs → f (getD xs n d) ≡ true) → every f xs ≡ true
 nth-every f [] d g = refl
 nth-every f (x ∷ xs) d g = and (g 0 (omega arith)) (nth-every f xs d (λ n l. g (suc n) (omega arith)))
 
@@ -52,7 +56,8 @@ pub first-before : (f : ℕ → Bool) (ms : List ℕ) (j : ℕ) → j < firstBy 
 first-before f [] j h = absurd (not-suc-le-zero h)
 first-before f (m ∷ ms) j h = go (f m) refl (first-before f ms) j h
   where
-    go : (t : Bool) → f m ≡ t → ((j : ℕ) → j < firstBy f ms → f (getD ms j 0) ≡ false) → (j : ℕ) → j < firstBy f (m ∷ ms) → f (getD (m ∷ ms) j 0) ≡ false
+    go : (t : Bool) → f m ≡ t → ((j : ℕ) → j < firstBy f ms → f (getD ms j 0) ≡ false) → (j : ℕ)
+        → j < firstBy f (m ∷ ms) → f (getD (m ∷ ms) j 0) ≡ false
     go true e ih j h = absurd (not-suc-le-zero (rw (e, firstBy) at h))
     go false e ih zero h = e
     go false e ih (suc j) h = ih j (le-of-suc-le-suc (rw (e, firstBy) at h))
@@ -61,7 +66,8 @@ pub first-passes : (f : ℕ → Bool) (ms : List ℕ) → firstBy f ms < length 
 first-passes f [] h = absurd (not-suc-le-zero h)
 first-passes f (m ∷ ms) h = go (f m) refl (first-passes f ms) h
   where
-    go : (t : Bool) → f m ≡ t → (firstBy f ms < length ms → f (getD ms (firstBy f ms) 0) ≡ true) → firstBy f (m ∷ ms) < suc (length ms) → f (getD (m ∷ ms) (firstBy f (m ∷ ms)) 0) ≡ true
+    go : (t : Bool) → f m ≡ t → (firstBy f ms < length ms → f (getD ms (firstBy f ms) 0) ≡ true)
+        → firstBy f (m ∷ ms) < suc (length ms) → f (getD (m ∷ ms) (firstBy f (m ∷ ms)) 0) ≡ true
     go true e ih h = rw (e, firstBy) e
     go false e ih h = rw (e, firstBy) (ih (le-of-suc-le-suc (rw (e, firstBy) at h)))
 
@@ -69,36 +75,51 @@ pub first-in : (f : ℕ → Bool) (ms : List ℕ) (j : ℕ) → j < length ms �
 first-in f [] j h e = absurd (not-suc-le-zero h)
 first-in f (m ∷ ms) j h e = go (f m) refl j h e (first-in f ms)
   where
-    go : (t : Bool) → f m ≡ t → (j : ℕ) → j < suc (length ms) → f (getD (m ∷ ms) j 0) ≡ true → ((j : ℕ) → j < length ms → f (getD ms j 0) ≡ true → firstBy f ms ≤ j) → firstBy f (m ∷ ms) ≤ j
+    go : (t : Bool) → f m ≡ t → (j : ℕ) → j < suc (length ms) → f (getD (m ∷ ms) j 0) ≡ true
+        → ((j : ℕ) → j < length ms → f (getD ms j 0) ≡ true → firstBy f ms ≤ j) → firstBy f (m ∷ ms) ≤ j
     go true q j h e ih = rw (q, firstBy) (omega arith)
     go false q zero h e ih = never (sym q ∙ e)
     go false q (suc j) h e ih = rw (q, firstBy) (omega (arith, ih j (le-of-suc-le-suc h) e))
 
 -- the lowest that passes
-pub lowest-none : (f : ℕ → Message → Bool) (n : ℕ) (is : List Message) → lowest f n is ≡ 0 → (j : ℕ) → j < length is → f (n + j) (getD is j noMessage) ≡ false
+pub lowest-none : (f : ℕ → Message → Bool) (n : ℕ) (is : List Message) → lowest f n is ≡ 0 → (j : ℕ) → j < length is
+    → f (n + j) (getD is j noMessage) ≡ false
 lowest-none f n [] e j h = absurd (not-suc-le-zero h)
 lowest-none f n (x ∷ xs) e j h = go (f n x) refl e j h (lowest-none f (suc n) xs)
   where
-    go : (t : Bool) → f n x ≡ t → lowest f n (x ∷ xs) ≡ 0 → (j : ℕ) → j < suc (length xs) → (lowest f (suc n) xs ≡ 0 → (j : ℕ) → j < length xs → f (suc n + j) (getD xs j noMessage) ≡ false) → f (n + j) (getD (x ∷ xs) j noMessage) ≡ false
+    go : (t : Bool) → f n x ≡ t → lowest f n (x ∷ xs) ≡ 0 → (j : ℕ) → j < suc (length xs)
+        → (lowest f (suc n) xs ≡ 0 → (j : ℕ) → j < length xs → f (suc n + j) (getD xs j noMessage) ≡ false)
+        → f (n + j) (getD (x ∷ xs) j noMessage) ≡ false
     go true q e j h ih = let z : suc n ≡ 0 = rw (q, lowest) at e in absurd (omega arith)
     go false q e zero h ih = let z : n + 0 ≡ n = omega arith in rw z q
-    go false q e (suc j) h ih = let z : n + suc j ≡ suc n + j = omega arith in rw z (ih (rw (q, lowest) at e) j (le-of-suc-le-suc h))
+    go false q e (suc j) h ih =
+        let z : n + suc j ≡ suc n + j = omega arith in rw z (ih (rw (q, lowest) at e) j (le-of-suc-le-suc h))
 
-pub lowest-some : (f : ℕ → Message → Bool) (n : ℕ) (is : List Message) (k : ℕ) → lowest f n is ≡ suc k → (j : ℕ) × (k ≡ n + j) × (j < length is) × (f k (getD is j noMessage) ≡ true)
+pub lowest-some : (f : ℕ → Message → Bool) (n : ℕ) (is : List Message) (k : ℕ) → lowest f n is ≡ suc k
+    → (j : ℕ) × (k ≡ n + j) × (j < length is) × (f k (getD is j noMessage) ≡ true)
 lowest-some f n [] k e = absurd (omega arith)
 lowest-some f n (x ∷ xs) k e = go (f n x) refl e (lowest-some f (suc n) xs k)
   where
-    go : (t : Bool) → f n x ≡ t → lowest f n (x ∷ xs) ≡ suc k → (lowest f (suc n) xs ≡ suc k → (j : ℕ) × (k ≡ suc n + j) × (j < length xs) × (f k (getD xs j noMessage) ≡ true)) → (j : ℕ) × (k ≡ n + j) × (j < suc (length xs)) × (f k (getD (x ∷ xs) j noMessage) ≡ true)
-    go true q e ih = let z : suc n ≡ suc k = rw (q, lowest) at e in let y : n ≡ k = omega arith in (0, omega arith, omega arith, rw (← y) q)
+    go : (t : Bool) → f n x ≡ t → lowest f n (x ∷ xs) ≡ suc k
+        → (lowest f (suc n) xs ≡ suc k → (j : ℕ) × (k ≡ suc n + j) × (j < length xs)
+        × (f k (getD xs j noMessage) ≡ true))
+        → (j : ℕ) × (k ≡ n + j) × (j < suc (length xs)) × (f k (getD (x ∷ xs) j noMessage) ≡ true)
+    go true q e ih =
+        let z : suc n ≡ suc k = rw (q, lowest) at e in
+        let y : n ≡ k = omega arith in
+        (0, omega arith, omega arith, rw (← y) q)
     go false q e ih = let r = ih (rw (q, lowest) at e) in (suc (r .0), omega (arith, r .1), omega (arith, r .2), r .3)
 
-pub lowest-at : (f : ℕ → Message → Bool) (is : List Message) (k : ℕ) → lowest f 0 is ≡ suc k → (k < length is) × (f k (getD is k noMessage) ≡ true)
+pub lowest-at : (f : ℕ → Message → Bool) (is : List Message) (k : ℕ) → lowest f 0 is ≡ suc k
+    → (k < length is) × (f k (getD is k noMessage) ≡ true)
 lowest-at f is k e = let r = lowest-some f 0 is k e in go (r .0) (r .1) (r .2) (r .3)
   where
-    go : (j : ℕ) → k ≡ 0 + j → j < length is → f k (getD is j noMessage) ≡ true → (k < length is) × (f k (getD is k noMessage) ≡ true)
+    go : (j : ℕ) → k ≡ 0 + j → j < length is → f k (getD is j noMessage) ≡ true
+        → (k < length is) × (f k (getD is k noMessage) ≡ true)
     go j z l p = let y : j ≡ k = omega arith in (omega arith, rw y at p)
 
-pub none-of : (f : Message → Bool) (is : List Message) → someMessage f is ≡ false → (j : ℕ) → j < length is → f (getD is j noMessage) ≡ false
+pub none-of : (f : Message → Bool) (is : List Message) → someMessage f is ≡ false → (j : ℕ) → j < length is
+    → f (getD is j noMessage) ≡ false
 none-of f [] e j h = absurd (not-suc-le-zero h)
 none-of f (x ∷ xs) e zero h = neither {t = f x} e .0
 none-of f (x ∷ xs) e (suc j) h = none-of f xs (neither {t = f x} e .1) j (le-of-suc-le-suc h)

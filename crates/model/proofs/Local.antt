@@ -23,7 +23,8 @@ use Rattle.model.proofs.Chords.{names-yes}
 use Rattle.model.proofs.Frame.{senderAfter, senders-at}
 use Rattle.model.proofs.Grows.{Grows, Lawful, grows-after}
 
--- a job at rule r with h in hand: the rule names the hand's tray, and the chosen items are of the members' trays, fit, and are distinct
+-- a job at rule r with h in hand: the rule names the hand's tray, and the chosen items are of the members' trays,
+-- fit, and are distinct
 pub record Selection (t : Table) (b : Board) (h r : ℕ) (c : List ℕ) : Type 0 where
   pub chord-in : r < length (t .chords)
   pub names : isIn (messageAt b h .sent .channel) (chordAt t r .channels) ≡ true
@@ -87,32 +88,65 @@ StateOk t b own waker matched blocked = (1 ≤ own) × Waits t b own × (matched
 
 pub record SenderOk (t : Table) (b : Board) (d : Sender) : Type 0 where
   pub own-in : d .own ≤ length (b .messages)
-  pub waker-is : (v : ℕ) → d .waker ≡ suc v → (v < length (b .messages)) × (isSync t (messageAt b v .sent .channel) ≡ false) × (1 ≤ d .own) × Waits t b (d .own)
-  pub reply-is : (k : ℕ) → d .reply ≡ suc k → (1 ≤ d .own) × Waits t b (d .own) × (k < length (b .matches)) × (isIn (d .own - 1) (matchAt b k .messages) ≡ true)
-  pub matched-is : (k : ℕ) → d .matched ≡ suc k → (1 ≤ d .own) × (messageAt b (d .own - 1) .status ≡ consumed) × (k < length (b .matches)) × (isIn (d .own - 1) (matchAt b k .messages) ≡ true)
+  pub waker-is : (v : ℕ) → d .waker ≡ suc v
+      → (v < length (b .messages)) × (isSync t (messageAt b v .sent .channel) ≡ false) × (1 ≤ d .own) × Waits t b
+      (d .own)
+  pub reply-is : (k : ℕ) → d .reply ≡ suc k
+      → (1 ≤ d .own) × Waits t b (d .own) × (k < length (b .matches))
+      × (isIn (d .own - 1) (matchAt b k .messages) ≡ true)
+  pub matched-is : (k : ℕ) → d .matched ≡ suc k
+      → (1 ≤ d .own) × (messageAt b (d .own - 1) .status ≡ consumed) × (k < length (b .matches))
+      × (isIn (d .own - 1) (matchAt b k .messages) ≡ true)
   pub state-is : StateOk t b (d .own) (d .waker) (d .matched) (d .state)
 
 -- all of it goes on
 module _ (t : Table) (b b′ : Board) (g : Grows b b′) where
   selection-on : (h r : ℕ) (c : List ℕ) → h < length (b .messages) → Selection t b h r c → Selection t b′ h r c
-  selection-on h r c l q = record { chord-in = q .chord-in; names = rw (g .kept h l .channel) (q .names); inside = λ j l. omega (arith, q .inside j l, g .messages-more); kinds = λ j l. rw (g .kept (getD c j 0) (q .inside j l) .channel) (q .kinds j l); props = λ j m. rw (g .kept h l .sent, g .kept (getD c j 0) (q .inside j m) .sent) (q .props j m); one = q .one; subject-at = λ j m e. q .subject-at j m (rw (g .kept h l .channel) at e) }
+  selection-on h r c l q = record {
+    chord-in = q .chord-in;
+    names = rw (g .kept h l .channel) (q .names);
+    inside = λ j l. omega (arith, q .inside j l, g .messages-more);
+    kinds = λ j l. rw (g .kept (getD c j 0) (q .inside j l) .channel) (q .kinds j l);
+    props = λ j m. rw (g .kept h l .sent, g .kept (getD c j 0) (q .inside j m) .sent) (q .props j m);
+    one = q .one;
+    subject-at = λ j m e. q .subject-at j m (rw (g .kept h l .channel) at e);
+  }
 
   full-on : (h r : ℕ) (c : List ℕ) → h < length (b .messages) → Full t b h r c → Full t b′ h r c
   full-on h r c l q = record { selection = selection-on h r c l (q .selection); all = q .all }
 
-  pub tell-on : (h : ℕ) (ns : List ℕ) → ((j : ℕ) → j < length ns → getD ns j 0 < length (b .messages)) → toTell t (b′ .messages) h ns ≡ toTell t (b .messages) h ns
+  pub tell-on : (h : ℕ) (ns : List ℕ) → ((j : ℕ) → j < length ns → getD ns j 0 < length (b .messages))
+      → toTell t (b′ .messages) h ns ≡ toTell t (b .messages) h ns
   tell-on h [] l = refl
   tell-on h (n ∷ ns) l = rw (g .kept n (l 0 (omega arith)) .channel, tell-on h ns (λ j q. l (suc j) (omega arith)))
 
   waking-on : (h r : ℕ) (c : List ℕ) → h < length (b .messages) → AtWake t b h r c → AtWake t b′ h r c
   waking-on h r c l q = record { full = full-on h r c l (q .full); to-wake = rw (g .kept h l .channel) (q .to-wake) }
 
-  placed-on : (h r : ℕ) (c : List ℕ) (retry : Bool) → h < length (b .messages) → (p : Phase) → PlacedAt t b h r c retry p → PlacedAt t b′ h r c retry p
+  placed-on : (h r : ℕ) (c : List ℕ) (retry : Bool) → h < length (b .messages) → (p : Phase)
+      → PlacedAt t b h r c retry p → PlacedAt t b′ h r c retry p
   placed-on h r c retry l (look k) q = (selection-on h r c l (q .0), q .1, q .2)
   placed-on h r c retry l (claim k) q = (full-on h r c l (q .0), q .1)
   placed-on h r c retry l (revert k m) q = (full-on h r c l (q .0), q .1, q .2, q .3)
-  placed-on h r c retry l (consume k m) q = record { full = full-on h r c l (q .full); at = q .at; to-match = rw (g .kept h l .channel) (q .to-match); match-in = omega (arith, q .match-in, g .matches-more); match = λ k e. rw (g .matches-same k (omega (arith, q .match-in, e))) (q .match k e); some = q .some; done = λ j l. let s = g .stays-consumed (getD c j 0) (q .full .selection .inside j (omega (arith, q .full .all, q .at))) (q .done j l .0) in (s .0, s .1 ∙ q .done j l .1) }
-  placed-on h r c retry l (tell k) q = record { full = full-on h r c l (q .full); to-match = rw (g .kept h l .channel) (q .to-match); at = rw (tell-on h c (q .full .selection .inside)) (q .at); done = λ j l. g .stays-consumed (getD c j 0) (q .full .selection .inside j (omega (arith, q .full .all))) (q .done j l) .0 }
+  placed-on h r c retry l (consume k m) q = record {
+    full = full-on h r c l (q .full);
+    at = q .at;
+    to-match = rw (g .kept h l .channel) (q .to-match);
+    match-in = omega (arith, q .match-in, g .matches-more);
+    match = λ k e. rw (g .matches-same k (omega (arith, q .match-in, e))) (q .match k e);
+    some = q .some;
+    done = λ j l.
+        let s = g .stays-consumed (getD c j 0) (q .full .selection .inside j (omega (arith, q .full .all, q .at)))
+        (q .done j l .0) in
+        (s .0, s .1 ∙ q .done j l .1);
+  }
+  placed-on h r c retry l (tell k) q = record {
+    full = full-on h r c l (q .full);
+    to-match = rw (g .kept h l .channel) (q .to-match);
+    at = rw (tell-on h c (q .full .selection .inside)) (q .at);
+    done = λ j l.
+        g .stays-consumed (getD c j 0) (q .full .selection .inside j (omega (arith, q .full .all))) (q .done j l) .0;
+  }
   placed-on h r c retry l wake q = waking-on h r c l q
   placed-on h r c retry l (free k) q = (waking-on h r c l (q .0), q .1)
   placed-on h r c retry l signal q = waking-on h r c l q
@@ -120,7 +154,11 @@ module _ (t : Table) (b b′ : Board) (g : Grows b b′) where
   placed-on h r c retry l (backoff rests) q = q
 
   pub job-on : (o v : ℕ) (w : Job) (p : Phase) → JobAt t b o v w p → JobAt t b′ o v w p
-  job-on o v w p j = record { subject-in = omega (arith, j .subject-in, g .messages-more); subject-is = j .subject-is; placed = placed-on (w .subject) (w .chord) (w .chosen) (w .retry) (j .subject-in) p (j .placed) }
+  job-on o v w p j = record {
+    subject-in = omega (arith, j .subject-in, g .messages-more);
+    subject-is = j .subject-is;
+    placed = placed-on (w .subject) (w .chord) (w .chosen) (w .retry) (j .subject-in) p (j .placed);
+  }
 
   waits-on : (o : ℕ) → 1 ≤ o → o ≤ length (b .messages) → Waits t b o → Waits t b′ o
   waits-on o h l q = rw (g .kept (o - 1) (omega arith) .channel) q
@@ -131,43 +169,112 @@ module _ (t : Table) (b b′ : Board) (g : Grows b b′) where
   state-on o v m blocked l q = (q .0, waits-on o (q .0) l (q .1), q .2)
 
   pub sender-on : (d : Sender) → SenderOk t b d → SenderOk t b′ d
-  sender-on d q = record { own-in = omega (arith, q .own-in, g .messages-more); waker-is = λ v e. let r = q .waker-is v e in (omega (arith, r .0, g .messages-more), rw (g .kept v (r .0) .channel) (r .1), r .2, waits-on (d .own) (r .2) (q .own-in) (r .3)); reply-is = λ k e. let r = q .reply-is k e in (r .0, waits-on (d .own) (r .0) (q .own-in) (r .1), omega (arith, r .2, g .matches-more), rw (g .matches-same k (r .2)) (r .3)); matched-is = λ k e. let r = q .matched-is k e in (r .0, g .stays-consumed (d .own - 1) (omega (arith, r .0, q .own-in)) (r .1) .0, omega (arith, r .2, g .matches-more), rw (g .matches-same k (r .2)) (r .3)); state-is = state-on (d .own) (d .waker) (d .matched) (d .state) (q .own-in) (q .state-is) }
+  sender-on d q = record {
+    own-in = omega (arith, q .own-in, g .messages-more);
+    waker-is = λ v e. let r = q .waker-is v e in (
+      omega (arith, r .0, g .messages-more),
+      rw (g .kept v (r .0) .channel) (r .1),
+      r .2,
+      waits-on (d .own) (r .2) (q .own-in) (r .3),
+    );
+    reply-is = λ k e. let r = q .reply-is k e in (
+      r .0,
+      waits-on (d .own) (r .0) (q .own-in) (r .1),
+      omega (arith, r .2, g .matches-more),
+      rw (g .matches-same k (r .2)) (r .3),
+    );
+    matched-is = λ k e. let r = q .matched-is k e in (
+      r .0,
+      g .stays-consumed (d .own - 1) (omega (arith, r .0, q .own-in)) (r .1) .0,
+      omega (arith, r .2, g .matches-more),
+      rw (g .matches-same k (r .2)) (r .3),
+    );
+    state-is = state-on (d .own) (d .waker) (d .matched) (d .state) (q .own-in) (q .state-is);
+  }
 
 -- a pass begun
-start-ok : (t : Table) (b : Board) (o v h r k : ℕ) (retry : Bool) (u : Bool) → h < length (b .messages) → (suc h ≡ o) ⊎ (suc h ≡ v) → ltb r (length (t .chords)) ≡ u → (r < length (t .chords) → isIn (messageAt b h .sent .channel) (chordAt t r .channels) ≡ true) → JobAt t b o v (startAt u h r retry k) (startAt u h r retry k .phase)
-start-ok t b o v h r k retry true l i e n = let r-in = ltb-true r _ e in let named = isIn-nth (messageAt b h .sent .channel) (chordAt t r .channels) (n r-in) in record { subject-in = l; subject-is = i; placed = (record { chord-in = r-in; names = n r-in; inside = λ j q. absurd (omega arith); kinds = λ j q. absurd (omega arith); props = λ j q. absurd (omega arith); one = λ i j q. absurd (omega arith); subject-at = λ j q. absurd (omega arith) }, refl, omega (arith, named .1)) }
+start-ok : (t : Table) (b : Board) (o v h r k : ℕ) (retry : Bool) (u : Bool) → h < length (b .messages)
+    → (suc h ≡ o) ⊎ (suc h ≡ v) → ltb r (length (t .chords)) ≡ u
+    → (r < length (t .chords) → isIn (messageAt b h .sent .channel) (chordAt t r .channels) ≡ true)
+    → JobAt t b o v (startAt u h r retry k) (startAt u h r retry k .phase)
+start-ok t b o v h r k retry true l i e n =
+    let r-in = ltb-true r _ e in
+    let named = isIn-nth (messageAt b h .sent .channel) (chordAt t r .channels) (n r-in) in
+    record {
+      subject-in = l;
+      subject-is = i;
+      placed = (
+        record {
+          chord-in = r-in;
+          names = n r-in;
+          inside = λ j q. absurd (omega arith);
+          kinds = λ j q. absurd (omega arith);
+          props = λ j q. absurd (omega arith);
+          one = λ i j q. absurd (omega arith);
+          subject-at = λ j q. absurd (omega arith);
+        },
+        refl,
+        omega (arith, named .1),
+      );
+    }
 start-ok t b o v h r k retry false l i e n = record { subject-in = l; subject-is = i; placed = refl }
 
-pub pass-ok : (t : Table) (b : Board) (o v h from k : ℕ) (retry : Bool) → h < length (b .messages) → (suc h ≡ o) ⊎ (suc h ≡ v) → JobAt t b o v (passFrom t h (channelOf b h) from retry k) (passFrom t h (channelOf b h) from retry k .phase)
+pub pass-ok : (t : Table) (b : Board) (o v h from k : ℕ) (retry : Bool) → h < length (b .messages)
+    → (suc h ≡ o) ⊎ (suc h ≡ v)
+    → JobAt t b o v (passFrom t h (channelOf b h) from retry k) (passFrom t h (channelOf b h) from retry k .phase)
 unfolding passFrom
-pass-ok t b o v h from k retry l i = start-ok t b o v h (naming t (messageAt b h .sent .channel) from) k retry _ l i refl (names-yes t (messageAt b h .sent .channel) from)
+pass-ok t b o v h from k retry l i =
+    start-ok t b o v h (naming t (messageAt b h .sent .channel) from) k retry _ l i refl
+    (names-yes t (messageAt b h .sent .channel) from)
 
-pub rests-ok : (t : Table) (b : Board) (o v h k rests : ℕ) → h < length (b .messages) → (suc h ≡ o) ⊎ (suc h ≡ v) → JobAt t b o v (restsThen t b h k rests) (restsThen t b h k rests .phase)
+pub rests-ok : (t : Table) (b : Board) (o v h k rests : ℕ) → h < length (b .messages) → (suc h ≡ o) ⊎ (suc h ≡ v)
+    → JobAt t b o v (restsThen t b h k rests) (restsThen t b h k rests .phase)
 rests-ok t b o v h k zero l i = pass-ok t b o v h 0 k false l i
 rests-ok t b o v h k (suc rests) l i = record { subject-in = l; subject-is = i; placed = refl }
 
 -- a desk with another state, signal or slip
-pub with-state : (t : Table) (b : Board) (d : Sender) (s : State) (g : Bool) → SenderOk t b d → StateOk t b (d .own) (d .waker) (d .matched) s → SenderOk t b (record { state = s; signalled = g; own = d .own; waker = d .waker; reply = d .reply; matched = d .matched })
-with-state t b d s g q p = record { own-in = q .own-in; waker-is = q .waker-is; reply-is = q .reply-is; matched-is = q .matched-is; state-is = p }
+pub with-state : (t : Table) (b : Board) (d : Sender) (s : State) (g : Bool) → SenderOk t b d
+    → StateOk t b (d .own) (d .waker) (d .matched) s
+    → SenderOk t b
+    (record { state = s; signalled = g; own = d .own; waker = d .waker; reply = d .reply; matched = d .matched })
+with-state t b d s g q p = record {
+  own-in = q .own-in;
+  waker-is = q .waker-is;
+  reply-is = q .reply-is;
+  matched-is = q .matched-is;
+  state-is = p;
+}
 
 -- a job's end keeps the desk in order
 module _ (t : Table) (b : Board) (d : Sender) (h : ℕ) (q : SenderOk t b d) (some : 1 ≤ d .own) where
-  idle-ok : (l : ℕ) → ((k : ℕ) → l ≡ suc k → (1 ≤ d .own) × Waits t b (d .own) × (k < length (b .matches)) × (isIn (d .own - 1) (matchAt b k .messages) ≡ true)) → SenderOk t b (goesIdle d l)
-  idle-ok l f = record { own-in = q .own-in; waker-is = q .waker-is; reply-is = f; matched-is = q .matched-is; state-is = tt }
+  idle-ok : (l : ℕ)
+      → ((k : ℕ) → l ≡ suc k → (1 ≤ d .own) × Waits t b (d .own) × (k < length (b .matches))
+      × (isIn (d .own - 1) (matchAt b k .messages) ≡ true))
+      → SenderOk t b (goesIdle d l)
+  idle-ok l f = record {
+    own-in = q .own-in;
+    waker-is = q .waker-is;
+    reply-is = f;
+    matched-is = q .matched-is;
+    state-is = tt;
+  }
 
   matched-ok : (m : ℕ) → d .matched ≡ m → Waits t b (d .own) → SenderOk t b (matchedEnd d m)
   matched-ok zero e w = with-state t b d blocked (d .signalled) q (some, w, e)
   matched-ok (suc m) e w = idle-ok (suc m) (λ k f. let r = q .matched-is k (e ∙ f) in (r .0, w, r .2, r .3))
 
   waker-ok : (v : ℕ) (u : Bool) → d .waker ≡ suc v → Waits t b (d .own) → SenderOk t b (wakerEnd t (b .messages) d v u)
-  waker-ok v true e w = with-state t b d _ (d .signalled) q (some, pass-ok t b (d .own) (d .waker) v 0 0 false (q .waker-is v e .0) (inr (sym e)))
+  waker-ok v true e w =
+      with-state t b d _ (d .signalled) q
+      (some, pass-ok t b (d .own) (d .waker) v 0 0 false (q .waker-is v e .0) (inr (sym e)))
   waker-ok v false e w = matched-ok (d .matched) refl w
 
   sync-ok : (v : ℕ) → d .waker ≡ v → Waits t b (d .own) → SenderOk t b (syncEnd t (b .messages) d h v)
   sync-ok zero e w = matched-ok (d .matched) refl w
   sync-ok (suc v) e w = waker-ok v (not (isConsumed (messageAt b v .status)) && not (eqb v h)) e w
 
-  by-ok : (u : Bool) → isSync t (messageAt b (d .own - 1) .sent .channel) ≡ u → SenderOk t b (endsBy t (b .messages) d h u)
+  by-ok : (u : Bool) → isSync t (messageAt b (d .own - 1) .sent .channel) ≡ u
+      → SenderOk t b (endsBy t (b .messages) d h u)
   by-ok false e = idle-ok 0 (λ k f. absurd (omega arith))
   by-ok true e = sync-ok (d .waker) refl e
 
@@ -180,9 +287,17 @@ signalled-ok : (t : Table) (b : Board) (c : Change) (d : Sender) → SenderOk t 
 signalled-ok t b none d q = q
 signalled-ok t b (turn n τ) d q = q
 signalled-ok t b (records n m) d q = q
-signalled-ok t b (signals n) d q = record { own-in = q .own-in; waker-is = q .waker-is; reply-is = q .reply-is; matched-is = q .matched-is; state-is = q .state-is }
+signalled-ok t b (signals n) d q = record {
+  own-in = q .own-in;
+  waker-is = q .waker-is;
+  reply-is = q .reply-is;
+  matched-is = q .matched-is;
+  state-is = q .state-is;
+}
 
-pub locals-after : (t : Table) (b : Board) (i : ℕ) (s : Effect) → i < length (b .senders) → Lawful b (s .change) → ((j : ℕ) → SenderOk t b (senderAt b j)) → SenderOk t (apply b i s) (s .sender) → (j : ℕ) → SenderOk t (apply b i s) (senderAt (apply b i s) j)
+pub locals-after : (t : Table) (b : Board) (i : ℕ) (s : Effect) → i < length (b .senders) → Lawful b (s .change)
+    → ((j : ℕ) → SenderOk t b (senderAt b j)) → SenderOk t (apply b i s) (s .sender) → (j : ℕ)
+    → SenderOk t (apply b i s) (senderAt (apply b i s) j)
 locals-after t b i s h l q p j = rw (senders-at b i s j h) (signalled-ok t (apply b i s) (s .change) _ (go (same? j i)))
   where
     go : (j ≡ i) ⊎ (j ≢ i) → SenderOk t (apply b i s) (pick (eqb j i) (s .sender) (senderAt b j))
@@ -194,5 +309,9 @@ pub record SenderKept (t : Table) (b : Board) (i : ℕ) (s : Effect) : Type 0 wh
   pub lawful : Lawful b (s .change)
   pub in-order : SenderOk t (apply b i s) (s .sender)
 
-pub kept-sender : (t : Table) (b : Board) (i : ℕ) (s : Effect) → Lawful b (s .change) → SenderOk t b (s .sender) → SenderKept t b i s
-kept-sender t b i s l q = record { lawful = l; in-order = sender-on t b (apply b i s) (grows-after b i s l) (s .sender) q }
+pub kept-sender : (t : Table) (b : Board) (i : ℕ) (s : Effect) → Lawful b (s .change) → SenderOk t b (s .sender)
+    → SenderKept t b i s
+kept-sender t b i s l q = record {
+  lawful = l;
+  in-order = sender-on t b (apply b i s) (grows-after b i s l) (s .sender) q;
+}

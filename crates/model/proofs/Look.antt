@@ -1,4 +1,5 @@
--- A look keeps the invariant. The one hard step is a miss: whatever would complete the chord is woken, is claimed and so sets
+-- A look keeps the invariant. The one hard step is a miss: whatever would complete the chord is woken, is claimed and
+-- so sets
 -- the retry mark, or is matched.
 use mathlib.Core.Path.{_≡_, _∙_, refl, subst⁻¹}
 use mathlib.Core.Logic.{_⊎_, inl, inr, _≢_}
@@ -44,7 +45,8 @@ module _ {t : Table} {b : Board} {i : ℕ} {w : Job} {k : ℕ} (c : AtWork t b i
         longer = omega (arith, length-append (w .chosen) (n ∷ []), p .1)
 
         go : (last : Bool) → eqb (suc k) (size t (w .chord)) ≡ last
-            → PlacedAt t b (w .subject) (w .chord) (w .chosen ++ (n ∷ [])) (w .retry) (pick last (claim 0) (look (suc k)))
+            → PlacedAt t b (w .subject) (w .chord) (w .chosen ++ (n ∷ [])) (w .retry)
+            (pick last (claim 0) (look (suc k)))
         go true z = (record { selection = s; all = longer ∙ eqb-true _ _ z }, omega (arith, p .2))
         go false z = (s, longer, omega (tests, p .2))
 
@@ -99,7 +101,8 @@ module _ {t : Table} {b : Board} {i : ℕ} {w : Job} {k : ℕ} (c : AtWork t b i
     missed : Owes t b i (lookedBy t b (senderAt b i) w k 0)
     missed =
         job-goes-on c _ tt _ refl refl refl refl (pass-at c _ _ _)
-        (empty-hands t _ w _ (look k) (c .phase) (λ j x. x) refl (λ n x. pass-empty t _ _ _ _ _ n x)) (subject-of t (w .subject) _ _ _ _)
+        (empty-hands t _ w _ (look k) (c .phase) (λ j x. x) refl (λ n x. pass-empty t _ _ _ _ _ n x))
+        (subject-of t (w .subject) _ _ _ _)
         (λ q ns y a x. missed-covers q ns y a (covered w q (look k) (c .phase) x) (same? (w .chord) q))
 
   pub look-owes : Owes t b i (look-step t b (senderAt b i) w k)

@@ -24,24 +24,29 @@ module _ {t : Table} {b : Board} {i : ℕ} {w : Job} {p : Phase} (c : AtWork t b
   -- rests and then a new pass see to every chord that names the subject
   rests-owe : (said : Said) (k rests : ℕ) → still p ≡ true → signalling p ≡ false
       → ((j : ℕ) → Held t (w .chord) p (length (w .chosen)) j → ⊥)
-      → Owes t b i (record { said = said; change = none; sender = inJob (senderAt b i) (restsThen t b (w .subject) k rests) })
+      → Owes t b i
+      (record { said = said; change = none; sender = inJob (senderAt b i) (restsThen t b (w .subject) k rests) })
   rests-owe said k rests st sg e =
       job-goes-on c _ tt _ refl refl st sg (rests-at c k rests)
-      (empty-hands t _ w _ p (c .phase) e refl (λ n x. rests-empty t b (w .subject) k rests n x)) (rests-subject t b (w .subject) k rests)
+      (empty-hands t _ w _ p (c .phase) e refl (λ n x. rests-empty t b (w .subject) k rests n x))
+      (rests-subject t b (w .subject) k rests)
       (λ q ns y a x. inl (rests-cover t b (w .subject) k rests q (y .meets .chord-in) (names-it y (w .subject) a)))
 
 module _ {t : Table} {b : Board} {i : ℕ} {w : Job} (c : AtWork t b i w pass-end) where
   pass-ended : (again : Bool) → (w .retry && isOpen (messageAt b (w .subject) .status)) ≡ again
       → Owes t b i (passEndBy t b (senderAt b i) w again)
   unfolding apply messagesAfter
-  pass-ended true e = rests-owe c Again (more (w .retries)) (backoffAt (b .backoffs) (more (w .retries))) refl refl (λ j x. x)
+  pass-ended true e =
+      rests-owe c Again (more (w .retries)) (backoffAt (b .backoffs) (more (w .retries))) refl refl (λ j x. x)
   pass-ended false e =
       job-ends c _ tt refl refl refl refl
-      (empty-hands t _ w _ pass-end (c .phase) (λ j x. x) refl (λ n x. ends-empty t (b .messages) (senderAt b i) (w .subject) n x))
+      (empty-hands t _ w _ pass-end (c .phase) (λ j x. x) refl
+      (λ n x. ends-empty t (b .messages) (senderAt b i) (w .subject) n x))
       (λ n x. absurd (no-rouse t b i w (c .state) pass-end (c .phase) refl n x))
       (λ q ns y a x. over q ns y a (shut _ (and-false _ _ e (covered w q pass-end (c .phase) x))))
     where
-      over : (q : ℕ) (ns : List ℕ) → Case t b i (passEndBy t b (senderAt b i) w false) q ns → isIn (w .subject) ns ≡ true
+      over : (q : ℕ) (ns : List ℕ) → Case t b i (passEndBy t b (senderAt b i) w false) q ns
+          → isIn (w .subject) ns ≡ true
           → (messageAt b (w .subject) .status ≡ woken) ⊎ (messageAt b (w .subject) .status ≡ consumed)
           → Obliged t (apply b i (passEndBy t b (senderAt b i) w false)) q ns
       over q ns y a (inl z) = by-woken (w .subject) a z

@@ -23,7 +23,8 @@ pub one-distinct : (ns : List ℕ) → One ns → distinct ns ≡ true
 one-distinct [] f = refl
 one-distinct (n ∷ ns) f =
     and {t = not (isIn n ns)} (go (isIn n ns) refl)
-    (one-distinct ns (λ i j p q e. let z : suc i ≡ suc j = f (suc i) (suc j) (omega arith) (omega arith) e in omega arith))
+    (one-distinct ns
+    (λ i j p q e. let z : suc i ≡ suc j = f (suc i) (suc j) (omega arith) (omega arith) e in omega arith))
   where
     go : (u : Bool) → isIn n ns ≡ u → not u ≡ true
     go false e = refl
@@ -117,7 +118,8 @@ snoc-distinct (x ∷ xs) n d e =
     let p = both {t = not (isIn x xs)} d in
     let q = neither {t = eqb n x} e in
     and {t = not (isIn x (xs ++ (n ∷ [])))}
-    (rw (in-snoc x n xs, not-true (isIn x xs) (p .0), ne-eqb x n (λ z. eqb-false n x (q .0) (sym z)))) (snoc-distinct xs n (p .1) (q .1))
+    (rw (in-snoc x n xs, not-true (isIn x xs) (p .0), ne-eqb x n (λ z. eqb-false n x (q .0) (sym z))))
+    (snoc-distinct xs n (p .1) (q .1))
 
 pub without-distinct : (ys xs : List ℕ) → distinct xs ≡ true → distinct (without ys xs) ≡ true
 without-distinct ys [] e = refl

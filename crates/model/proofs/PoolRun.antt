@@ -56,7 +56,8 @@ module _ (t : Table) (last b : Board) (p : Pool) (ok : PoolOk t last b p) where
 
   pub as-sent : (n : ℕ) → sentOf b n ≡ sentAt (p .sent) n
   as-sent n =
-      sym (ap (λ (xs : List Sent). getD xs n noSent) (ok .sents) ∙ List·getD-map (λ x. x .sent) (b .messages) n noMessage)
+      sym (ap (λ (xs : List Sent). getD xs n noSent) (ok .sents)
+      ∙ List·getD-map (λ x. x .sent) (b .messages) n noMessage)
 
   -- a full selection meets its chord, as the pool tests it
   pub full-meets : (h r : ℕ) (c : List ℕ) → Full t b h r c → meets (chordAt t r) (sentAt (p .sent)) c ≡ true
@@ -166,7 +167,8 @@ module _ (t : Table) (last b : Board) (p : Pool) (ok : PoolOk t last b p) (i : �
     full : (h : ℕ) × Full t b h (m .chord) (m .messages)
     full = f .recorded .subject x m ec
 
-    fresh : (j : ℕ) → j < length (m .messages) → Unmatched b (getD (m .messages) j 0) × (getD (m .messages) j 0 < length (b .messages))
+    fresh : (j : ℕ) → j < length (m .messages)
+        → Unmatched b (getD (m .messages) j 0) × (getD (m .messages) j 0 < length (b .messages))
     fresh j q = let r = f .matches .begins x m ec (getD (m .messages) j 0) (nth-isIn (m .messages) j q) in (r .1, r .2)
 
     all-in : every (λ n. isIn n (p .inside)) (m .messages) ≡ true
@@ -212,9 +214,13 @@ module _ (t : Table) (last b : Board) (p : Pool) (ok : PoolOk t last b p) (i : �
       sents = ok .sents ∙ sym (sents-after b i e);
       own-count = ok .own-count;
       owns = λ j. step-own t b i e l v f j ∙ ok .owns j;
-      inside-is = λ n q. let z = in-without n _ (p .inside) q in let r = ok .inside-is n (z .0) in
-          (omega (arith, r .0, messages-count b i e), unmatched-now n (r .1) (sym (ap (λ (y : MatchRead). isIn n (y .messages)) read) ∙ z .1));
-      is-inside = λ n h u. without-in n _ (p .inside) (inside-before n h u) (ap (λ (y : MatchRead). isIn n (y .messages)) read ∙ not-in-it n u);
+      inside-is = λ n q. let z = in-without n _ (p .inside) q in let r = ok .inside-is n (z .0) in (
+        omega (arith, r .0, messages-count b i e),
+        unmatched-now n (r .1) (sym (ap (λ (y : MatchRead). isIn n (y .messages)) read) ∙ z .1),
+      );
+      is-inside =
+          λ n h u. without-in n _ (p .inside) (inside-before n h u)
+          (ap (λ (y : MatchRead). isIn n (y .messages)) read ∙ not-in-it n u);
       number = ap suc (ok .number) ∙ sym count-now;
       good = and (ok .good) (ap (fair t (matchReads t last) p (length (b .matches))) read ∙ is-fair);
       once-in = without-distinct _ (p .inside) (ok .once-in);
@@ -224,7 +230,8 @@ module _ (t : Table) (last b : Board) (p : Pool) (ok : PoolOk t last b p) (i : �
 
   pub step-pool : Grows (apply b i e) last → eqb (wordOf (e .said)) 6 ≡ isRecord (e .change)
       → PoolOk t last (apply b i e) (leaves t (matchReads t last) p (valueOf (e .said)) (eqb (wordOf (e .said)) 6))
-  step-pool gl q = subst⁻¹ (λ (u : Bool). PoolOk t last (apply b i e) (leaves t (matchReads t last) p (valueOf (e .said)) u)) q
+  step-pool gl q =
+      subst⁻¹ (λ (u : Bool). PoolOk t last (apply b i e) (leaves t (matchReads t last) p (valueOf (e .said)) u)) q
       (go (isRecord (e .change)) refl)
     where
       go : (u : Bool) → isRecord (e .change) ≡ u
@@ -246,23 +253,35 @@ module _ (t : Table) (last b : Board) (p : Pool) (ok : PoolOk t last b p) (i : �
 
   sents-now : p .sent ++ (x ∷ []) ≡ map (λ y. y .sent) (b′ .messages)
   unfolding added
-  sents-now = ap (λ (ys : List Sent). ys ++ (x ∷ [])) (ok .sents) ∙ sym (map-append (λ y. y .sent) (b .messages) (newMessage x ∷ []))
+  sents-now =
+      ap (λ (ys : List Sent). ys ++ (x ∷ [])) (ok .sents)
+      ∙ sym (map-append (λ y. y .sent) (b .messages) (newMessage x ∷ []))
 
   own-now : (j : ℕ) → senderAt b′ j .own ≡ getD (set (p .own) i (suc (length (b .messages)))) j 0
   own-now j = go (same? j i)
     where
       go : (j ≡ i) ⊎ (j ≢ i) → senderAt b′ j .own ≡ getD (set (p .own) i (suc (length (b .messages)))) j 0
-      go (inl e) = rw (e, A.sender-now t b i x (omega (arith, v .senders)), getD-set-same (p .own) i (suc (length (b .messages))) 0 (omega (arith, ok .own-count)))
-      go (inr e) = ap (λ (d : Sender). d .own) (A.sender-old t b i x j e) ∙ ok .owns j ∙ sym (getD-set-other (p .own) i j _ 0 e)
+      go (inl e) =
+          rw (
+            e,
+            A.sender-now t b i x (omega (arith, v .senders)),
+            getD-set-same (p .own) i (suc (length (b .messages))) 0 (omega (arith, ok .own-count)),
+          )
+      go (inr e) =
+          ap (λ (d : Sender). d .own) (A.sender-old t b i x j e)
+          ∙ ok .owns j
+          ∙ sym (getD-set-other (p .own) i j _ 0 e)
 
   unmatched-same : (m : ℕ) → Unmatched b m → Unmatched b′ m
-  unmatched-same m u = subst⁻¹ (λ (ms : List Match). (k : ℕ) → k < length ms → isIn m (getD ms k noMatch .messages) ≡ false)
+  unmatched-same m u =
+      subst⁻¹ (λ (ms : List Match). (k : ℕ) → k < length ms → isIn m (getD ms k noMatch .messages) ≡ false)
       (A.matches-now t b i x) u
 
   new-unmatched : Unmatched b (length (b .messages))
   new-unmatched k h = go (isIn (length (b .messages)) (matchAt b k .messages)) refl
     where
-      go : (u : Bool) → isIn (length (b .messages)) (matchAt b k .messages) ≡ u → isIn (length (b .messages)) (matchAt b k .messages) ≡ false
+      go : (u : Bool) → isIn (length (b .messages)) (matchAt b k .messages) ≡ u
+          → isIn (length (b .messages)) (matchAt b k .messages) ≡ false
       go false e = e
       go true e = absurd (omega (arith, v .matches .on-board (length (b .messages)) k h e))
 
@@ -279,11 +298,14 @@ module _ (t : Table) (last b : Board) (p : Pool) (ok : PoolOk t last b p) (i : �
       ∙ ap (λ (z : ℤ). centsIn t (sentOf last) (b .matches) +ℤ z)
       (ap (λ (y : Sent). centsOf t (sentOf last) (p .inside) +ℤ amount t y) (sym is-x)
       ∙ sym (cents-snoc t (sentOf last) (p .inside) (length (b .messages))))
-      ∙ ap (λ (ms : List Match). centsIn t (sentOf last) ms +ℤ centsOf t (sentOf last) (p .inside ++ (length (b .messages) ∷ [])))
+      ∙ ap (λ (ms : List Match).
+      centsIn t (sentOf last) ms +ℤ centsOf t (sentOf last) (p .inside ++ (length (b .messages) ∷ [])))
       (sym (A.matches-now t b i x))
     where
       is-x : sentOf last (length (b .messages)) ≡ x
-      is-x = gl .kept _ (omega (arith, A.messages-now t b i x)) .sent ∙ ap (λ (y : Message). y .sent) (A.new-message t b i x)
+      is-x =
+          gl .kept _ (omega (arith, A.messages-now t b i x)) .sent
+          ∙ ap (λ (y : Message). y .sent) (A.new-message t b i x)
 
   pub pool-entered : PoolOk t last b′ (enters i x p (length (b .messages)) true)
   pool-entered = record {
@@ -298,12 +320,14 @@ module _ (t : Table) (last b : Board) (p : Pool) (ok : PoolOk t last b p) (i : �
     total = total-new;
   }
     where
-      at : (m : ℕ) → (isIn m (p .inside) ≡ true) ⊎ (eqb m (length (b .messages)) ≡ true) → (m < length (b′ .messages)) × Unmatched b′ m
+      at : (m : ℕ) → (isIn m (p .inside) ≡ true) ⊎ (eqb m (length (b .messages)) ≡ true)
+          → (m < length (b′ .messages)) × Unmatched b′ m
       at m (inl q) = let r = ok .inside-is m q in (omega (arith, r .0, A.messages-now t b i x), unmatched-same m (r .1))
       at m (inr q) = rw (eqb-true m (length (b .messages)) q)
           (omega (arith, A.messages-now t b i x), unmatched-same (length (b .messages)) new-unmatched)
 
-      here : (m : ℕ) → m < length (b′ .messages) → Unmatched b′ m → (m ≡ length (b .messages)) ⊎ (m ≢ length (b .messages))
+      here : (m : ℕ) → m < length (b′ .messages) → Unmatched b′ m
+          → (m ≡ length (b .messages)) ⊎ (m ≢ length (b .messages))
           → (isIn m (p .inside) || eqb m (length (b .messages))) ≡ true
       here m h u (inl e) = or-right (isIn m (p .inside)) (eq-eqb m (length (b .messages)) e)
       here m h u (inr e) = rw (ok .is-inside m (omega (arith, A.messages-now t b i x))

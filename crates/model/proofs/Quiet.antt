@@ -24,7 +24,8 @@ use Rattle.model.proofs.Owners.{woken-waits, WillSignal}
 use Rattle.model.proofs.Answering.{WillTell}
 use Rattle.model.proofs.Invariant.{Inv}
 
-still-at : (ds : List Sender) (j : ℕ) → every (λ d. not (canStep (d .state) (d .signalled))) ds ≡ true → canStep (getD ds j idleSender .state) (getD ds j idleSender .signalled) ≡ false
+still-at : (ds : List Sender) (j : ℕ) → every (λ d. not (canStep (d .state) (d .signalled))) ds ≡ true
+    → canStep (getD ds j idleSender .state) (getD ds j idleSender .signalled) ≡ false
 still-at [] j e = refl
 still-at (d ∷ ds) zero e = not-true _ (both {t = not (canStep (d .state) (d .signalled))} e .0)
 still-at (d ∷ ds) (suc j) e = still-at ds j (both {t = not (canStep (d .state) (d .signalled))} e .1)
@@ -34,18 +35,23 @@ module _ (t : Table) (b : Board) (v : Inv t b) (q : quiet b ≡ true) where
   no-work i w st = never (sym (still-at (b .senders) i q) ∙ ap (λ (x : State). canStep x (senderAt b i .signalled)) st)
 
   none-woken : (n : ℕ) → messageAt b n .status ≡ woken → ⊥
-  none-woken n e = let r = v .owners .owned n (on-board b n woken e (apart refl)) (woken-waits t b (v .notes) n e) (λ c. apart refl (sym e ∙ c)) in go (r .0) (senderAt b (r .0) .state) refl (r .1) (v .owners .signal-due n e (r .0) (r .2))
+  none-woken n e =
+      let r = v .owners .owned n (on-board b n woken e (apart refl)) (woken-waits t b (v .notes) n e)
+      (λ c. apart refl (sym e ∙ c)) in
+      go (r .0) (senderAt b (r .0) .state) refl (r .1) (v .owners .signal-due n e (r .0) (r .2))
     where
       busy : (x : State) → WillSignal t x n → (w : Job) × (x ≡ working w)
       busy idle p = absurd p
       busy (working w) p = (w, refl)
       busy blocked p = absurd p
 
-      go : (j : ℕ) (x : State) → senderAt b j .state ≡ x → isIdle (senderAt b j .state) ≡ false → (senderAt b j .signalled ≡ true) ⊎ ((i : ℕ) × WillSignal t (senderAt b i .state) n) → ⊥
+      go : (j : ℕ) (x : State) → senderAt b j .state ≡ x → isIdle (senderAt b j .state) ≡ false
+          → (senderAt b j .signalled ≡ true) ⊎ ((i : ℕ) × WillSignal t (senderAt b i .state) n) → ⊥
       go j x e f (inr p) = let z = busy (senderAt b (p .0) .state) (p .1) in no-work (p .0) (z .0) (z .1)
       go j idle e f (inl p) = never (sym f ∙ ap isIdle e)
       go j (working w) e f (inl p) = no-work j w e
-      go j blocked e f (inl p) = never (sym (still-at (b .senders) j q) ∙ ap (λ (x : State). canStep x (senderAt b j .signalled)) e ∙ p)
+      go j blocked e f (inl p) =
+          never (sym (still-at (b .senders) j q) ∙ ap (λ (x : State). canStep x (senderAt b j .signalled)) e ∙ p)
 
   none-claimed : (n : ℕ) → messageAt b n .status ≡ claimed → ⊥
   none-claimed n e = let r = v .holding .has-holder n e in go (r .0) (senderAt b (r .0) .state) refl (r .1)
@@ -76,7 +82,8 @@ module _ (t : Table) (b : Board) (v : Inv t b) (q : quiet b ≡ true) where
   pub pending-or : (n : ℕ) → (messageAt b n .status ≡ pending) ⊎ (messageAt b n .status ≡ consumed)
   pending-or n = go (messageAt b n .status) refl
     where
-      go : (x : Status) → messageAt b n .status ≡ x → (messageAt b n .status ≡ pending) ⊎ (messageAt b n .status ≡ consumed)
+      go : (x : Status) → messageAt b n .status ≡ x
+          → (messageAt b n .status ≡ pending) ⊎ (messageAt b n .status ≡ consumed)
       go pending e = inl e
       go claimed e = absurd (none-claimed n e)
       go woken e = absurd (none-woken n e)
@@ -107,7 +114,8 @@ module _ (t : Table) (b : Board) (v : Inv t b) (q : quiet b ≡ true) where
   pub not-matched : (i : ℕ) → isIdle (senderAt b i .state) ≡ false → 1 ≤ senderAt b i .matched → ⊥
   not-matched i e m = go (senderAt b i .state) refl (v .locals i .state-is) e
     where
-      go : (x : State) → senderAt b i .state ≡ x → StateOk t b (senderAt b i .own) (senderAt b i .waker) (senderAt b i .matched) x → isIdle x ≡ false → ⊥
+      go : (x : State) → senderAt b i .state ≡ x
+          → StateOk t b (senderAt b i .own) (senderAt b i .waker) (senderAt b i .matched) x → isIdle x ≡ false → ⊥
       go idle e p f = never (sym f)
       go (working w) e p f = no-work i w e
       go blocked e p f = omega (arith, p .2)
@@ -118,4 +126,5 @@ module _ (t : Table) (b : Board) (v : Inv t b) (q : quiet b ≡ true) where
       go : (x : State) → senderAt b i .state ≡ x → isIdle x ≡ false → ⊥
       go idle e f = never (sym f)
       go (working w) e f = no-work i w e
-      go blocked e f = never (sym (still-at (b .senders) i q) ∙ ap (λ (x : State). canStep x (senderAt b i .signalled)) e ∙ m)
+      go blocked e f =
+          never (sym (still-at (b .senders) i q) ∙ ap (λ (x : State). canStep x (senderAt b i .signalled)) e ∙ m)

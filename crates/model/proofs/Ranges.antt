@@ -26,7 +26,9 @@ pub record Ranges (t : Table) (b : Board) : Type 0 where
   pub match-in : (n : ℕ) → n < length (b .messages) → messageAt b n .match ≤ length (b .matches)
   pub chord-in : (k : ℕ) → k < length (b .matches) → matchAt b k .chord < length (t .chords)
 
-match-by : (t : Table) (b b′ : Board) (c : Change) → NotesKept t b′ c → length (b .matches) ≤ length (b′ .matches) → (n : ℕ) → messageAt b n .match ≤ length (b .matches) → messageAfter c n (messageAt b n) .match ≤ length (b′ .matches)
+match-by : (t : Table) (b b′ : Board) (c : Change) → NotesKept t b′ c → length (b .matches) ≤ length (b′ .matches)
+    → (n : ℕ) → messageAt b n .match ≤ length (b .matches)
+    → messageAfter c n (messageAt b n) .match ≤ length (b′ .matches)
 match-by t b b′ none x g n h = omega arith
 match-by t b b′ (signals m) x g n h = omega arith
 match-by t b b′ (records m r) x g n h = go (eqb n m)
@@ -36,7 +38,8 @@ match-by t b b′ (records m r) x g n h = go (eqb n m)
     go false = omega arith
 match-by t b b′ (turn m τ) x g n h = go (eqb n m) τ x
   where
-    go : (u : Bool) (τ : Turn) → Writes t b′ m τ → pick u (turned τ (messageAt b n)) (messageAt b n) .match ≤ length (b′ .matches)
+    go : (u : Bool) (τ : Turn) → Writes t b′ m τ
+        → pick u (turned τ (messageAt b n)) (messageAt b n) .match ≤ length (b′ .matches)
     go false τ x = omega arith
     go true claims x = omega arith
     go true frees x = omega arith
@@ -44,8 +47,21 @@ match-by t b b′ (turn m τ) x g n h = go (eqb n m) τ x
     go true (wakes-by a) x = omega arith
     go true resumes x = omega arith
 
-pub ranges-after : (t : Table) (b : Board) (i : ℕ) (s : Effect) → Lawful b (s .change) → NotesKept t (apply b i s) (s .change) → ((x : ℕ) (m : Match) → s .change ≡ records x m → (m .chord < length (t .chords)) × (length (b .matches) < 1024)) → Ranges t b → Ranges t (apply b i s)
-ranges-after t b i s l w f r = record { messages-few = omega (arith, r .messages-few, messages-count b i s); matches-few = few; channel-in = λ n h. subst⁻¹ (λ (x : ℕ). x < length (t .kinds)) (g .kept n (in-b n h) .channel) (r .channel-in n (in-b n h)); cents-in = λ n h. ap (λ (c : Sent). centsOk (c .cents)) (g .kept n (in-b n h) .sent) ∙ r .cents-in n (in-b n h); match-in = λ n h. subst⁻¹ (λ (x : Message). x .match ≤ length (apply b i s .matches)) (messages-at b i s n (in-b n h)) (match-by t b (apply b i s) (s .change) w (g .matches-more) n (r .match-in n (in-b n h))); chord-in = λ k h. chords k (recorded b i s (s .change) refl k h) }
+pub ranges-after : (t : Table) (b : Board) (i : ℕ) (s : Effect) → Lawful b (s .change)
+    → NotesKept t (apply b i s) (s .change)
+    → ((x : ℕ) (m : Match) → s .change ≡ records x m → (m .chord < length (t .chords)) × (length (b .matches) < 1024))
+    → Ranges t b → Ranges t (apply b i s)
+ranges-after t b i s l w f r = record {
+  messages-few = omega (arith, r .messages-few, messages-count b i s);
+  matches-few = few;
+  channel-in =
+      λ n h. subst⁻¹ (λ (x : ℕ). x < length (t .kinds)) (g .kept n (in-b n h) .channel) (r .channel-in n (in-b n h));
+  cents-in = λ n h. ap (λ (c : Sent). centsOk (c .cents)) (g .kept n (in-b n h) .sent) ∙ r .cents-in n (in-b n h);
+  match-in =
+      λ n h. subst⁻¹ (λ (x : Message). x .match ≤ length (apply b i s .matches)) (messages-at b i s n (in-b n h))
+      (match-by t b (apply b i s) (s .change) w (g .matches-more) n (r .match-in n (in-b n h)));
+  chord-in = λ k h. chords k (recorded b i s (s .change) refl k h);
+}
   where
     g : Grows b (apply b i s)
     g = grows-after b i s l
@@ -53,9 +69,13 @@ ranges-after t b i s l w f r = record { messages-few = omega (arith, r .messages
     in-b : (n : ℕ) → n < length (apply b i s .messages) → n < length (b .messages)
     in-b n h = omega (arith, messages-count b i s)
 
-    chords : (k : ℕ) → (k < length (b .matches)) ⊎ ((k ≡ length (b .matches)) × ((x : ℕ) × (m : Match) × (s .change ≡ records x m))) → matchAt (apply b i s) k .chord < length (t .chords)
+    chords : (k : ℕ)
+        → (k < length (b .matches)) ⊎ ((k ≡ length (b .matches)) × ((x : ℕ) × (m : Match) × (s .change ≡ records x m)))
+        → matchAt (apply b i s) k .chord < length (t .chords)
     chords k (inl z) = subst⁻¹ (λ (m : Match). m .chord < length (t .chords)) (g .matches-same k z) (r .chord-in k z)
-    chords k (inr z) = subst⁻¹ (λ (m : Match). m .chord < length (t .chords)) (records-last b i s (z .1 .0) (z .1 .1) (z .1 .2) k (z .0)) (f (z .1 .0) (z .1 .1) (z .1 .2) .0)
+    chords k (inr z) =
+        subst⁻¹ (λ (m : Match). m .chord < length (t .chords))
+        (records-last b i s (z .1 .0) (z .1 .1) (z .1 .2) k (z .0)) (f (z .1 .0) (z .1 .1) (z .1 .2) .0)
 
     few : length (apply b i s .matches) ≤ 1024
     few = go (length (apply b i s .matches)) refl
@@ -64,6 +84,8 @@ ranges-after t b i s l w f r = record { messages-few = omega (arith, r .messages
         go zero e = omega arith
         go (suc n) e = last (recorded b i s (s .change) refl n (omega arith))
           where
-            last : (n < length (b .matches)) ⊎ ((n ≡ length (b .matches)) × ((x : ℕ) × (m : Match) × (s .change ≡ records x m))) → length (apply b i s .matches) ≤ 1024
+            last : (n < length (b .matches))
+                ⊎ ((n ≡ length (b .matches)) × ((x : ℕ) × (m : Match) × (s .change ≡ records x m)))
+                → length (apply b i s .matches) ≤ 1024
             last (inl z) = omega (arith, r .matches-few)
             last (inr z) = omega (arith, f (z .1 .0) (z .1 .1) (z .1 .2) .1, z .0)

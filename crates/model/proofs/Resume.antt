@@ -44,7 +44,8 @@ module _ (t : Table) (b : Board) (i : ℕ) (v : Inv t b) (st : senderAt b i .sta
   in-messages = omega (arith, waits .0, d-ok .own-in)
 
   -- what the three ways owe alike
-  module _ (s : Effect) (l : Lawful b (s .change)) (calm : isRecord (s .change) ≡ false) (no-wake : turn-wakes (s .change) ≡ false)
+  module _ (s : Effect) (l : Lawful b (s .change)) (calm : isRecord (s .change) ≡ false)
+      (no-wake : turn-wakes (s .change) ≡ false)
       (same : inert (s .change) ≡ true) where
     abbrev b′ : Board
     b′ = apply b i s
@@ -99,15 +100,23 @@ module _ (t : Table) (b : Board) (i : ℕ) (v : Inv t b) (st : senderAt b i .sta
   answered : messageAt b n .status ≡ consumed → Owes t b i (resumeBy t b (senderAt b i) n consumed)
   answered e =
       blocked-owes _ tt refl refl refl
-      (record { own-in = d-ok .own-in; waker-is = d-ok .waker-is; reply-is = reply; matched-is = d-ok .matched-is; state-is = tt })
-      (λ m y. y) tt refl refl (λ z. apart refl (sym now ∙ z)) (λ z. (now, omega (arith, v .notes .match n in-messages e .1))) (λ z. refl)
+      (record {
+        own-in = d-ok .own-in;
+        waker-is = d-ok .waker-is;
+        reply-is = reply;
+        matched-is = d-ok .matched-is;
+        state-is = tt;
+      })
+      (λ m y. y) tt refl refl (λ z. apart refl (sym now ∙ z))
+      (λ z. (now, omega (arith, v .notes .match n in-messages e .1))) (λ z. refl)
       (λ q ns y. blocked-obligation t b i q ns st _ refl)
     where
       now : messageAt (apply b i (resumeBy t b (senderAt b i) n consumed)) n .status ≡ consumed
       now = status-now (resumeBy t b (senderAt b i) n consumed) tt refl refl refl ∙ e
 
       reply : (k : ℕ) → messageAt b n .match ≡ suc k
-          → (1 ≤ senderAt b i .own) × Waits t b (senderAt b i .own) × (k < length (b .matches)) × (isIn n (matchAt b k .messages) ≡ true)
+          → (1 ≤ senderAt b i .own) × Waits t b (senderAt b i .own) × (k < length (b .matches))
+          × (isIn n (matchAt b k .messages) ≡ true)
       reply k z =
           let r = v .notes .match n in-messages e in
           let y : r .0 ≡ k = omega (arith, z, r .1) in
@@ -145,7 +154,8 @@ module _ (t : Table) (b : Board) (i : ℕ) (v : Inv t b) (st : senderAt b i .sta
           waker-is = λ x z. let y = v .notes .waker-is n x in-messages z in (y .0, y .1, waits .0, waits .1);
           reply-is = d-ok .reply-is;
           matched-is = d-ok .matched-is;
-          state-is = (waits .0, pass-ok t b (senderAt b i .own) _ n 0 0 false in-messages (inl (omega (arith, waits .0))));
+          state-is =
+              (waits .0, pass-ok t b (senderAt b i .own) _ n 0 0 false in-messages (inl (omega (arith, waits .0))));
         })
         (λ m y. pass-empty t n _ 0 0 false m y) tt refl refl
         (λ z. apart refl (sym (rw (status-now r turns refl refl refl, eq-eqb n n refl) at z))) (λ z. never z)

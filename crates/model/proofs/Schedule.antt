@@ -55,7 +55,11 @@ empty-inv t rests tok = record {
     has-holder = λ n e. absurd (apart refl e);
   };
   matches = record { taken = λ n k l. none l; once = λ n j k l. none l; on-board = λ n k l. none l };
-  owners = record { own-one = λ i j l. absurd (owns-none i l); owned = λ n l. none l; signal-due = λ n e. absurd (apart refl e) };
+  owners = record {
+    own-one = λ i j l. absurd (owns-none i l);
+    owned = λ n l. none l;
+    signal-due = λ n e. absurd (apart refl e);
+  };
   obligation = λ q ns m u. none (m .inside 0 (omega (arith, m .all, tok .chord-some q (m .chord-in))));
   answering = λ i k l. absurd (owns-none i l);
   ranges = record {
@@ -126,7 +130,8 @@ call-pool : (t : Table) (last b : Board) (p : Pool) (c : Call) → Inv t b → P
 call-pool t last b p (adds i x) v ok = go (addRefusal t b i x) refl
   where
     go : (f : ℕ) → addRefusal t b i x ≡ f → Grows (addAnswer t b i x f .board) last
-        → PoolOk t last (addAnswer t b i x f .board) (played t (matchReads t last) p (adds i x) (addAnswer t b i x f .said))
+        → PoolOk t last (addAnswer t b i x f .board)
+        (played t (matchReads t last) p (adds i x) (addAnswer t b i x f .said))
     go zero e g = pool-entered t last b p ok i x v (A.add-accepted t b i x e .0) g
     go (suc f) e g = ok
 call-pool t last b p (steps i) v ok = go (stepBy t b i) (step-owes t b i v) (matched-said t b i)
@@ -166,7 +171,8 @@ after-append t (c ∷ cs) rest b = after-append t cs rest (answerTo t b c .board
 pub record Reached (t : Table) (rests : List ℕ) (cs before : List Call) : Type 0 where
   pub inv : Inv t (boardAfter t rests before)
   pub grows : Grows (boardAfter t rests before) (boardAfter t rests cs)
-  pub pool : PoolOk t (boardAfter t rests cs) (boardAfter t rests before) (poolAfter t rests (finalReads t rests cs) before)
+  pub pool : PoolOk t (boardAfter t rests cs) (boardAfter t rests before)
+      (poolAfter t rests (finalReads t rests cs) before)
 
 pub reached : (t : Table) (rests : List ℕ) (cs before rest : List Call) → TableOk t → cs ≡ before ++ rest
     → Reached t rests cs before

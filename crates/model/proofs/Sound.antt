@@ -49,7 +49,8 @@ module _ (t : Table) (b : Board) (v : Inv t b) where
     below-true : Selection t b (w .subject) (w .chord) (w .chosen) → allBelow (length (b .messages)) (w .chosen) ≡ true
     below-true s = nth-every _ (w .chosen) 0 (λ j h. lt-ltb _ _ (s .inside j h))
 
-    chord-true : (c : ℕ) → Selection t b (w .subject) (w .chord) (w .chosen) → length (w .chosen) ≡ c → atChord t b w c ≡ true
+    chord-true : (c : ℕ) → Selection t b (w .subject) (w .chord) (w .chosen) → length (w .chosen) ≡ c
+        → atChord t b w c ≡ true
     chord-true c s e = and (lt-ltb _ _ (s .chord-in)) (and (s .names) (eq-eqb _ _ e))
 
     full-true : Full t b (w .subject) (w .chord) (w .chosen) → atChord t b w (size t (w .chord)) ≡ true
@@ -71,16 +72,19 @@ module _ (t : Table) (b : Board) (v : Inv t b) where
         and (below-true (q .full .selection)) (and (full-true (q .full)) (and (lt-ltb _ _ (q .at))
         (and (le-leb _ _ (q .some)) (and (le-leb _ _ (q .match-in)) (no-true (q .to-match))))))
     place-true (tell k) q =
-        and (below-true (q .full .selection)) (and (full-true (q .full)) (and (lt-ltb _ _ (q .at)) (no-true (q .to-match))))
+        and (below-true (q .full .selection))
+        (and (full-true (q .full)) (and (lt-ltb _ _ (q .at)) (no-true (q .to-match))))
     place-true wake q = and (below-true (q .full .selection)) (and (full-true (q .full)) (q .to-wake))
     place-true (free k) q =
-        and (below-true (q .0 .full .selection)) (and (full-true (q .0 .full)) (and (q .0 .to-wake) (lt-ltb _ _ (q .1))))
+        and (below-true (q .0 .full .selection))
+        (and (full-true (q .0 .full)) (and (q .0 .to-wake) (lt-ltb _ _ (q .1))))
     place-true signal q = and (below-true (q .full .selection)) (and (full-true (q .full)) (q .to-wake))
     place-true pass-end q = and (none-below (w .chosen) q) (eq-eqb _ _ q)
     place-true (backoff rests) q = and (none-below (w .chosen) q) (eq-eqb _ _ q)
 
   module _ (d : Sender) (ok : SenderOk t b d) where
-    subject-true : (h : ℕ) → (suc h ≡ d .own) ⊎ (suc h ≡ d .waker) → (eqb (suc h) (d .own) || eqb (suc h) (d .waker)) ≡ true
+    subject-true : (h : ℕ) → (suc h ≡ d .own) ⊎ (suc h ≡ d .waker)
+        → (eqb (suc h) (d .own) || eqb (suc h) (d .waker)) ≡ true
     subject-true h (inl e) = rw (eq-eqb (suc h) (d .own) e)
     subject-true h (inr e) = or-right (eqb (suc h) (d .own)) (eq-eqb (suc h) (d .waker) e)
 
@@ -112,7 +116,8 @@ module _ (t : Table) (b : Board) (v : Inv t b) where
   shared-true [] f = refl
   shared-true (d ∷ ds) f =
       and {t = isIdle (d .state) || every (λ e. not (owns (d .own) e)) ds} (go (isIdle (d .state)) refl)
-      (shared-true ds (λ i j p q e o. let z : suc i ≡ suc j = f (suc i) (suc j) (omega arith) (omega arith) e o in omega arith))
+      (shared-true ds
+      (λ i j p q e o. let z : suc i ≡ suc j = f (suc i) (suc j) (omega arith) (omega arith) e o in omega arith))
     where
       other : (u : Bool) (e : Sender) → e .own ≢ d .own → not (u && eqb (e .own) (d .own)) ≡ true
       other false e ne = refl

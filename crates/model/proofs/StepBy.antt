@@ -46,7 +46,9 @@ module _ (t : Table) (b : Board) (i : ℕ) (v : Inv t b) where
   by-state : (x : State) → i < 32 → senderAt b i .state ≡ x → OutcomeOwes t b i (stateStep t b (senderAt b i) x)
   by-state idle l st = omega arith
   by-state (working w) l st =
-      let p = subst (StateOk t b (senderAt b i .own) (senderAt b i .waker) (senderAt b i .matched)) st (v .locals i .state-is) in
+      let p =
+      subst (StateOk t b (senderAt b i .own) (senderAt b i .waker) (senderAt b i .matched)) st
+      (v .locals i .state-is) in
       (l, by-phase w (w .phase) (record { inv = v; state = st; phase = refl; own-some = p .0; job = p .1 }))
   by-state blocked l st = by-signal (senderAt b i .signalled) l st
 

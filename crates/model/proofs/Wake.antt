@@ -74,7 +74,8 @@ module _ {t : Table} {b : Board} {i : ℕ} {w : Job} (c : AtWork t b i w wake) w
     holds : (u : Bool) → leb 2 (length (w .chosen)) ≡ u
         → HoldingKept t (turn n (wakes-by (w .subject))) (working w) (working (inPhase w (pick u (free 0) signal)))
     holds true z =
-        drop-place t w _ wake (free 0) (c .phase) refl refl refl _ (firstSync t (w .chord)) (λ m x. x) (λ m x. x) refl fw
+        drop-place t w _ wake (free 0) (c .phase) refl refl refl _ (firstSync t (w .chord)) (λ m x. x)
+        (λ m x. x) refl fw
         (λ j x. (x .2, x .0)) (λ j x ne. (ne, low j ne (skipped (firstSync t (w .chord)) 0), x))
         (λ j x y. to .full .selection .one j (firstSync t (w .chord)) x fw y)
       where
@@ -85,7 +86,8 @@ module _ {t : Table} {b : Board} {i : ℕ} {w : Job} (c : AtWork t b i w wake) w
         low j ne (inl x) = omega (arith, x .1)
         low j ne (inr x) = omega (arith, x .1, x .0)
     holds false z =
-        last-drop t _ w _ wake (c .phase) (firstSync t (w .chord)) (λ m x. x) (λ m x. x) refl fw (λ j x. omega (tests, fw))
+        last-drop t _ w _ wake (c .phase) (firstSync t (w .chord)) (λ m x. x) (λ m x. x) refl fw
+        (λ j x. omega (tests, fw))
         (λ m x. x .held)
 
     on : (u : Bool) → signalling (pick u (free 0) signal) ≡ true
@@ -109,7 +111,9 @@ module _ {t : Table} {b : Board} {i : ℕ} {w : Job} (c : AtWork t b i w wake) w
       matches = no-consume b i s w wake (c .state) (c .phase) refl refl;
       owners = λ x. keeps-job t b i s _ refl refl refl
           (λ m y. absurd (no-rouse t b i w (c .state) wake (c .phase) refl m y)) (λ m h y. (on many, ap turnOf y));
-      obligation = λ q ns x. go-on x w (c .state) refl _ refl refl refl refl (λ a y. inr (by-noted n (w .subject) (now .0) (now .1) a));
+      obligation =
+          λ q ns x. go-on x w (c .state) refl _ refl refl refl refl
+          (λ a y. inr (by-noted n (w .subject) (now .0) (now .1) a));
       recorded = no-record t b s refl;
       answering = job-answers t b i w (c .state) s _ wake (c .phase) refl refl refl refl refl;
     }
@@ -139,7 +143,8 @@ module _ {t : Table} {b : Board} {i : ℕ} {w : Job} {k : ℕ} (c : AtWork t b i
   held-now (inl x) = (λ z. omega (arith, x .0, x .1, z), omega arith, omega (arith, x .1, more-chosen))
   held-now (inr x) = (λ z. omega (arith, x .0, x .1, z), omega arith, omega (arith, x .1, more-chosen))
 
-  only : Skips k → suc (suc k) ≡ length (w .chosen) → (j : ℕ) → Held t (w .chord) (free k) (length (w .chosen)) j → j ≡ skip first k
+  only : Skips k → suc (suc k) ≡ length (w .chosen) → (j : ℕ) → Held t (w .chord) (free k) (length (w .chosen)) j
+      → j ≡ skip first k
   only (inl x) z j y = omega (arith, x .0, x .1, z, y .0, y .1, y .2, first-in)
   only (inr x) z j y = omega (arith, x .0, x .1, z, y .0, y .1, y .2, first-in)
 
@@ -166,7 +171,9 @@ module _ {t : Table} {b : Board} {i : ℕ} {w : Job} {k : ℕ} (c : AtWork t b i
     }
 
     puts-back : Turns b (getD (w .chosen) (skip first k) 0) frees
-    puts-back = drops c frees refl (skip first k) (held-now (skipped first k)) (inside c to-free _ (held-now (skipped first k) .2))
+    puts-back =
+        drops c frees refl (skip first k) (held-now (skipped first k))
+        (inside c to-free _ (held-now (skipped first k) .2))
 
     placed-on : (u : Bool) → eqb (suc (suc k)) (length (w .chosen)) ≡ u
         → PlacedAt t b (w .subject) (w .chord) (w .chosen) (w .retry) (pick u signal (free (suc k)))
@@ -174,13 +181,15 @@ module _ {t : Table} {b : Board} {i : ℕ} {w : Job} {k : ℕ} (c : AtWork t b i
     placed-on false z = (to-free, omega (tests, more-chosen, to-free .full .all))
 
     holds-on : (u : Bool) → eqb (suc (suc k)) (length (w .chosen)) ≡ u
-        → HoldingKept t (turn (getD (w .chosen) (skip first k) 0) frees) (working w) (working (inPhase w (pick u signal (free (suc k)))))
+        → HoldingKept t (turn (getD (w .chosen) (skip first k) 0) frees) (working w)
+        (working (inPhase w (pick u signal (free (suc k)))))
     holds-on true z =
         last-drop t _ w _ (free k) (c .phase) (skip first k) (λ m x. x) (λ m x. x) refl (held-now (skipped first k))
         (only (skipped first k) (omega tests)) (λ m x. x .held)
     holds-on false z =
         drop-place t w _ (free k) (free (suc k)) (c .phase) refl refl refl _ (skip first k) (λ m x. x) (λ m x. x) refl
-        (held-now (skipped first k)) (fewer (skipped first k) (skipped first (suc k))) (rest (skipped first k) (skipped first (suc k)))
+        (held-now (skipped first k)) (fewer (skipped first k) (skipped first (suc k)))
+        (rest (skipped first k) (skipped first (suc k)))
         (λ j x y. to-free .full .selection .one j (skip first k) (x .2) (held-now (skipped first k) .2) y)
 
     still-on : (u : Bool) → signalling (pick u signal (free (suc k))) ≡ true
@@ -195,8 +204,11 @@ module _ {t : Table} {b : Board} {i : ℕ} {w : Job} {k : ℕ} (c : AtWork t b i
       notes = tt;
       matches = no-consume b i s′ w (free k) (c .state) (c .phase) refl refl;
       owners = λ x. keeps-job t b i s′ _ refl refl refl
-          (λ m y. inl (still-on last, (subst (λ (z : State). WillSignal t z m) (c .state) y) .1)) (λ m h y. never (ap turn-wakes y));
-      obligation = λ q ns x. go-on x w (c .state) refl _ refl refl refl refl (λ a y. absurd (covered w q (free k) (c .phase) y));
+          (λ m y. inl (still-on last, (subst (λ (z : State). WillSignal t z m) (c .state) y) .1))
+          (λ m h y. never (ap turn-wakes y));
+      obligation =
+          λ q ns x.
+          go-on x w (c .state) refl _ refl refl refl refl (λ a y. absurd (covered w q (free k) (c .phase) y));
       recorded = no-record t b s′ refl;
       answering = job-answers t b i w (c .state) s′ _ (free k) (c .phase) refl refl refl refl refl;
     }
@@ -206,10 +218,12 @@ module _ {t : Table} {b : Board} {i : ℕ} {w : Job} {k : ℕ} (c : AtWork t b i
   free-owes = freed (eqb (suc (suc k)) (length (w .chosen))) refl
 
 -- `signalled N`
-pub signal-owes : {t : Table} {b : Board} {i : ℕ} {w : Job} → AtWork t b i w signal → Owes t b i (signal-step t b (senderAt b i) w)
+pub signal-owes : {t : Table} {b : Board} {i : ℕ} {w : Job} → AtWork t b i w signal
+    → Owes t b i (signal-step t b (senderAt b i) w)
 unfolding signal-step apply messagesAfter
 signal-owes {t} {b} {i} {w} c =
     job-ends c _ tt refl refl refl refl
-    (empty-hands t _ w _ signal (c .phase) (λ j x. x) refl (λ n x. ends-empty t (b .messages) (senderAt b i) (w .subject) n x))
+    (empty-hands t _ w _ signal (c .phase) (λ j x. x) refl
+    (λ n x. ends-empty t (b .messages) (senderAt b i) (w .subject) n x))
     (λ n x. ap signals ((subst (λ (z : State). WillSignal t z n) (c .state) x) .1))
     (λ q ns y a x. absurd (covered w q signal (c .phase) x))

@@ -1,4 +1,5 @@
--- What a step says: `matched` just where it records a match, and `answered` only to a blocked sender, with the match of its
+-- What a step says: `matched` just where it records a match, and `answered` only to a blocked sender, with the match
+-- of its
 -- own consumed message.
 
 -- where a match is recorded
@@ -46,7 +47,8 @@ module _ (t : Table) (b : Board) (d : Sender) (w : Job) where
   ended-speaks false = (refl, refl)
 
   job-speaks : (p : Phase) → Speaks (job-step t b d w p)
-  unfolding look-step claim-step revert-step consume-step tell-step wake-step free-step signal-step pass-end-step backoff-step
+  unfolding look-step claim-step revert-step consume-step tell-step wake-step free-step signal-step
+      pass-end-step backoff-step
   job-speaks (look k) = looked-speaks k (choice t b w k)
   job-speaks (claim k) = claimed-speaks k _ (isPending (messageAt b (getD (w .chosen) k 0) .status))
       (eqb (suc k) (size t (w .chord))) (wakes t (w .chord) (channelOf b (w .subject))) (leb 1024 (length (b .matches)))
@@ -78,7 +80,9 @@ matched-said t b i = at (leb 32 i)
     resumes-said : (g : Bool) → MatchedSaid (blockedStep t b (senderAt b i) g)
     resumes-said false = tt
     resumes-said true =
-        let r = resume-record t b (senderAt b i) (senderAt b i .own - 1) (messageAt b (senderAt b i .own - 1) .status) in
+        let r =
+        resume-record t b (senderAt b i) (senderAt b i .own - 1) (messageAt b (senderAt b i .own - 1) .status)
+        in
         r .0 ∙ sym (r .1)
 
     by : (x : State) → MatchedSaid (stateStep t b (senderAt b i) x)
@@ -96,7 +100,8 @@ pub record Answers-own (b : Board) (i k : ℕ) : Type 0 where
   pub is-consumed : messageAt b (senderAt b i .own - 1) .status ≡ consumed
   pub match-is : k ≡ messageAt b (senderAt b i .own - 1) .match - 1
 
-pub answered-said : (t : Table) (b : Board) (i k : ℕ) → stepAnswer b i (stepBy t b i) .said ≡ Answered k → Answers-own b i k
+pub answered-said : (t : Table) (b : Board) (i k : ℕ) → stepAnswer b i (stepBy t b i) .said ≡ Answered k
+    → Answers-own b i k
 unfolding stepBy resume-step
 answered-said t b i k = at (leb 32 i)
   where

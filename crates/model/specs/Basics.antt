@@ -21,7 +21,8 @@ abbrev pub firstBy : (ℕ → Bool) → List ℕ → ℕ
 firstBy f [] = 0
 firstBy f (m ∷ ms) = elim (f m) [ true ↦ 0 | false ↦ suc (firstBy f ms) ]
 
--- 01, "Refused, by place": "In the order checked". Refusal n unless the test holds, else what is checked next; 0 is no refusal.
+-- 01, "Refused, by place": "In the order checked". Refusal n unless the test holds, else what is checked next; 0 is
+-- no refusal.
 abbrev pub unless : Bool → ℕ → ℕ → ℕ
 unless true n next = next
 unless false n next = n

@@ -14,7 +14,8 @@ use Rattle.model.specs.Boards.{Sent, Match, Sender, Board, messageAt, se
 use Rattle.model.specs.Effects.{Refused, Answered, refused}
 use Rattle.model.specs.Steps.{stepBy}
 use Rattle.model.specs.Sound.{sound}
-use Rattle.model.specs.Pools.{Call, adds, steps, answerTo, afterAll, history, quiet, MatchRead, matchReads, noRead, meets}
+use Rattle.model.specs.Pools.{Call, adds, steps, answerTo, afterAll, history, quiet, MatchRead, matchReads}
+use Rattle.model.specs.Pools.{noRead, meets}
 use Rattle.model.specs.Pools.{Pool, emptyPool, sentAt, ownOf, playedAll, centsAdded, centsMatched, timesHeld}
 
 -- The frame: what a call leaves as it was, on every board
@@ -49,12 +50,14 @@ pub record Frame : Type 0 where
   pub step : (t : Table) (b : Board) (i : ℕ) → Step-frame b (answerTo t b (steps i) .board) i
   pub add : (t : Table) (b : Board) (i : ℕ) (x : Sent) → Add-frame b (answerTo t b (adds i x) .board) i
   -- "a refusal returns the number only and leaves all as found"
-  pub refusal : (t : Table) (b : Board) (c : Call) (f : ℕ) → answerTo t b c .said ≡ Refused f → answerTo t b c .board ≡ b
+  pub refusal : (t : Table) (b : Board) (c : Call) (f : ℕ) → answerTo t b c .said ≡ Refused f
+      → answerTo t b c .board ≡ b
 
 -- "so that each desk's step would be refused 13"
 pub record Quiet-exactly : Type 0 where
   pub there : (t : Table) (b : Board) → quiet b ≡ true → (i : ℕ) → i < 32 → stepBy t b i ≡ refused 13
-  pub back : (t : Table) (b : Board) → length (b .senders) ≡ 32 → ((i : ℕ) → i < 32 → stepBy t b i ≡ refused 13) → quiet b ≡ true
+  pub back : (t : Table) (b : Board) → length (b .senders) ≡ 32 → ((i : ℕ) → i < 32 → stepBy t b i ≡ refused 13)
+      → quiet b ≡ true
 
 -- Demand 3
 
@@ -71,7 +74,8 @@ finalReads t rests cs = matchReads t (boardAfter t rests cs)
 abbrev pub poolOf : Table → List ℕ → List Call → Pool
 poolOf t rests cs = poolAfter t rests (finalReads t rests cs) cs
 
--- "the desk's own item is then of a waiting tray, and match K and no other holds it": sender i and match k, by the pool's record
+-- "the desk's own item is then of a waiting tray, and match K and no other holds it": sender i and match k, by the
+-- pool's record
 pub record Holds-own (t : Table) (p : Pool) (ms : List MatchRead) (i k : ℕ) : Type 0 where
   pub message : ℕ
   pub own : ownOf p i ≡ suc message

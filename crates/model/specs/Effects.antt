@@ -4,9 +4,11 @@ use mathlib.Core.List.{List, [], _∷_, _++_, map}
 use Prim.Native.Nat.{ℕ, zero, suc}
 use lib.Dec.{eqb}
 use lib.ListN.{getD, set}
-use Rattle.model.specs.Boards.{Status, pending, claimed, woken, consumed, Message, Match, Sender, Board, noMessage, isIdle}
+use Rattle.model.specs.Boards.{Status, pending, claimed, woken, consumed, Message, Match, Sender, Board}
+use Rattle.model.specs.Boards.{noMessage, isIdle}
 
--- "Each step answers one of the words in `code`, some with an item or match number"; an add answers `item N`; or the refusal.
+-- "Each step answers one of the words in `code`, some with an item or match number"; an add answers `item N`; or the
+-- refusal.
 pub data Said : Type 0 where
   Item Looked Claimed Lost Reverted Matched Consumed Told Woke Freed Signalled Answered Refused : ℕ → Said
   Missed Again Ended Rested Resumed : Said
@@ -110,7 +112,8 @@ turned τ x = record {
   waker = wakerAfter τ (x .waker);
 }
 
--- What a step does beside altering its own sender: nothing; message n turns; match m is recorded with the last claim, of n;
+-- What a step does beside altering its own sender: nothing; message n turns; match m is recorded with the last claim,
+-- of n;
 -- message n's sender is signalled.
 pub data Change : Type 0 where
   none : Change

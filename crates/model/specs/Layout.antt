@@ -1,4 +1,5 @@
--- Table bytes (01, "Table bytes"): refusals 1 to 7 in their order, the table read and written, a chord's channels as a part.
+-- Table bytes (01, "Table bytes"): refusals 1 to 7 in their order, the table read and written, a chord's channels as
+-- a part.
 use mathlib.Core.Path.{_≡_}
 use mathlib.Core.Bool.{Bool, true, false, _&&_}
 use mathlib.Core.List.{List, [], _∷_, _++_}
@@ -50,7 +51,8 @@ memberBytes s = drop (membersStart (countT s) (countR s)) s
 unfoldable pub kindsOk : List ℕ → Bool
 kindsOk ks = every (λ k. leb k 1) ks
 
--- "A rule is a u16 (its first member's index), a u8 (member count, 1 to 8) and a u8 (1: .. equal property numbers; 0: any)."
+-- "A rule is a u16 (its first member's index), a u8 (member count, 1 to 8) and a u8 (1: .. equal property numbers; 0:
+-- any)."
 unfoldable pub chordOk : ℕ → List ℕ → Bool
 chordOk next s = eqb (word 0 s) next && (leb 1 (getD s 2 0) && (leb (getD s 2 0) 8 && leb (getD s 3 0) 1))
 
@@ -81,7 +83,8 @@ tableRefusal s =
 abbrev pub chordsFrom : ℕ → List ℕ → List ℕ → List Chord
 chordsFrom zero s ms = []
 chordsFrom (suc n) s ms =
-    record { channels = take (getD s 2 0) ms; equal = eqb (getD s 3 0) 1 } ∷ chordsFrom n (drop 4 s) (drop (getD s 2 0) ms)
+    record { channels = take (getD s 2 0) ms; equal = eqb (getD s 3 0) 1 } ∷ chordsFrom n (drop 4 s)
+    (drop (getD s 2 0) ms)
 
 unfoldable pub tableOf : List ℕ → Table
 tableOf s = record { kinds = kindBytes s; chords = chordsFrom (countR s) (chordBytes s) (memberBytes s) }

@@ -7,7 +7,8 @@ use lib.Dec.{eqb, ltb}
 use lib.ListN.{length, getD, set, replicate}
 use Rattle.model.specs.Basics.{pick, isIn, every}
 use Rattle.model.specs.Tables.{Chord, Table, chordAt}
-use Rattle.model.specs.Boards.{Sent, noSent, Match, State, idle, working, blocked, Sender, Board, messageAt, emptyBoard}
+use Rattle.model.specs.Boards.{Sent, noSent, Match, State, idle, working, blocked, Sender, Board, messageAt}
+use Rattle.model.specs.Boards.{emptyBoard}
 use Rattle.model.specs.Boards.{amount, centsOf}
 use Rattle.model.specs.Effects.{Said, Item, Refused, wordOf, valueOf, Effect, apply, Outcome, refused, does}
 use Rattle.model.specs.Steps.{alike, stepBy}
@@ -77,7 +78,8 @@ matchReads t b = map (readMatch t b) (b .matches)
 abbrev pub noRead : MatchRead
 noRead = record { chord = 0; messages = []; cents = pos 0 }
 
--- "Items meet a rule if they are distinct, one of its tray for each member in order, with equal property numbers where wanted"
+-- "Items meet a rule if they are distinct, one of its tray for each member in order, with equal property numbers
+-- where wanted"
 
 abbrev pub distinct : List ℕ → Bool
 distinct [] = true
@@ -93,7 +95,8 @@ unfoldable pub meets : Chord → (ℕ → Sent) → List ℕ → Bool
 meets r sent ns =
     distinct ns && (channelsMeet sent (r .channels) ns && every (λ n. alike r (sent (getD ns 0 0)) (sent n)) ns)
 
--- "The pool is a plain set of items": those sent so far by number, the numbers inside, and each sender's own message plus 1.
+-- "The pool is a plain set of items": those sent so far by number, the numbers inside, and each sender's own message
+-- plus 1.
 -- good: every exchange so far was as the pool wants it.
 pub record Pool : Type 0 where
   pub sent : List Sent
@@ -111,7 +114,8 @@ sentAt xs n = getD xs n noSent
 abbrev pub ownOf : Pool → ℕ → ℕ
 ownOf p i = getD (p .own) i 0
 
--- "N is the number of items added before. The item goes in with the call's tray, property and cents, and is now the desk's own."
+-- "N is the number of items added before. The item goes in with the call's tray, property and cents, and is now the
+-- desk's own."
 abbrev pub enters : ℕ → Sent → Pool → ℕ → Bool → Pool
 enters i x p n false = p
 enters i x p n true = record {
@@ -128,7 +132,8 @@ sameZ (pos a) (negsuc b) = false
 sameZ (negsuc a) (pos b) = false
 sameZ (negsuc a) (negsuc b) = eqb a b
 
--- "K is the number of matches before. Match K reads a rule of the table, items that are all in the pool and meet it, and the
+-- "K is the number of matches before. Match K reads a rule of the table, items that are all in the pool and meet it,
+-- and the
 -- cents of a match of them."
 unfoldable pub fair : Table → List MatchRead → Pool → ℕ → MatchRead → Bool
 fair t ms p k m =

@@ -6,8 +6,10 @@ use lib.Dec.{eqb, ltb, leb}
 use lib.ListN.{length, getD}
 use Rattle.model.specs.Basics.{isIn, every}
 use Rattle.model.specs.Tables.{Table, chordAt, size, wakes}
-use Rattle.model.specs.Boards.{Status, pending, claimed, woken, consumed, Message, Match, Phase, look, claim, revert}
-use Rattle.model.specs.Boards.{consume, tell, wake, free, signal, pass-end, backoff, Job, State, idle, working, blocked}
+use Rattle.model.specs.Boards.{Status, pending, claimed, woken, consumed, Message, Match, Phase, look, claim}
+use Rattle.model.specs.Boards.{revert}
+use Rattle.model.specs.Boards.{consume, tell, wake, free, signal, pass-end, backoff, Job, State, idle, working}
+use Rattle.model.specs.Boards.{blocked}
 use Rattle.model.specs.Boards.{Sender, Board, channelOf, isIdle}
 use Rattle.model.specs.Steps.{toTell}
 use Rattle.model.specs.Adds.{centsOk}
@@ -41,7 +43,8 @@ atChord t b w c =
 abbrev pub toWake : Table → Board → Job → Bool
 toWake t b w = wakes t (w .chord) (channelOf b (w .subject))
 
--- "the place being one that the steps have for that rule and hand: none waking where the rule names no waiting tray, none
+-- "the place being one that the steps have for that rule and hand: none waking where the rule names no waiting tray,
+-- none
 -- telling where no waiting item is left to tell"
 abbrev pub placeOk : Table → Board → Job → Phase → Bool
 placeOk t b w (look k) = atChord t b w k && ltb k (size t (w .chord))
@@ -51,7 +54,8 @@ placeOk t b w (consume k m) =
     atChord t b w (size t (w .chord)) && (ltb k (size t (w .chord)) &&
     (leb 1 m && (leb m (length (b .matches)) && not (toWake t b w))))
 placeOk t b w (tell k) =
-    atChord t b w (size t (w .chord)) && (ltb k (length (toTell t (b .messages) (w .subject) (w .chosen))) && not (toWake t b w))
+    atChord t b w (size t (w .chord))
+    && (ltb k (length (toTell t (b .messages) (w .subject) (w .chosen))) && not (toWake t b w))
 placeOk t b w wake = atChord t b w (size t (w .chord)) && toWake t b w
 placeOk t b w (free k) = atChord t b w (size t (w .chord)) && (toWake t b w && ltb (suc k) (size t (w .chord)))
 placeOk t b w signal = atChord t b w (size t (w .chord)) && toWake t b w

@@ -1,4 +1,5 @@
--- Steps (01, "The steps"). Each test's outcome is an argument of a helper by clauses, so that a proof goes by the same clauses.
+-- Steps (01, "The steps"). Each test's outcome is an argument of a helper by clauses, so that a proof goes by the
+-- same clauses.
 use mathlib.Core.Bool.{Bool, true, false, _&&_, _||_, not}
 use mathlib.Core.List.{List, [], _∷_, _++_}
 use Prim.Native.Nat.{ℕ, zero, suc, _-_}
@@ -6,17 +7,29 @@ use lib.Dec.{eqb, ltb, leb}
 use lib.ListN.{length, getD}
 use Rattle.model.specs.Basics.{pick, isIn, firstBy}
 use Rattle.model.specs.Tables.{Chord, Table, chordAt, size, channelAt, isSync, firstSync, wakes, naming}
-use Rattle.model.specs.Boards.{Status, pending, claimed, woken, consumed, Sent, Message, Match, Phase, look, claim, revert}
-use Rattle.model.specs.Boards.{consume, tell, wake, free, signal, pass-end, backoff, Job, State, idle, working, blocked}
+use Rattle.model.specs.Boards.{Status, pending, claimed, woken, consumed, Sent, Message, Match, Phase, look}
+use Rattle.model.specs.Boards.{claim, revert}
+use Rattle.model.specs.Boards.{consume, tell, wake, free, signal, pass-end, backoff, Job, State, idle, working}
+use Rattle.model.specs.Boards.{blocked}
 use Rattle.model.specs.Boards.{Sender, Board, noMessage, messageAt, senderAt, channelOf, backoffAt}
 use Rattle.model.specs.Boards.{isPending, isClaimed, isConsumed, isOpen}
-use Rattle.model.specs.Effects.{Said, Looked, Claimed, Lost, Reverted, Matched, Consumed, Told, Woke, Freed, Signalled}
-use Rattle.model.specs.Effects.{Answered, Missed, Again, Ended, Rested, Resumed, claims, frees, resumes, consumes, wakes-by}
-use Rattle.model.specs.Effects.{Change, none, turn, records, signals, messagesAfter, Effect, Outcome, refused, does}
+use Rattle.model.specs.Effects.{Said, Looked, Claimed, Lost, Reverted, Matched, Consumed, Told, Woke, Freed}
+use Rattle.model.specs.Effects.{Signalled}
+use Rattle.model.specs.Effects.{Answered, Missed, Again, Ended, Rested, Resumed, claims, frees, resumes}
+use Rattle.model.specs.Effects.{consumes, wakes-by}
+use Rattle.model.specs.Effects.{Change, none, turn, records, signals, messagesAfter, Effect, Outcome, refused}
+use Rattle.model.specs.Effects.{does}
 
 -- records anew with one field, or two, altered
 abbrev pub inState : Sender → State → Bool → Sender
-inState d s g = record { state = s; signalled = g; own = d .own; waker = d .waker; reply = d .reply; matched = d .matched }
+inState d s g = record {
+  state = s;
+  signalled = g;
+  own = d .own;
+  waker = d .waker;
+  reply = d .reply;
+  matched = d .matched;
+}
 
 abbrev pub inJob : Sender → Job → Sender
 inJob d w = inState d (working w) (d .signalled)
@@ -95,17 +108,21 @@ someClaimed r channel s is = someMessage (λ x. fits r channel s x && isClaimed 
 abbrev pub subjectPlace : Table → Board → ℕ → ℕ → ℕ
 subjectPlace t b h r = firstBy (eqb (channelOf b h)) (chordAt t r .channels)
 
--- "The item in hand fills the first member of its tray, whatever its status .. Any other member takes the lowest-numbered
+-- "The item in hand fills the first member of its tray, whatever its status .. Any other member takes the
+-- lowest-numbered
 -- pending item": what a look takes for member k, its number plus 1, 0 for none
 unfoldable pub choice : Table → Board → Job → ℕ → ℕ
 choice t b w k =
     pick (eqb (subjectPlace t b (w .subject) (w .chord)) k) (suc (w .subject))
-    (lowest (isFree (chordAt t (w .chord)) (channelAt t (w .chord) k) (messageAt b (w .subject) .sent) (w .chosen)) 0 (b .messages))
+    (lowest
+    (isFree (chordAt t (w .chord)) (channelAt t (w .chord) k) (messageAt b (w .subject) .sent) (w .chosen)) 0
+    (b .messages))
 
 -- "If there is none: `missed` .. the retry mark is set"
 abbrev pub missedRetry : Table → Board → Job → ℕ → Bool
 missedRetry t b w k =
-    w .retry || someClaimed (chordAt t (w .chord)) (channelAt t (w .chord) k) (messageAt b (w .subject) .sent) (b .messages)
+    w .retry || someClaimed (chordAt t (w .chord)) (channelAt t (w .chord) k) (messageAt b (w .subject) .sent)
+    (b .messages)
 
 abbrev pub lookedBy : Table → Board → Sender → Job → ℕ → ℕ → Effect
 lookedBy t b d w k zero =
@@ -113,7 +130,9 @@ lookedBy t b d w k zero =
 lookedBy t b d w k (suc n) = record {
   said = Looked n;
   change = none;
-  sender = inJob d (withChosen w (w .chosen ++ (n ∷ [])) (pick (eqb (suc k) (size t (w .chord))) (claim 0) (look (suc k))));
+  sender =
+      inJob d
+      (withChosen w (w .chosen ++ (n ∷ [])) (pick (eqb (suc k) (size t (w .chord))) (claim 0) (look (suc k))));
 }
 
 unfoldable pub look-step : Table → Board → Sender → Job → ℕ → Effect
@@ -166,7 +185,14 @@ revert-step t b d w k m =
 -- A job's end, on the messages as the step leaves them
 
 abbrev pub goesIdle : Sender → ℕ → Sender
-goesIdle d l = record { state = idle; signalled = false; own = d .own; waker = d .waker; reply = l; matched = d .matched }
+goesIdle d l = record {
+  state = idle;
+  signalled = false;
+  own = d .own;
+  waker = d .waker;
+  reply = l;
+  matched = d .matched;
+}
 
 -- "Otherwise it goes idle with the match on its slip if it matched its own item, or else it blocks."
 abbrev pub matchedEnd : Sender → ℕ → Sender
@@ -190,7 +216,8 @@ endsBy t is d h true = syncEnd t is d h (d .waker)
 unfoldable pub job-end : Table → List Message → Sender → ℕ → Sender
 job-end t is d h = endsBy t is d h (isSync t (getD is (d .own - 1) noMessage .sent .channel))
 
--- A recorded match: "`consumed N` for each member in order, .. then `told N` for each waiting item other than the hand, in order"
+-- A recorded match: "`consumed N` for each member in order, .. then `told N` for each waiting item other than the
+-- hand, in order"
 
 abbrev pub withMatched : Bool → Sender → ℕ → Sender
 withMatched true d m = record {
@@ -224,7 +251,11 @@ consume-step t b d w k m =
     let n = getD (w .chosen) k 0 in
     let is = messagesAfter (turn n (consumes m)) (b .messages) in
     let e = withMatched (eqb (suc n) (d .own)) d m in
-    record { said = Consumed n; change = turn n (consumes m); sender = consumedTo t is e w k m (eqb (suc k) (length (w .chosen))) }
+    record {
+      said = Consumed n;
+      change = turn n (consumes m);
+      sender = consumedTo t is e w k m (eqb (suc k) (length (w .chosen)));
+    }
 
 abbrev pub toldTo : Table → List Message → Sender → Job → ℕ → Bool → Sender
 toldTo t is d w k false = inJob d (inPhase w (tell (suc k)))
@@ -236,7 +267,8 @@ tell-step t b d w k =
     let n = getD ns k 0 in
     record { said = Told n; change = signals n; sender = toldTo t (b .messages) d w k (eqb (suc k) (length ns)) }
 
--- A wake: "`woke N`: the first member of a waiting tray becomes woken and notes the hand as its waker; `freed N`: each other
+-- A wake: "`woke N`: the first member of a waiting tray becomes woken and notes the hand as its waker; `freed N`:
+-- each other
 -- member in order becomes pending; `signalled N` sets the woken item's signal"
 
 unfoldable pub wokenOf : Table → Job → ℕ
@@ -302,7 +334,8 @@ job-step t b d w signal = signal-step t b d w
 job-step t b d w pass-end = pass-end-step t b d w
 job-step t b d w (backoff rests) = backoff-step t b d w rests
 
--- "A blocked desk with a signal steps: signal cleared": `answered`, `resumed`, or "if neither .. `ended`, and it stays blocked"
+-- "A blocked desk with a signal steps: signal cleared": `answered`, `resumed`, or "if neither .. `ended`, and it
+-- stays blocked"
 
 -- "the item is pending, its noted waker becomes the desk's waker, a new job on the item begins"
 abbrev pub resumed : Table → Board → Sender → ℕ → Sender
