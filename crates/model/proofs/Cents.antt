@@ -1,6 +1,4 @@
 -- Sums of cents: over numbers that leave a list, and over lists that grow.
-
--- taking out
 use mathlib.Core.Path.{_≡_, refl, sym, ap, _∙_, subst}
 use mathlib.Core.Logic.{_⊎_, inl, inr}
 use mathlib.Core.Bool.{false, Bool, _||_, true, not}
@@ -17,6 +15,8 @@ use Rattle.model.specs.Boards.{Sent, centsOf, amount, Match, Board, mess
 use Rattle.model.specs.Pools.{without, distinct, centsAdded, centsMatched, readMatch}
 use Rattle.model.proofs.Tests.{neither, either, never, both, and}
 use Rattle.model.proofs.PoolLaws.{without-distinct, without-in}
+
+-- taking out
 
 without-none : (y : ℕ) (xs : List ℕ) → isIn y xs ≡ false → without (y ∷ []) xs ≡ xs
 without-none y [] e = refl

@@ -16,6 +16,7 @@ use Rattle.model.specs.Boards.{Sent, Board, Job, messageAt, isPending, M
 use Rattle.model.specs.Steps.{alike, isFree, choice, subjectPlace, fits, someClaimed}
 use Rattle.model.proofs.Tests.{same?, both}
 use Rattle.model.proofs.Lists.{lowest-none, lowest-at, first-passes, first-before, not-in, none-of}
+use Rattle.model.proofs.Passage.{on-board}
 use Rattle.model.proofs.Local.{Selection}
 
 -- alike, by its two laws

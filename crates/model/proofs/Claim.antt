@@ -10,23 +10,21 @@ use native.Mathlib.Omega.{arith}
 use Rattle.model.specs.Basics.{isIn}
 use Rattle.model.specs.Tables.{Table, size, wakes, isSync}
 use Rattle.model.specs.Boards.{Board, Job, claim, senderAt, revert, isPending, messageAt, wake, channelOf}
-use Rattle.model.specs.Boards.{Match, consume, State, isIdle}
+use Rattle.model.specs.Boards.{Match, consume}
 use Rattle.model.specs.Effects.{none, claims, Effect, apply, records, Change}
 use Rattle.model.specs.Steps.{loses, claimsTo, fires, inPhase, claimedBy, claim-step}
 use Rattle.model.proofs.Tests.{tests, never}
 use Rattle.model.proofs.Lists.{isIn-nth}
 use Rattle.model.proofs.Frame.{records-count, records-last}
-use Rattle.model.proofs.Grows.{Turns, is-pending, Grows, grows-after}
-use Rattle.model.proofs.Phases.{matchOf, still}
-use Rattle.model.proofs.Local.{Full, SenderKept, with-state, sender-on, JobAt, job-on}
-use Rattle.model.proofs.Obligation.{goes-on, Unmatched}
-use Rattle.model.proofs.Discharge.{subject-of, covers-retrying, covered, go-on, unmatched-of, full-subject}
-use Rattle.model.proofs.Trades.{empty-hands, pass-empty, keep-places, take-place}
-use Rattle.model.proofs.Matches.{WillConsume, WillConsumeIn, fresh-match, recorded}
-use Rattle.model.proofs.Owners.{plain}
-use Rattle.model.proofs.Answering.{no-eat, no-tell-now}
-use Rattle.model.proofs.Invariant.{Owes}
-use Rattle.model.proofs.AtWork.{AtWork, job-goes-on, pass-at, job-at, from-work}
+use Rattle.model.proofs.Grows.{Turns, is-pending, Grows}
+use Rattle.model.proofs.Phases.{matchOf}
+use Rattle.model.proofs.Local.{Full, SenderOk, with-state, sender-on, JobAt, job-on}
+use Rattle.model.proofs.Places.{none-held, pass-empty, keep-places, take-place}
+use Rattle.model.proofs.Matches.{WillConsumeIn, Unmatched, fresh-match}
+use Rattle.model.proofs.Covers.{subject-of, covers-retrying, covered, go-on, unmatched-of, full-subject}
+use Rattle.model.proofs.Invariant.{StepOwes}
+use Rattle.model.proofs.AtWork.{AtWork, job-goes-on, pass-at, job-at, grown, from-work, no-consume, job-owners}
+use Rattle.model.proofs.AtWork.{no-signal, not-waking, job-answer, no-tell-now}
 
 module _ {t : Table} {b : Board} {i : ℕ} {w : Job} {k : ℕ} (c : AtWork t b i w (claim k)) where
   full : Full t b (w .subject) (w .chord) (w .chosen)
@@ -35,16 +33,16 @@ module _ {t : Table} {b : Board} {i : ℕ} {w : Job} {k : ℕ} (c : AtWork t b i
   in-chosen : k < length (w .chosen)
   in-chosen = omega (arith, full .all, c .job .placed .1)
 
-  lost : (n : ℕ) → Owes t b i (loses t b (senderAt b i) w k n)
+  lost : (n : ℕ) → StepOwes t b i (loses t b (senderAt b i) w k n)
   lost n = go k c
     where
-      go : (k : ℕ) → AtWork t b i w (claim k) → Owes t b i (loses t b (senderAt b i) w k n)
+      go : (k : ℕ) → AtWork t b i w (claim k) → StepOwes t b i (loses t b (senderAt b i) w k n)
       go zero c = job-goes-on c _ tt _ refl refl refl refl (pass-at c _ _ _)
-          (empty-hands t _ w _ (claim 0) (c .phase) (λ j x. omega arith) refl (λ m x. pass-empty t _ _ _ _ _ m x))
+          (none-held _ _ _ refl (λ m x. omega (arith, x .held)) (λ m x. pass-empty t _ _ _ _ _ m x))
           (subject-of t (w .subject) _ _ _ _) (λ q ns y a x. inl (covers-retrying t (w .subject) _ _ _ q true refl))
       go (suc k) c =
           job-goes-on c _ tt _ refl refl refl refl (job-at c _ _ _ _ (full, omega arith, c .job .placed .1, refl))
-          (keep-places t w _ (claim (suc k)) (revert 0 (suc k)) (c .phase) refl refl refl none refl
+          (keep-places t (w .chord) (w .chosen) (claim (suc k)) (revert 0 (suc k)) none refl
           (λ j x. x .1) (λ j x. (omega arith, x)))
           refl (λ q ns y a x. inl (inl refl))
 
@@ -53,18 +51,18 @@ module _ {t : Table} {b : Board} {i : ℕ} {w : Job} {k : ℕ} (c : AtWork t b i
     takes = record { on-board = full .selection .inside k in-chosen; from = is-pending _ pend }
 
     claims-next : eqb (suc k) (size t (w .chord)) ≡ false
-        → Owes t b i (claimsTo (senderAt b i) w (getD (w .chosen) k 0) (claim (suc k)))
+        → StepOwes t b i (claimsTo (senderAt b i) w (getD (w .chosen) k 0) (claim (suc k)))
     claims-next e =
         job-goes-on c _ takes _ refl refl refl refl (job-at c _ _ _ _ (full, omega (tests, c .job .placed .1)))
-        (take-place t w _ (claim k) (claim (suc k)) (c .phase) refl refl refl _ k (λ n x. x) (λ n x. x) refl (omega arith)
+        (take-place t (w .chord) (w .chosen) (claim k) (claim (suc k)) _ k (refl, refl, refl) (omega arith)
         (λ j x ne. omega arith) (λ j x. omega arith))
         refl (λ q ns y a x. inl (covered w q (claim k) (c .phase) x))
 
     claims-all : eqb (suc k) (size t (w .chord)) ≡ true → wakes t (w .chord) (channelOf b (w .subject)) ≡ true
-        → Owes t b i (claimsTo (senderAt b i) w (getD (w .chosen) k 0) wake)
+        → StepOwes t b i (claimsTo (senderAt b i) w (getD (w .chosen) k 0) wake)
     claims-all e x =
         job-goes-on c _ takes _ refl refl refl refl (job-at c _ _ _ _ (record { full = full; to-wake = x }))
-        (take-place t w _ (claim k) wake (c .phase) refl refl refl _ k (λ n y. y) (λ n y. y) refl in-chosen
+        (take-place t (w .chord) (w .chosen) (claim k) wake _ k (refl, refl, refl) in-chosen
         (λ j y ne. omega (tests, full .all)) (λ j y. omega (arith, in-chosen)))
         refl (λ q ns y a z. inl tt)
 
@@ -79,29 +77,26 @@ module _ {t : Table} {b : Board} {i : ℕ} {w : Job} {k : ℕ} (c : AtWork t b i
       m = record { chord = w .chord; messages = w .chosen }
 
       g : Grows b (apply b i s)
-      g = grows-after b i s takes
+      g = grown c s takes
 
-      sender-kept : SenderKept t b i s
-      sender-kept = record {
-        lawful = takes;
-        in-order = with-state t (apply b i s) (senderAt b i) _ (senderAt b i .signalled)
-            (sender-on t b (apply b i s) g (senderAt b i) (c .inv .locals i)) (
-              c .own-some,
-              record {
-                subject-in = up .subject-in;
-                subject-is = up .subject-is;
-                placed = record {
-                  full = up .placed .0;
-                  at = omega (arith, c .job .placed .1);
-                  to-match = rw (g .kept (w .subject) (c .job .subject-in) .channel) no-wake;
-                  match-in = omega (arith, records-count b i s _ m refl);
-                  match = λ n z. rw (records-last b i s _ m refl n (omega arith));
-                  some = omega arith;
-                  done = λ j h. absurd (omega arith);
-                };
-              },
-            );
-      }
+      local : SenderOk t (apply b i s) (s .sender)
+      local = with-state t (apply b i s) (senderAt b i) _ (senderAt b i .signalled)
+          (sender-on t b (apply b i s) g (senderAt b i) (c .inv .locals i)) (
+            c .own-some,
+            record {
+              subject-in = up .subject-in;
+              subject-is = up .subject-is;
+              placed = record {
+                full = up .placed .0;
+                at = omega (arith, c .job .placed .1);
+                to-match = rw (g .kept (w .subject) (c .job .subject-in) .channel) no-wake;
+                match-in = omega (arith, records-count b i s _ m refl);
+                match = λ n z. rw (records-last b i s _ m refl n (omega arith));
+                some = omega arith;
+                done = λ j h. absurd (omega arith);
+              };
+            },
+          )
         where
           up : JobAt t (apply b i s) (senderAt b i .own) (senderAt b i .waker) w (claim k)
           up = job-on t b (apply b i s) g (senderAt b i .own) (senderAt b i .waker) w (claim k) (c .job)
@@ -137,41 +132,35 @@ module _ {t : Table} {b : Board} {i : ℕ} {w : Job} {k : ℕ} (c : AtWork t b i
       messages-of : {x : ℕ} {r : Match} → s .change ≡ records x r → w .chosen ≡ r .messages
       messages-of {x} {r} z = ap (λ (y : Change). matchOf r y .messages) z
 
-      fires-owes : Owes t b i (fires b (senderAt b i) w (getD (w .chosen) k 0))
+      fires-owes : StepOwes t b i (fires b (senderAt b i) w (getD (w .chosen) k 0))
       fires-owes = record {
-        local = sender-kept;
-        holding = from-work c _ _ (take-place t w _ (claim k) (consume 0 _) (c .phase) refl refl refl _ k (λ n x. x) (λ n x. x) refl
+        lawful = takes;
+        local = local;
+        holding = from-work c _ _ (take-place t (w .chord) (w .chosen) (claim k) (consume 0 _) _ k (refl, refl, refl)
             (omega arith, in-chosen) (λ j x ne. omega (tests, x .1, full .all)) (λ j x. (omega arith, omega (arith, in-chosen))));
         notes = tt;
         matches = record {
-          goes-on =
-              λ n x.
-              never (sym (ap still (sym (c .phase) ∙ (subst (λ (z : State). WillConsume z n) (c .state) x) .ph)));
+          goes-on = λ n x. absurd (no-consume c refl n x);
           begins = λ x r z n y. begins n (rw (← (messages-of z)) at y);
         };
-        owners = λ n. plain t b i w (c .state) _ _ (claim k) (c .phase) refl refl refl refl refl;
+        owners = λ n. job-owners c s takes _ refl refl refl (λ j x. absurd (no-signal c refl j x))
+            (λ j h x. absurd (not-waking (s .change) refl x));
         obligation = λ q ns x. go-on x w (c .state) refl _ refl refl refl refl (λ a z.
-            absurd (never (sym (unmatched-of x (w .subject) a (length (b .matches)) (omega (arith, records-count b i s _ m refl)))
-            ∙ ap (λ (r : Match). isIn (w .subject) (r .messages))
-            (records-last b i s _ m refl (length (b .matches)) refl)
-            ∙ full-subject t b (w .subject) (w .chord) (w .chosen) full)));
+            never (sym (unmatched-of x (w .subject) a (length (b .matches)) (omega (arith, records-count b i s _ m refl)))
+            ∙ ap (λ (r : Match). isIn (w .subject) (r .messages)) (records-last b i s _ m refl (length (b .matches)) refl)
+            ∙ full-subject t b (w .subject) (w .chord) (w .chosen) full));
+        answering = record {
+          own = λ n o o′. job-answer c s takes _ refl refl refl n (λ z. z) (λ x. absurd (no-consume c refl n x));
+          tells-on = λ n l wt x. absurd (no-tell-now c refl n x);
+          tells-new = λ x r z n p wt ne. (rw (← (messages-of z)) at p, not-subject n wt ne (c .job .subject-is));
+        };
         recorded = record {
           number = λ x r z. refl;
-          subject =
-              λ x r z. (
-                w .subject,
-                subst (λ (y : Match). Full t b (w .subject) (y .chord) (y .messages)) (ap (matchOf r) z) full,
-              );
+          subject = λ x r z. (
+            w .subject,
+            subst (λ (y : Match). Full t b (w .subject) (y .chord) (y .messages)) (ap (matchOf r) z) full,
+          );
           room = λ x r z. leb-false _ _ room;
-        };
-        answering = record {
-          not-idle = ap isIdle (c .state);
-          goes-idle = λ z. never z;
-          match-kept = λ z. z;
-          signal-kept = λ z q x. q;
-          consumes-on = λ x. absurd (no-eat t b i w (c .state) (claim k) (c .phase) refl _ x);
-          tells-on = λ n l wt x. absurd (no-tell-now t b i w (c .state) (claim k) (c .phase) refl n x);
-          tells-new = λ x r z n p wt ne. (rw (← (messages-of z)) at p, not-subject n wt ne (c .job .subject-is));
         };
       }
 
@@ -180,13 +169,13 @@ module _ {t : Table} {b : Board} {i : ℕ} {w : Job} {k : ℕ} (c : AtWork t b i
       → eqb (suc k) (size t (w .chord)) ≡ last
       → wakes t (w .chord) (channelOf b (w .subject)) ≡ wk
       → leb 1024 (length (b .matches)) ≡ full
-      → Owes t b i (claimedBy t b (senderAt b i) w k (getD (w .chosen) k 0) pend last wk full)
+      → StepOwes t b i (claimedBy t b (senderAt b i) w k (getD (w .chosen) k 0) pend last wk full)
   claimed false last wk full p l x r = lost _
   claimed true false wk full p l x r = claims-next p l
   claimed true true true full p l x r = claims-all p l x
   claimed true true false true p l x r = lost _
   claimed true true false false p l x r = fires-owes p l x r
 
-  pub claim-owes : Owes t b i (claim-step t b (senderAt b i) w k)
+  pub claim-owes : StepOwes t b i (claim-step t b (senderAt b i) w k)
   unfolding claim-step
   claim-owes = claimed _ _ _ _ refl refl refl refl

@@ -11,8 +11,8 @@ use lib.ListN.{getD, length}
 use native.Mathlib.Omega.{arith}
 use Rattle.model.specs.Basics.{isIn}
 use Rattle.model.specs.Tables.{Table, isSync}
-use Rattle.model.specs.Boards.{Board, Job, consume, Sender, messageAt, consumed, senderAt, matchAt, State}
-use Rattle.model.specs.Boards.{Phase, working, tell, channelOf, isIdle}
+use Rattle.model.specs.Boards.{Board, Job, consume, Sender, messageAt, consumed, senderAt, matchAt, signal}
+use Rattle.model.specs.Boards.{State, Phase, working, tell, channelOf, idleSender, idle}
 use Rattle.model.specs.Effects.{consumes, Effect, Consumed, turn, apply}
 use Rattle.model.specs.Steps.{withMatched, inJob, inPhase, toTell, job-end, consumedTo, consumedEnd}
 use Rattle.model.specs.Steps.{consume-step}
@@ -20,20 +20,19 @@ use Rattle.model.proofs.Tests.{same?, tests, never}
 use Rattle.model.proofs.Lists.{nth-isIn, isIn-nth}
 use Rattle.model.proofs.Words.{isRecord}
 use Rattle.model.proofs.Frame.{messages-at}
-use Rattle.model.proofs.Grows.{Turns, Grows, grows-after}
+use Rattle.model.proofs.Grows.{Turns, Grows}
 use Rattle.model.proofs.Phases.{consumeAt}
-use Rattle.model.proofs.Local.{AtConsume, JobAt, job-on, SenderOk, sender-on, StateOk, PlacedAt, SenderKept}
-use Rattle.model.proofs.Local.{with-state, ends-ok}
-use Rattle.model.proofs.Holding.{Holds}
+use Rattle.model.proofs.Local.{AtConsume, JobAt, job-on, SenderOk, sender-on, StateOk, PlacedAt, with-state}
+use Rattle.model.proofs.Local.{ends-ok}
+use Rattle.model.proofs.Holding.{HoldingKept, HoldsAt, Holds}
+use Rattle.model.proofs.Places.{drop-place, last-drop, ends-empty}
 use Rattle.model.proofs.Notes.{NotesKept}
-use Rattle.model.proofs.Discharge.{go-on, covered, end-it}
-use Rattle.model.proofs.Hands.{HoldingKept}
-use Rattle.model.proofs.Trades.{drop-place, last-drop, ends-empty}
-use Rattle.model.proofs.Matches.{WillConsume, WillConsumeIn, MatchesKept, recorded}
-use Rattle.model.proofs.Owners.{plain, plain-end}
-use Rattle.model.proofs.Answering.{WillTell, WillTellAt, in-tell, ends-more}
-use Rattle.model.proofs.Invariant.{Owes, no-record}
-use Rattle.model.proofs.AtWork.{AtWork, drops, from-work}
+use Rattle.model.proofs.Matches.{WillConsume, WillConsumeIn}
+use Rattle.model.proofs.Covers.{go-on, covered, end-it}
+use Rattle.model.proofs.Answering.{WillTell, WillTellAt, in-tell}
+use Rattle.model.proofs.Invariant.{StepOwes, no-record}
+use Rattle.model.proofs.AtWork.{AtWork, drops, grown, from-work, job-owners, no-signal, not-waking, job-answer}
+use Rattle.model.proofs.AtWork.{end-owners, end-answer}
 
 module _ {t : Table} {b : Board} {i : ℕ} {w : Job} {k m : ℕ} (c : AtWork t b i w (consume k m)) where
   p : AtConsume t b (w .subject) (w .chord) (w .chosen) k m
@@ -57,7 +56,7 @@ module _ {t : Table} {b : Board} {i : ℕ} {w : Job} {k m : ℕ} (c : AtWork t b
     b′ = apply b i s
 
     g : Grows b b′
-    g = grows-after b i s takes
+    g = grown c s takes
 
     now-is : (messageAt b′ n .status ≡ consumed) × (messageAt b′ n .match ≡ m)
     now-is = rw (messages-at b i s n (takes .on-board), eq-eqb n n refl) (refl, refl)
@@ -144,18 +143,15 @@ module _ {t : Table} {b : Board} {i : ℕ} {w : Job} {k m : ℕ} (c : AtWork t b
 
       -- the job goes on in another phase
       job-in : (r : Phase) → x ≡ inJob d (inPhase w r)
-          → PlacedAt t b′ (w .subject) (w .chord) (w .chosen) (w .retry) r → SenderKept t b i s
-      job-in r e y = record {
-        lawful = takes;
-        in-order = subst⁻¹ (SenderOk t b′) e (with-state t b′ d (working (inPhase w r)) (d .signalled) d-ok (
-          rw (same-own u) (c .own-some),
-          record {
-            subject-in = up .subject-in;
-            subject-is = rw (same-own u, same-waker u) (c .job .subject-is);
-            placed = y;
-          },
-        ));
-      }
+          → PlacedAt t b′ (w .subject) (w .chord) (w .chosen) (w .retry) r → SenderOk t b′ x
+      job-in r e y = subst⁻¹ (SenderOk t b′) e (with-state t b′ d (working (inPhase w r)) (d .signalled) d-ok (
+        rw (same-own u) (c .own-some),
+        record {
+          subject-in = up .subject-in;
+          subject-is = rw (same-own u, same-waker u) (c .job .subject-is);
+          placed = y;
+        },
+      ))
 
       -- what this sender has yet to consume: it is consumed now, or still to be
       goes-on : (r : Sender)
@@ -184,149 +180,143 @@ module _ {t : Table} {b : Board} {i : ℕ} {w : Job} {k m : ℕ} (c : AtWork t b
           let r = tells y z in
           in-tell t (b′ .messages) (w .subject) y (w .chosen) (r .0) (rw (g .kept y l .channel) wt) (r .1)
 
-      module _ (f : (j : ℕ) → suc k ≤ j → j < length (w .chosen) → WillConsume (x .state) (getD (w .chosen) j 0)) where
-        matches-kept : MatchesKept b i s
-        matches-kept = record { goes-on = λ y z. at y (goes-on x f y z); begins = λ y r z. never (ap isRecord z) }
-          where
-            at : (y : ℕ) → (n ≡ y) ⊎ WillConsume (x .state) y
-                → (messageAt b′ y .status ≡ consumed) ⊎ WillConsume (x .state) y
-            at y (inl e) = inl (subst (λ (q : ℕ). messageAt b′ q .status ≡ consumed) e (now-is .0))
-            at y (inr e) = inr e
+      -- the sender goes on with the job in phase r, in which it will consume what is left
+      module _ (r : Phase) (e : x ≡ inJob d (inPhase w r))
+          (later : (j : ℕ) → suc k ≤ j → j < length (w .chosen) → WillConsume (working (inPhase w r))
+          (getD (w .chosen) j 0)) where
+        on : (y : ℕ) → WillConsume (senderAt b i .state) y → (n ≡ y) ⊎ WillConsume (working (inPhase w r)) y
+        on y z = goes-on (inJob d (inPhase w r)) later y z
 
-        own-consumed : x .matched ≡ d .matched → WillConsume (senderAt b i .state) (senderAt b i .own - 1)
-            → (1 ≤ x .matched) ⊎ WillConsume (x .state) (senderAt b i .own - 1)
-        own-consumed dm z = at (goes-on x f _ z)
+        job-on-owes : PlacedAt t b′ (w .subject) (w .chord) (w .chosen) (w .retry) r
+            → HoldingKept (turn n (consumes m)) (HoldsAt t (w .chord) (w .chosen) (consume k m))
+            (HoldsAt t (w .chord) (w .chosen) r)
+            → ((y : ℕ) → y < length (b .messages) → isSync t (channelOf b y) ≡ true → WillTell t b (senderAt b i .state) y
+            → WillTell t b′ (working (inPhase w r)) y)
+            → StepOwes t b i s
+        job-on-owes placed holds told =
+            let state = ap (λ (q : Sender). q .state) e in
+            let own = ap (λ (q : Sender). q .own) e ∙ same-own u in
+            let signal = ap (λ (q : Sender). q .signalled) e ∙ same-signal u in
+            let matched = ap (λ (q : Sender). q .matched) e in
+            record {
+              lawful = takes;
+              local = job-in r e placed;
+              holding =
+                  subst⁻¹ (λ (q : Sender).
+                  HoldingKept (turn n (consumes m)) (Holds t (senderAt b i .state)) (Holds t (q .state))) e
+                  (from-work c _ _ holds);
+              notes = noted;
+              matches = record {
+                goes-on =
+                    λ y z. subst⁻¹ (λ (q : Sender). (messageAt b′ y .status ≡ consumed) ⊎ WillConsume (q .state) y) e
+                    (gone y (on y z));
+                begins = λ y q z. never (ap isRecord z);
+              };
+              owners = λ y. job-owners c s takes _ state own signal (λ a z. absurd (no-signal c refl a z))
+                  (λ a h z. absurd (not-waking (s .change) refl z));
+              obligation =
+                  λ q ns y.
+                  go-on y w (c .state) refl _ state own (ap (λ (q : Sender). q .waker) e ∙ same-waker u) refl
+                  (λ a z. absurd (covered w q (consume k m) (c .phase) z));
+              answering = record {
+                own = λ y o o′. job-answer c s takes _ state own signal y (λ z. omega (arith, matched, match-kept u z))
+                    (λ z. mine y o matched (on y z));
+                tells-on = λ y l wt z. inl (subst⁻¹ (λ (q : Sender). WillTell t b′ (q .state) y) e (told y l wt z));
+                tells-new = λ y q z. never (ap isRecord z);
+              };
+              recorded = no-record t b s refl;
+            }
           where
-            at : (n ≡ senderAt b i .own - 1) ⊎ WillConsume (x .state) (senderAt b i .own - 1)
-                → (1 ≤ x .matched) ⊎ WillConsume (x .state) (senderAt b i .own - 1)
-            at (inl e) = inl (omega (arith, dm, own-matched u ue e))
-            at (inr e) = inr e
+            gone : (y : ℕ) → (n ≡ y) ⊎ WillConsume (working (inPhase w r)) y
+                → (messageAt b′ y .status ≡ consumed) ⊎ WillConsume (working (inPhase w r)) y
+            gone y (inl z) = inl (subst (λ (q : ℕ). messageAt b′ q .status ≡ consumed) z (now-is .0))
+            gone y (inr z) = inr z
+
+            mine : (y : ℕ) → senderAt b i .own ≡ suc y → x .matched ≡ d .matched
+                → (n ≡ y) ⊎ WillConsume (working (inPhase w r)) y
+                → (1 ≤ x .matched) ⊎ WillConsume (working (inPhase w r)) y
+            mine y o q (inl z) = inl (omega (arith, q, own-matched u ue (omega (arith, o, z))))
+            mine y o q (inr z) = inr z
 
       -- on to the next message
-      next : x ≡ inJob d (inPhase w (consume (suc k) m)) → eqb (suc k) (length (w .chosen)) ≡ false → Owes t b i s
-      next e z = record {
-        local = job-in (consume (suc k) m) e (record {
-          full = up .placed .full;
-          at = omega (tests, in-chosen, p .full .all);
-          to-match = up .placed .to-match;
-          match-in = up .placed .match-in;
-          match = up .placed .match;
-          some = up .placed .some;
-          done = done-now;
-        });
-        holding = from-work c _ _ (subst⁻¹ (λ (y : Sender). HoldingKept t (turn n (consumes m)) (working w) (y .state)) e
-            (drop-place t w _ (consume k m) (consume (suc k) m) (c .phase) refl refl refl _ k (λ y r. r) (λ y r. r) refl
-            (omega arith, in-chosen) (λ j r. ((omega (arith, r .0), r .1), λ q. omega (arith, r .0, q)))
-            (λ j r ne. (omega (arith, r .0), r .1)) (λ j r q. p .full .selection .one j k (r .1) in-chosen q)));
-        notes = noted;
-        matches = matches-kept later;
-        owners = λ y. plain t b i w (c .state) s _ (consume k m) (c .phase) refl (ap (λ (r : Sender). r .state) e)
-            (ap (λ (r : Sender). r .own) e ∙ same-own u) (ap (λ (r : Sender). r .signalled) e ∙ same-signal u) refl;
-        obligation = λ q ns y. go-on y w (c .state) refl _ (ap (λ (r : Sender). r .state) e)
-            (ap (λ (r : Sender). r .own) e ∙ same-own u) (ap (λ (r : Sender). r .waker) e ∙ same-waker u) refl
-            (λ a r. absurd (covered w q (consume k m) (c .phase) r));
-        recorded = no-record t b s refl;
-        answering = record {
-          not-idle = ap isIdle (c .state);
-          goes-idle = λ q. never (sym (ap (λ (r : Sender). isIdle (r .state)) e) ∙ q);
-          match-kept = λ q. subst⁻¹ (λ (r : Sender). 1 ≤ r .matched) e (match-kept u q);
-          signal-kept = λ q r y. ap (λ (r : Sender). r .signalled) e ∙ same-signal u ∙ r;
-          consumes-on = own-consumed later (ap (λ (r : Sender). r .matched) e);
-          tells-on = λ y l wt q. inl (subst⁻¹ (λ (r : Sender). WillTell t b′ (r .state) y) e (tells y q));
-          tells-new = λ y r q. never (ap isRecord q);
-        };
-      }
-        where
-          later : (j : ℕ) → suc k ≤ j → j < length (w .chosen) → WillConsume (x .state) (getD (w .chosen) j 0)
-          later j lo hi = subst⁻¹ (λ (r : Sender). WillConsume (r .state) (getD (w .chosen) j 0)) e (record {
-            at = suc k;
-            match = m;
-            place = j;
-            ph = refl;
-            low = lo;
-            high = hi;
-            is = refl;
+      next : x ≡ inJob d (inPhase w (consume (suc k) m)) → eqb (suc k) (length (w .chosen)) ≡ false → StepOwes t b i s
+      next e z =
+          job-on-owes (consume (suc k) m) e
+          (λ j lo hi. record { at = suc k; match = m; place = j; ph = refl; low = lo; high = hi; is = refl })
+          (record {
+            full = up .placed .full;
+            at = omega (tests, in-chosen, p .full .all);
+            to-match = up .placed .to-match;
+            match-in = up .placed .match-in;
+            match = up .placed .match;
+            some = up .placed .some;
+            done = done-now;
           })
+          (drop-place t (w .chord) (w .chosen) (consume k m) (consume (suc k) m) _ k (_, (refl, refl, refl), refl)
+          (omega arith, in-chosen) (λ j r. ((omega (arith, r .0), r .1), λ q. omega (arith, r .0, q)))
+          (λ j r ne. (omega (arith, r .0), r .1)) (λ j r q. p .full .selection .one j k (r .1) in-chosen q))
+          (λ y l wt q. tells y q)
 
       -- the last message
       module _ (z : eqb (suc k) (length (w .chosen)) ≡ true) where
-        none-later : (j : ℕ) → suc k ≤ j → j < length (w .chosen) → WillConsume (x .state) (getD (w .chosen) j 0)
-        none-later j lo hi = absurd (omega tests)
-
-        dropped : (r : State) → ((y : ℕ) → Holds t r y → ⊥) → HoldingKept t (turn n (consumes m)) (working w) r
-        dropped r f = last-drop t _ w r (consume k m) (c .phase) k (λ y q. q) (λ y q. q) refl (omega arith, in-chosen)
-            (λ j q. omega (tests, q .0, q .1)) f
+        dropped : (A : ℕ → Type 0) → ((y : ℕ) → A y → ⊥)
+            → HoldingKept (turn n (consumes m)) (HoldsAt t (w .chord) (w .chosen) (consume k m)) A
+        dropped A f = last-drop t (w .chord) (w .chosen) (consume k m) A _ k (_, (refl, refl, refl), refl)
+            (omega arith, in-chosen) (λ j q. omega (tests, q .0, q .1)) f
 
         -- some are to be told
         tells-next : (y : ℕ) (ys : List ℕ) → toTell t (b′ .messages) (w .subject) (w .chosen) ≡ y ∷ ys
-            → x ≡ inJob d (inPhase w (tell 0)) → Owes t b i s
-        tells-next y ys l e = record {
-          local = job-in (tell 0) e (record {
-            full = up .placed .full;
-            to-match = up .placed .to-match;
-            at = rw l (omega arith);
-            done = λ j h. done-now j (omega (tests, up .placed .full .all)) .0;
-          });
-          holding =
-              from-work c _ _
-              (subst⁻¹ (λ (r : Sender). HoldingKept t (turn n (consumes m)) (working w) (r .state)) e
-              (dropped _ (λ q r. r .held)));
-          notes = noted;
-          matches = matches-kept none-later;
-          owners = λ q. plain t b i w (c .state) s _ (consume k m) (c .phase) refl (ap (λ (r : Sender). r .state) e)
-              (ap (λ (r : Sender). r .own) e ∙ same-own u) (ap (λ (r : Sender). r .signalled) e ∙ same-signal u) refl;
-          obligation = λ q ns v. go-on v w (c .state) refl _ (ap (λ (r : Sender). r .state) e)
-              (ap (λ (r : Sender). r .own) e ∙ same-own u) (ap (λ (r : Sender). r .waker) e ∙ same-waker u) refl
-              (λ a r. absurd (covered w q (consume k m) (c .phase) r));
-          recorded = no-record t b s refl;
-          answering = record {
-            not-idle = ap isIdle (c .state);
-            goes-idle = λ q. never (sym (ap (λ (r : Sender). isIdle (r .state)) e) ∙ q);
-            match-kept = λ q. subst⁻¹ (λ (r : Sender). 1 ≤ r .matched) e (match-kept u q);
-            signal-kept = λ q r v. ap (λ (r : Sender). r .signalled) e ∙ same-signal u ∙ r;
-            consumes-on = own-consumed none-later (ap (λ (r : Sender). r .matched) e);
-            tells-on = λ a h wt q.
-                let r = isIn-nth a (toTell t (b′ .messages) (w .subject) (w .chosen)) (in-list a h wt q) in
-                inl (subst⁻¹ (λ (r : Sender). WillTell t b′ (r .state) a) e (r .0, omega arith, r .1, r .2));
-            tells-new = λ a r q. never (ap isRecord q);
-          };
-        }
+            → x ≡ inJob d (inPhase w (tell 0)) → StepOwes t b i s
+        tells-next y ys l e =
+            job-on-owes (tell 0) e (λ j lo hi. absurd (omega tests))
+            (record {
+              full = up .placed .full;
+              to-match = up .placed .to-match;
+              at = rw l (omega arith);
+              done = λ j h. done-now j (omega (tests, up .placed .full .all)) .0;
+            })
+            (dropped _ (λ a q. q .held))
+            (λ a h wt q.
+            let r = isIn-nth a (toTell t (b′ .messages) (w .subject) (w .chosen)) (in-list a h wt q) in
+            (r .0, omega arith, r .1, r .2))
 
         -- nobody is to be told
         ends : toTell t (b′ .messages) (w .subject) (w .chosen) ≡ [] → x ≡ job-end t (b′ .messages) d (w .subject)
-            → Owes t b i s
-        ends l e =
-            let r = ends-more t (b′ .messages) d (w .subject) in
-            record {
-              local = ended;
-              holding = from-work c _ _ (subst⁻¹ (λ (r : Sender). HoldingKept t (turn n (consumes m)) (working w) (r .state)) e
-                  (dropped _ (λ y q. ends-empty t (b′ .messages) d (w .subject) y q)));
-              notes = noted;
-              matches = matches-kept none-later;
-              owners =
-                  λ q. plain-end t b i w (c .state) s d (consume k m) (c .phase) refl e (same-own u) (same-signal u)
-                  (ended .in-order) q refl;
-              obligation = λ q ns v. end-it v w (c .state) refl d e (same-own u) (same-waker u)
-                  (λ a y. absurd (covered w q (consume k m) (c .phase) y));
-              recorded = no-record t b s refl;
-              answering = record {
-                not-idle = ap isIdle (c .state);
-                goes-idle = λ q wt. subst⁻¹ (λ (y : Sender). 1 ≤ y .reply) e (r .0 (sym (ap (λ (y : Sender). isIdle (y .state)) e) ∙ q)
-                    (subst⁻¹ (λ (y : ℕ). isSync t (channelOf b′ (y - 1)) ≡ true) (same-own u) wt));
-                match-kept = λ q. subst⁻¹ (λ (y : Sender). 1 ≤ y .matched) e (omega (arith, r .1, match-kept u q));
-                signal-kept = λ q v y. ap (λ (y : Sender). y .signalled) e
-                    ∙ r .2 (sym (ap (λ (y : Sender). isIdle (y .state)) e) ∙ q) ∙ same-signal u ∙ v;
-                consumes-on = own-consumed none-later (ap (λ (y : Sender). y .matched) e ∙ r .1);
-                tells-on = λ a h wt q. never (ap (isIn a) (sym l) ∙ in-list a h wt q);
-                tells-new = λ a v q. never (ap isRecord q);
-              };
-            }
+            → StepOwes t b i s
+        ends l e = record {
+          lawful = takes;
+          local = local;
+          holding = from-work c _ _ (dropped _ (λ y q. ends-empty t (b′ .messages) d (w .subject) y
+              (subst (λ (r : Sender). Holds t (r .state) y) e q)));
+          notes = noted;
+          matches = record {
+            goes-on = λ y q. inl (subst (λ (r : ℕ). messageAt b′ r .status ≡ consumed) (last y q) (now-is .0));
+            begins = λ y r q. never (ap isRecord q);
+          };
+          owners =
+              λ q.
+              end-owners c s takes d e (same-own u) (same-signal u) local q (λ y r. absurd (no-signal c refl y r))
+              refl;
+          obligation = λ q ns v. end-it v w (c .state) refl d e (same-own u) (same-waker u)
+              (λ a y. absurd (covered w q (consume k m) (c .phase) y));
+          answering = record {
+            own = λ y o o′. end-answer c s takes d e (same-own u) (same-signal u) y o (match-kept u)
+                (λ q. own-matched u ue (omega (arith, o, last y q)));
+            tells-on = λ a h wt q. never (ap (isIn a) (sym l) ∙ in-list a h wt q);
+            tells-new = λ a v q. never (ap isRecord q);
+          };
+          recorded = no-record t b s refl;
+        }
           where
-            ended : SenderKept t b i s
-            ended = record {
-              lawful = takes;
-              in-order = subst⁻¹ (SenderOk t b′) e (ends-ok t b′ d (w .subject) d-ok (rw (same-own u) (c .own-some)));
-            }
+            local : SenderOk t b′ x
+            local = subst⁻¹ (SenderOk t b′) e (ends-ok t b′ d (w .subject) d-ok (rw (same-own u) (c .own-some)))
+
+            last : (y : ℕ) → WillConsume (senderAt b i .state) y → n ≡ y
+            last y q = go (goes-on idleSender (λ j lo hi. absurd (omega tests)) y q)
+              where
+                go : (n ≡ y) ⊎ WillConsume idle y → n ≡ y
+                go (inl r) = r
+                go (inr r) = absurd r
 
   consumed-to : (x d : Sender) (u last : Bool) → eqb (suc n) (senderAt b i .own) ≡ u
       → d ≡ withMatched u (senderAt b i) m
@@ -334,7 +324,7 @@ module _ {t : Table} {b : Board} {i : ℕ} {w : Job} {k m : ℕ} (c : AtWork t b
       → x ≡ consumedTo t
       (apply b i (record { said = Consumed n; change = turn n (consumes m); sender = x }) .messages) d w k m
       last
-      → Owes t b i (record { said = Consumed n; change = turn n (consumes m); sender = x })
+      → StepOwes t b i (record { said = Consumed n; change = turn n (consumes m); sender = x })
   consumed-to x d u false ue dd e ed =
       next x u ue (ed ∙ ap (λ (y : Sender). inJob y (inPhase w (consume (suc k) m))) dd) e
   consumed-to x d u true ue dd e ed = go (toTell t _ (w .subject) (w .chosen)) refl
@@ -342,7 +332,7 @@ module _ {t : Table} {b : Board} {i : ℕ} {w : Job} {k m : ℕ} (c : AtWork t b
       go : (ys : List ℕ)
           → toTell t (apply b i (record { said = Consumed n; change = turn n (consumes m); sender = x }) .messages)
           (w .subject) (w .chosen) ≡ ys
-          → Owes t b i (record { said = Consumed n; change = turn n (consumes m); sender = x })
+          → StepOwes t b i (record { said = Consumed n; change = turn n (consumes m); sender = x })
       go [] l = ends x u ue e l
           (ed
           ∙ ap (consumedEnd t
@@ -358,7 +348,7 @@ module _ {t : Table} {b : Board} {i : ℕ} {w : Job} {k m : ℕ} (c : AtWork t b
           l
           ∙ ap (λ (r : Sender). inJob r (inPhase w (tell 0))) dd)
 
-  pub consume-owes : Owes t b i (consume-step t b (senderAt b i) w k m)
+  pub consume-owes : StepOwes t b i (consume-step t b (senderAt b i) w k m)
   unfolding consume-step apply
   consume-owes =
       consumed-to _ _ (eqb (suc n) (senderAt b i .own)) (eqb (suc k) (length (w .chosen))) refl refl refl refl

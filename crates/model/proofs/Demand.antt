@@ -1,6 +1,4 @@
 -- Demand 3: for every accepted table, every rest table and every list of calls.
-
--- a message that one match holds, and no other
 use mathlib.Core.Path.{_≡_, refl, ap, sym, _∙_, subst, subst⁻¹}
 use mathlib.Core.Logic.{_≢_, _⊎_, inl, inr}
 use mathlib.Core.Bool.{false, true, Bool}
@@ -25,8 +23,9 @@ use Rattle.model.proofs.Tests.{never}
 use Rattle.model.proofs.Lists.{every-nth}
 use Rattle.model.proofs.AcceptedChords.{TableOk, table-ok}
 use Rattle.model.proofs.Words.{answered-said}
+use Rattle.model.proofs.Passage.{same}
 use Rattle.model.proofs.Local.{Waits, StateOk}
-use Rattle.model.proofs.Obligation.{Unmatched}
+use Rattle.model.proofs.Matches.{Unmatched}
 use Rattle.model.proofs.Answering.{AnswerDue, has-reply, has-match, has-signal, will-consume, will-tell}
 use Rattle.model.proofs.Invariant.{Inv}
 use Rattle.model.proofs.Quiet.{consumed-matched, pending-unmatched, none-obliged, not-matched, not-signalled}
@@ -35,6 +34,8 @@ use Rattle.model.proofs.Cents.{matched-reads, cents-same}
 use Rattle.model.proofs.PoolRun.{PoolOk, as-sent, count, meets-full, sentOf}
 use Rattle.model.proofs.Schedule.{Reached, reached}
 use Rattle.model.proofs.Sound.{is-sound}
+
+-- a message that one match holds, and no other
 
 held-none : (n : ℕ) (ms : List MatchRead)
     → ((k : ℕ) → k < length ms → isIn n (getD ms k noRead .messages) ≡ false) → timesHeld n ms ≡ 0
@@ -130,8 +131,7 @@ module _ (t : Table) (rests : List ℕ) (cs : List Call) (tok : TableOk t) where
       let w = reached t rests cs before (steps i ∷ rest) tok e .inv in
       let s = subst (StateOk t (boardAfter t rests before) _ _ _) (a .is-blocked) (w .locals i .state-is) in
       let m =
-      w .notes .match (senderAt (boardAfter t rests before) i .own - 1)
-      (omega (arith, s .0, w .locals i .own-in)) (a .is-consumed) in
+      w .notes .match (senderAt (boardAfter t rests before) i .own - 1) (a .is-consumed) in
       let same : m .0 ≡ k = omega (arith, m .1, a .match-is) in
       holds-own before (steps i ∷ rest) e i k (s .0) (s .1) (omega (arith, m .2, same))
       (subst (λ (x : ℕ). isIn (senderAt (boardAfter t rests before) i .own - 1) (matchAt (boardAfter t rests before) x .messages) ≡ true)
@@ -173,12 +173,12 @@ module _ (t : Table) (rests : List ℕ) (cs : List Call) (tok : TableOk t) where
         in-it j h = ok .inside-is _ (every-nth (λ n. isIn n (p .inside)) ns 0 a j h)
 
     -- a sender whose message is matched has its reply
-    has-answer : (i : ℕ) → AnswerDue t b i → 1 ≤ senderAt b i .reply
-    has-answer i (has-reply e x) = x
-    has-answer i (has-match e x) = absurd (not-matched t b v q i e x)
-    has-answer i (has-signal e x c) = absurd (not-signalled t b v q i e x)
-    has-answer i (will-consume e x) = absurd (none-consumes t b v q _ i x)
-    has-answer i (will-tell e j x) = absurd (none-tell t b v q _ j x)
+    has-answer : (i n : ℕ) → AnswerDue t b i n → 1 ≤ senderAt b i .reply
+    has-answer i n (has-reply e x) = x
+    has-answer i n (has-match e x) = absurd (not-matched t b v q i e x)
+    has-answer i n (has-signal e x c) = absurd (not-signalled t b v q i e x)
+    has-answer i n (will-consume e x) = absurd (none-consumes t b v q _ i x)
+    has-answer i n (will-tell e j x) = absurd (none-tell t b v q _ j x)
 
     waits-if : (i n : ℕ) → senderAt b i .own ≡ suc n → n < length (b .messages) → isSync t (channelOf b n) ≡ true
         → (messageAt b n .status ≡ pending) ⊎ (messageAt b n .status ≡ consumed)
@@ -191,13 +191,8 @@ module _ (t : Table) (rests : List ℕ) (cs : List Call) (tok : TableOk t) where
         ∙ ap (λ (x : ℕ). isIn x (matchAt b k .messages)) (sym same)
         ∙ r .3)
     waits-if i n o l w (inr e) zero z =
-        let r = v .notes .match n l e in
-        let same : n ≡ senderAt b i .own - 1 = omega (arith, o) in
-        let due =
-        v .answering i (r .0) (omega (arith, o)) (subst (λ (x : ℕ). isSync t (channelOf b x) ≡ true) same w)
-        (r .2)
-        (subst (λ (x : ℕ). isIn x (matchAt b (r .0) .messages) ≡ true) same (r .3)) in
-        absurd (omega (arith, z, has-answer i due))
+        let r = v .notes .match n e in
+        absurd (omega (arith, z, has-answer i n (v .answering i n (r .0) o w (r .2) (r .3))))
     waits-if i n o l w (inr e) (suc k) z =
         ne-eqb (suc k) 0 (λ y. omega arith) ∙ not-inside n l e (isIn n (p .inside)) refl
 

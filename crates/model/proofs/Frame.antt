@@ -7,7 +7,7 @@ use mathlib.Core.List.{List, map, [], _∷_}
 use Prim.Native.Nat.{ℕ, _<_, zero, suc}
 use borrow.Author.Tests.{eq-eqb, ne-eqb}
 use lib.Dec.{eqb}
-use lib.ListN.{set, length, getD, length-set, List·getD-map, length-append}
+use lib.ListN.{length, getD, set, length-set, List·getD-map, length-append}
 use lib.Seq.{getD-set-same, getD-set-other, getD-append-seam}
 use native.Mathlib.Omega.{arith}
 use Rattle.model.specs.Basics.{pick}
@@ -23,11 +23,6 @@ messageAfter none m x = x
 messageAfter (turn n τ) m x = pick (eqb m n) (turned τ x) x
 messageAfter (records n r) m x = pick (eqb m n) (turned claims x) x
 messageAfter (signals n) m x = x
-
-set-at : (is : List Message) (n m : ℕ) (x : Message) → m < length is → (m ≡ n) ⊎ (m ≢ n)
-    → getD (set is n x) m noMessage ≡ pick (eqb m n) x (getD is m noMessage)
-set-at is n m x h (inl e) = rw (eq-eqb m n e) (rw (← e) (getD-set-same is m x noMessage h))
-set-at is n m x h (inr e) = rw (ne-eqb m n e) (getD-set-other is n m x noMessage e)
 
 at-turn : (is : List Message) (n m : ℕ) (τ : Turn) → m < length is → (m ≡ n) ⊎ (m ≢ n)
     → getD (set is n (turned τ (getD is n noMessage))) m noMessage ≡ pick (eqb m n) (turned τ (getD is m noMessage))

@@ -1,21 +1,20 @@
 -- What no step undoes: items keep tray, property and cents, consumed stays, matches are only appended.
 -- Assumes nothing.
-use mathlib.Core.Path.{_≡_, refl, ap, sym, _∙_}
-use mathlib.Core.Logic.{_≢_, _⊎_, inl, inr}
+use mathlib.Core.Path.{_≡_, refl, ap, _∙_}
+use mathlib.Core.Logic.{_≢_}
 use mathlib.Core.Bool.{Bool, true, false}
-use mathlib.Core.List.{List, _∷_, []}
 use Prim.Native.Nat.{ℕ, _≤_, _<_}
-use borrow.Author.Tests.{eqb-false, ne-eqb}
+use borrow.Author.Tests.{eqb-false}
 use lib.Dec.{eqb}
-use lib.ListN.{length, length-append, getD, List·getD-append}
+use lib.ListN.{length}
 use native.Mathlib.Omega.{arith}
 use Rattle.model.specs.Basics.{pick}
 use Rattle.model.specs.Boards.{Message, Board, messageAt, consumed, matchAt, Status, pending, claimed, woken}
-use Rattle.model.specs.Boards.{isPending, Match, noMatch}
+use Rattle.model.specs.Boards.{isPending}
 use Rattle.model.specs.Effects.{Turn, turned, turn, Change, none, records, claims, signals, frees, consumes}
-use Rattle.model.specs.Effects.{wakes-by, resumes, matchesAfter, Effect, apply}
-use Rattle.model.proofs.Tests.{never, same?}
-use Rattle.model.proofs.Frame.{messageAfter, messages-count, messages-at}
+use Rattle.model.specs.Effects.{wakes-by, resumes}
+use Rattle.model.proofs.Tests.{never}
+use Rattle.model.proofs.Frame.{messageAfter}
 
 pub record SameSent (x y : Message) : Type 0 where
   pub sent : y .sent ≡ x .sent
@@ -72,52 +71,6 @@ is-pending pending e = refl
 is-pending claimed e = never e
 is-pending woken e = never e
 is-pending consumed e = never e
-
-not-consumed : (τ : Turn) → statusBefore τ ≢ consumed
-not-consumed claims = apart refl
-not-consumed frees = apart refl
-not-consumed (consumes m) = apart refl
-not-consumed (wakes-by h) = apart refl
-not-consumed resumes = apart refl
-
-stays-turn : (b : Board) (m : ℕ) (τ : Turn) → Turns b m τ → (n : ℕ) → messageAt b n .status ≡ consumed
-    → (n ≡ m) ⊎ (n ≢ m)
-    → (pick (eqb n m) (turned τ (messageAt b n)) (messageAt b n) .status ≡ consumed)
-    × (pick (eqb n m) (turned τ (messageAt b n)) (messageAt b n) .match ≡ messageAt b n .match)
-stays-turn b m τ l n e (inl q) = absurd (not-consumed τ (sym (l .from) ∙ rw q at e))
-stays-turn b m τ l n e (inr q) = rw (ne-eqb n m q) (e, refl)
-
-stays : (b : Board) (c : Change) → Lawful b c → (n : ℕ) → messageAt b n .status ≡ consumed
-    → (messageAfter c n (messageAt b n) .status ≡ consumed)
-    × (messageAfter c n (messageAt b n) .match ≡ messageAt b n .match)
-stays b none l n e = (e, refl)
-stays b (turn m τ) l n e = stays-turn b m τ l n e (same? n m)
-stays b (records m r) l n e = stays-turn b m claims l n e (same? n m)
-stays b (signals m) l n e = (e, refl)
-
-m-more : (ms : List Match) (c : Change) → length ms ≤ length (matchesAfter c ms)
-unfolding matchesAfter
-m-more ms none = omega arith
-m-more ms (turn n τ) = omega arith
-m-more ms (records n m) = omega (arith, length-append ms (m ∷ []))
-m-more ms (signals n) = omega arith
-
-m-same : (ms : List Match) (c : Change) (k : ℕ) → k < length ms → getD (matchesAfter c ms) k noMatch ≡ getD ms k noMatch
-unfolding matchesAfter
-m-same ms none k h = refl
-m-same ms (turn n τ) k h = refl
-m-same ms (records n m) k h = List·getD-append ms (m ∷ []) noMatch k h
-m-same ms (signals n) k h = refl
-
-pub grows-after : (b : Board) (i : ℕ) (s : Effect) → Lawful b (s .change) → Grows b (apply b i s)
-unfolding apply
-grows-after b i s l = record {
-  messages-more = omega (arith, messages-count b i s);
-  kept = λ n h. rw (messages-at b i s n h) (message-kept (s .change) n (messageAt b n));
-  stays-consumed = λ n h e. rw (messages-at b i s n h) (stays b (s .change) l n e);
-  matches-more = m-more (b .matches) (s .change);
-  matches-same = m-same (b .matches) (s .change);
-}
 
 pub grows-refl : (b : Board) → Grows b b
 grows-refl b = record {

@@ -1,29 +1,27 @@
--- The invariant, what a step owes to keep it, and that a step which owes nothing keeps it.
-use mathlib.Core.Path.{_≡_, sym, _∙_, ap}
+-- The invariant; what a call owes, part by part; and that a call which pays keeps it.
+use mathlib.Core.Path.{_≡_, _∙_, sym, ap}
 use mathlib.Core.Bool.{false}
 use mathlib.Core.List.{List}
-use Prim.Native.Nat.{ℕ, _<_}
-use lib.ListN.{length, set, length-set, length-map, getD}
+use Prim.Native.Nat.{ℕ, _<_, _≤_}
+use lib.ListN.{length, getD, set, length-set, length-map}
 use native.Mathlib.Omega.{arith}
 use Rattle.model.specs.Tables.{Table}
-use Rattle.model.specs.Boards.{Board, senderAt, Match}
-use Rattle.model.specs.Effects.{Effect, records, valueOf, apply, sendersAfter, Change, none, turn, signals}
+use Rattle.model.specs.Boards.{Board, Sender, senderAt, Match}
+use Rattle.model.specs.Effects.{Change, Effect, records, valueOf, apply, sendersAfter, none, turn, signals}
 use Rattle.model.specs.Effects.{signalledSender}
-use Rattle.model.specs.Pools.{meets}
 use Rattle.model.proofs.Tests.{never}
 use Rattle.model.proofs.Words.{isRecord}
 use Rattle.model.proofs.Frame.{messages-count}
-use Rattle.model.proofs.Grows.{Lawful, Grows, grows-after}
-use Rattle.model.proofs.Local.{SenderOk, Full, SenderKept, locals-after}
-use Rattle.model.proofs.Holding.{Holding, holding-after}
+use Rattle.model.proofs.Grows.{Lawful}
+use Rattle.model.proofs.Passage.{Passage, step-passage}
+use Rattle.model.proofs.Local.{SenderOk, locals-after, Full}
+use Rattle.model.proofs.Holding.{Holding, HoldingKept, Holds, holding-after}
 use Rattle.model.proofs.Notes.{NotesOk, NotesKept, notes-after}
-use Rattle.model.proofs.Obligation.{Obligation, ObligationKept, meets-before, obliged-after, unmatched-before}
-use Rattle.model.proofs.Discharge.{Case}
-use Rattle.model.proofs.Hands.{HoldingKept, holding-step}
-use Rattle.model.proofs.Matches.{MatchesOk, MatchesKept, matched-after}
-use Rattle.model.proofs.Owners.{Owners, OwnersKept, owners-after, own-same}
+use Rattle.model.proofs.Ranges.{Ranges, RangesKept, ranges-after}
+use Rattle.model.proofs.Matches.{MatchesOk, MatchesKept, matches-after}
+use Rattle.model.proofs.Owners.{Owners, OwnersKept, owners-after}
+use Rattle.model.proofs.Obligation.{Obligation, Case, ObligationKept, Meets, Obliged, obligation-after}
 use Rattle.model.proofs.Answering.{Answering, AnsweringKept, answering-after}
-use Rattle.model.proofs.Ranges.{Ranges, ranges-after}
 
 pub record Inv (t : Table) (b : Board) : Type 0 where
   pub senders : length (b .senders) ≡ 32
@@ -36,7 +34,42 @@ pub record Inv (t : Table) (b : Board) : Type 0 where
   pub answering : Answering t b
   pub ranges : Ranges t b
 
--- a match as it is recorded
+pub record CallOwes (t : Table) (b b′ : Board) (i : ℕ) (c : Change) (d : Sender) : Type 0 where
+  pub passage : Passage b b′ i c d
+  pub count : length (b′ .senders) ≡ length (b .senders)
+  pub local : SenderOk t b′ d
+  pub holding : HoldingKept c (Holds t (senderAt b i .state)) (Holds t (d .state))
+  pub notes : NotesKept t b′ c
+  pub matches : MatchesKept b b′ i c d
+  pub owners : NotesOk t b′ → OwnersKept t b b′ i c d
+  pub obligation : (q : ℕ) (ns : List ℕ) → Case t b b′ i c d q ns → ObligationKept t b b′ i c q ns
+  pub new-obliged : (q : ℕ) (ns : List ℕ) (j : ℕ) → Meets t b′ q ns → j < length ns → length (b .messages) ≤ getD ns j 0
+      → Obliged t b′ q ns
+  pub answering : AnsweringKept t b b′ i c d
+  pub ranges : RangesKept t b b′ c
+
+pub call-keeps : {t : Table} {b b′ : Board} {i : ℕ} {c : Change} {d : Sender} → Inv t b → CallOwes t b b′ i c d
+    → Inv t b′
+call-keeps {t} {b} {b′} {i} {c} {d} v f = record {
+  senders = f .count ∙ v .senders;
+  locals = locals-after p (v .locals) (f .local);
+  notes = notes′;
+  holding = holding-after p (v .holding) (f .holding);
+  matches = matches-after p (v .matches) (f .matches);
+  owners = owners-after p (v .owners) (λ j. v .locals j .own-in) notes′ (f .owners notes′);
+  obligation = obligation-after p (v .obligation) (v .locals i) notes′ (f .obligation) (f .new-obliged);
+  answering = answering-after p (v .locals) (f .owners notes′ .owning) (v .answering) (f .answering)
+      (v .owners) (v .notes) (v .matches) (f .matches);
+  ranges = ranges-after p (v .ranges) (f .notes) (f .ranges);
+}
+  where
+    p : Passage b b′ i c d
+    p = f .passage
+
+    notes′ : NotesOk t b′
+    notes′ = notes-after (f .passage) (v .notes) (f .notes)
+
+-- a match as a step records it
 pub record Recorded (t : Table) (b : Board) (s : Effect) : Type 0 where
   pub number : (n : ℕ) (m : Match) → s .change ≡ records n m → valueOf (s .said) ≡ length (b .matches)
   pub subject : (n : ℕ) (m : Match) → s .change ≡ records n m → (h : ℕ) × Full t b h (m .chord) (m .messages)
@@ -44,24 +77,23 @@ pub record Recorded (t : Table) (b : Board) (s : Effect) : Type 0 where
 
 pub no-record : (t : Table) (b : Board) (s : Effect) → isRecord (s .change) ≡ false → Recorded t b s
 no-record t b s e = record {
-  number = λ n m f. absurd (clash n m f);
-  subject = λ n m f. absurd (clash n m f);
-  room = λ n m f. absurd (clash n m f);
+  number = λ n m f. never (sym e ∙ ap isRecord f);
+  subject = λ n m f. never (sym e ∙ ap isRecord f);
+  room = λ n m f. never (sym e ∙ ap isRecord f);
 }
-  where
-    clash : (n : ℕ) (m : Match) → s .change ≡ records n m → ⊥
-    clash n m f = never (sym e ∙ ap isRecord f)
 
--- what a step of sender i owes, part by part
-pub record Owes (t : Table) (b : Board) (i : ℕ) (s : Effect) : Type 0 where
-  pub local : SenderKept t b i s
-  pub holding : HoldingKept t (s .change) (senderAt b i .state) (s .sender .state)
+-- what a step of sender i owes
+pub record StepOwes (t : Table) (b : Board) (i : ℕ) (s : Effect) : Type 0 where
+  pub lawful : Lawful b (s .change)
+  pub local : SenderOk t (apply b i s) (s .sender)
+  pub holding : HoldingKept (s .change) (Holds t (senderAt b i .state)) (Holds t (s .sender .state))
   pub notes : NotesKept t (apply b i s) (s .change)
-  pub matches : MatchesKept b i s
-  pub owners : NotesOk t (apply b i s) → OwnersKept t b i s
-  pub obligation : (q : ℕ) (ns : List ℕ) → Case t b i s q ns → ObligationKept t b i s q ns
+  pub matches : MatchesKept b (apply b i s) i (s .change) (s .sender)
+  pub owners : NotesOk t (apply b i s) → OwnersKept t b (apply b i s) i (s .change) (s .sender)
+  pub obligation : (q : ℕ) (ns : List ℕ) → Case t b (apply b i s) i (s .change) (s .sender) q ns
+      → ObligationKept t b (apply b i s) i (s .change) q ns
+  pub answering : AnsweringKept t b (apply b i s) i (s .change) (s .sender)
   pub recorded : Recorded t b s
-  pub answering : AnsweringKept t b i s
 
 senders-count : (b : Board) (i : ℕ) (s : Effect) → length (apply b i s .senders) ≡ length (b .senders)
 unfolding apply sendersAfter
@@ -74,58 +106,23 @@ senders-count b i s = go (s .change)
     go (signals n) =
         length-map (set (b .senders) i (s .sender)) (signalledSender n) ∙ length-set (b .senders) i (s .sender)
 
-module _ (t : Table) (b : Board) (i : ℕ) (s : Effect) (l : i < 32) (v : Inv t b) (f : Owes t b i s) where
-  abbrev b′ : Board
-  b′ = apply b i s
-
-  in-senders : i < length (b .senders)
-  in-senders = omega (arith, v .senders)
-
-  law : Lawful b (s .change)
-  law = f .local .lawful
-
-  g : Grows b b′
-  g = grows-after b i s law
-
-  notes′ : NotesOk t b′
-  notes′ = notes-after t b i s law (v .notes) (f .notes)
-
-  owners′ : Owners t b′
-  owners′ = owners-after t b i s in-senders law notes′ (v .owners) (f .owners notes′)
-
-  -- no step changes whose message is whose
-  pub step-own : (j : ℕ) → senderAt b′ j .own ≡ senderAt b j .own
-  step-own = own-same t b i s in-senders law notes′ (v .owners) (f .owners notes′)
-
-  obligation′ : Obligation t b′
-  obligation′ q ns m u =
-      let m′ = meets-before t b b′ g (messages-count b i s) q ns m in
-      obliged-after t b i s q ns in-senders law
-      (f .obligation q ns (record {
-        sender-in = in-senders;
-        lawful = law;
-        meets = m′;
-        unmatched = u;
-        notes = v .notes;
-        notes′ = notes′;
-        sender-ok = v .locals i;
-      }))
-      (v .obligation q ns m′ (λ j k. unmatched-before b b′ g (getD ns j 0) (u j k)))
-
-  pub step-keeps : Inv t b′
-  step-keeps = record {
-    senders = senders-count b i s ∙ v .senders;
-    locals = locals-after t b i s in-senders law (v .locals) (f .local .in-order);
-    notes = notes′;
-    holding =
-        holding-after t b b′ i (v .holding)
-        (holding-step t b i s in-senders law (v .holding .claimed-is i) (f .holding));
-    matches = matched-after t b i s in-senders law (v .matches) (f .matches);
-    owners = owners′;
-    obligation = obligation′;
-    answering =
-        answering-after t b i s in-senders law (v .locals) (v .notes) (v .owners) owners′ (f .owners notes′) notes′
-        (f .matches) (v .answering) (f .answering);
-    ranges = ranges-after t b i s law (f .notes)
-        (λ x m e. (f .recorded .subject x m e .1 .selection .chord-in, f .recorded .room x m e)) (v .ranges);
-  }
+-- a step adds no message, so there is nothing new to be bound to
+pub step-call : (t : Table) (b : Board) (i : ℕ) (s : Effect) → i < 32 → Inv t b → StepOwes t b i s
+    → CallOwes t b (apply b i s) i (s .change) (s .sender)
+step-call t b i s l v f = record {
+  passage = step-passage b i s (omega (arith, v .senders)) (f .lawful);
+  count = senders-count b i s;
+  local = f .local;
+  holding = f .holding;
+  notes = f .notes;
+  matches = f .matches;
+  owners = f .owners;
+  obligation = f .obligation;
+  new-obliged = λ q ns j m h z. absurd (omega (arith, m .inside j h, messages-count b i s));
+  answering = f .answering;
+  ranges = record {
+    few = omega (arith, v .ranges .messages-few, messages-count b i s);
+    new-sent = λ n z h. absurd (omega (arith, messages-count b i s));
+    new-chord = λ x m e. (f .recorded .subject x m e .1 .selection .chord-in, f .recorded .room x m e);
+  };
+}

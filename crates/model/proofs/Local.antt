@@ -1,27 +1,28 @@
 -- What is true of one desk by itself, whatever the others do: stable under Grows.
 -- Assumes nothing.
-use mathlib.Core.Path.{_≡_, refl, _∙_, sym}
+use mathlib.Core.Path.{_≡_, refl, _∙_, sym, subst⁻¹}
 use mathlib.Core.Logic.{_⊎_, inr, _≢_, inl}
 use mathlib.Core.Bool.{true, false, Bool, not, _&&_}
 use mathlib.Core.List.{List, [], _∷_}
 use Prim.Native.Nat.{ℕ, _-_, _<_, _≤_, suc, zero}
-use borrow.Author.Tests.{ltb-true, eq-eqb, ne-eqb}
+use borrow.Author.Tests.{ltb-true}
 use lib.Dec.{ltb, eqb}
 use lib.ListN.{length, getD}
 use native.Mathlib.Omega.{arith}
-use Rattle.model.specs.Basics.{isIn, pick}
+use Rattle.model.specs.Basics.{isIn}
 use Rattle.model.specs.Tables.{Table, chordAt, channelAt, size, wakes, isSync, naming}
-use Rattle.model.specs.Boards.{Board, messageAt, wake, matchAt, consume, consumed, Phase, look, claim, revert}
+use Rattle.model.specs.Boards.{Board, messageAt, wake, matchAt, consumed, consume, Phase, look, claim, revert}
 use Rattle.model.specs.Boards.{tell, free, signal, pass-end, backoff, Job, State, idle, working, blocked}
 use Rattle.model.specs.Boards.{Sender, channelOf, isConsumed, senderAt}
-use Rattle.model.specs.Effects.{Change, none, turn, records, signals, Effect, apply}
+use Rattle.model.specs.Effects.{Change}
 use Rattle.model.specs.Steps.{alike, subjectPlace, toTell, startAt, passFrom, restsThen, goesIdle, matchedEnd}
 use Rattle.model.specs.Steps.{wakerEnd, syncEnd, endsBy, job-end}
 use Rattle.model.proofs.Tests.{same?}
 use Rattle.model.proofs.Lists.{isIn-nth}
 use Rattle.model.proofs.Chords.{names-yes}
-use Rattle.model.proofs.Frame.{senderAfter, senders-at}
-use Rattle.model.proofs.Grows.{Grows, Lawful, grows-after}
+use Rattle.model.proofs.Frame.{Like}
+use Rattle.model.proofs.Grows.{Grows}
+use Rattle.model.proofs.Passage.{Passage, grows}
 
 -- a job at rule r with h in hand: the rule names the hand's tray, and the chosen items are of the members' trays,
 -- fit, and are distinct
@@ -282,36 +283,25 @@ module _ (t : Table) (b : Board) (d : Sender) (h : ℕ) (q : SenderOk t b d) (so
   unfolding job-end
   ends-ok = by-ok (isSync t (messageAt b (d .own - 1) .sent .channel)) refl
 
--- told or not, a desk is in order; so are all after a step, if the one that stepped is
-signalled-ok : (t : Table) (b : Board) (c : Change) (d : Sender) → SenderOk t b d → SenderOk t b (senderAfter c d)
-signalled-ok t b none d q = q
-signalled-ok t b (turn n τ) d q = q
-signalled-ok t b (records n m) d q = q
-signalled-ok t b (signals n) d q = record {
-  own-in = q .own-in;
-  waker-is = q .waker-is;
-  reply-is = q .reply-is;
-  matched-is = q .matched-is;
-  state-is = q .state-is;
+-- a signal does not matter, so all senders are in order after a call if the caller is
+like-ok : (t : Table) (b : Board) (d e : Sender) → Like d e → SenderOk t b d → SenderOk t b e
+like-ok t b d e l q = record {
+  own-in = rw (l .own) (q .own-in);
+  waker-is = λ v z. rw (l .own) (q .waker-is v (sym (l .waker) ∙ z));
+  reply-is = λ k z. rw (l .own) (q .reply-is k (sym (l .reply) ∙ z));
+  matched-is = λ k z. rw (l .own) (q .matched-is k (sym (l .matched) ∙ z));
+  state-is = subst⁻¹ (λ (o : ℕ). StateOk t b o (e .waker) (e .matched) (e .state)) (l .own)
+      (subst⁻¹ (λ (v : ℕ). StateOk t b (d .own) v (e .matched) (e .state)) (l .waker)
+      (subst⁻¹ (λ (m : ℕ). StateOk t b (d .own) (d .waker) m (e .state)) (l .matched)
+      (subst⁻¹ (StateOk t b (d .own) (d .waker) (d .matched)) (l .state) (q .state-is))));
 }
 
-pub locals-after : (t : Table) (b : Board) (i : ℕ) (s : Effect) → i < length (b .senders) → Lawful b (s .change)
-    → ((j : ℕ) → SenderOk t b (senderAt b j)) → SenderOk t (apply b i s) (s .sender) → (j : ℕ)
-    → SenderOk t (apply b i s) (senderAt (apply b i s) j)
-locals-after t b i s h l q p j = rw (senders-at b i s j h) (signalled-ok t (apply b i s) (s .change) _ (go (same? j i)))
+pub locals-after : {t : Table} {b b′ : Board} {i : ℕ} {c : Change} {d : Sender} → Passage b b′ i c d
+    → ((j : ℕ) → SenderOk t b (senderAt b j)) → SenderOk t b′ d → (j : ℕ) → SenderOk t b′ (senderAt b′ j)
+locals-after {t} {b} {b′} {i} {c} {d} p q k j = go (same? j i)
   where
-    go : (j ≡ i) ⊎ (j ≢ i) → SenderOk t (apply b i s) (pick (eqb j i) (s .sender) (senderAt b j))
-    go (inl e) = rw (eq-eqb j i e) p
-    go (inr e) = rw (ne-eqb j i e) (sender-on t b (apply b i s) (grows-after b i s l) (senderAt b j) (q j))
-
--- what a step owes here: a lawful change, and the stepping sender in order
-pub record SenderKept (t : Table) (b : Board) (i : ℕ) (s : Effect) : Type 0 where
-  pub lawful : Lawful b (s .change)
-  pub in-order : SenderOk t (apply b i s) (s .sender)
-
-pub kept-sender : (t : Table) (b : Board) (i : ℕ) (s : Effect) → Lawful b (s .change) → SenderOk t b (s .sender)
-    → SenderKept t b i s
-kept-sender t b i s l q = record {
-  lawful = l;
-  in-order = sender-on t b (apply b i s) (grows-after b i s l) (s .sender) q;
-}
+    go : (j ≡ i) ⊎ (j ≢ i) → SenderOk t b′ (senderAt b′ j)
+    go (inl e) = subst⁻¹ (λ (x : ℕ). SenderOk t b′ (senderAt b′ x)) e (like-ok t b′ d (senderAt b′ i) (p .own) k)
+    go (inr e) =
+        like-ok t b′ (senderAt b j) (senderAt b′ j) (p .others j e)
+        (sender-on t b b′ (grows p) (senderAt b j) (q j))

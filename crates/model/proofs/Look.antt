@@ -11,20 +11,20 @@ use lib.Dec.{eqb}
 use lib.ListN.{length, length-append}
 use native.Mathlib.Omega.{arith}
 use Rattle.model.specs.Basics.{pick, isIn}
-use Rattle.model.specs.Tables.{Table, size, chordAt, channelAt}
+use Rattle.model.specs.Tables.{Table, size}
 use Rattle.model.specs.Boards.{Board, Job, look, claim, senderAt, messageAt, woken, consumed}
-use Rattle.model.specs.Effects.{Effect, apply}
-use Rattle.model.specs.Steps.{choice, withChosen, lookedBy, someClaimed, missedRetry, nextChord, look-step}
+use Rattle.model.specs.Effects.{none, Effect, apply}
+use Rattle.model.specs.Steps.{choice, lookedBy, missedRetry, nextChord, look-step}
 use Rattle.model.proofs.Tests.{tests, neither, same?}
 use Rattle.model.proofs.Frame.{messages-at}
 use Rattle.model.proofs.Local.{PlacedAt, Placed, Selection}
 use Rattle.model.proofs.Choice.{chose-selection, chosen-fresh, choice-some, none-claimed}
-use Rattle.model.proofs.Holding.{HoldsIn}
-use Rattle.model.proofs.Obligation.{CoversAt, Covers, Obliged, by-woken, Meets}
-use Rattle.model.proofs.Discharge.{covered, Case, live, covers-retrying, missed-at, status-left, and-false}
-use Rattle.model.proofs.Discharge.{covers-ahead, names-it, subject-of}
-use Rattle.model.proofs.Trades.{empty-hands, pass-empty}
-use Rattle.model.proofs.Invariant.{Owes}
+use Rattle.model.proofs.Holding.{HoldsAt}
+use Rattle.model.proofs.Places.{none-held, pass-empty}
+use Rattle.model.proofs.Obligation.{CoversAt, Covers, Case, Obliged, by-woken, Meets}
+use Rattle.model.proofs.Covers.{covered, live, covers-retrying, missed-at, status-left, and-false}
+use Rattle.model.proofs.Covers.{covers-ahead, names-it, subject-of}
+use Rattle.model.proofs.Invariant.{StepOwes}
 use Rattle.model.proofs.AtWork.{AtWork, job-goes-on, job-at, pass-at}
 
 module _ {t : Table} {b : Board} {i : ℕ} {w : Job} {k : ℕ} (c : AtWork t b i w (look k)) where
@@ -51,7 +51,7 @@ module _ {t : Table} {b : Board} {i : ℕ} {w : Job} {k : ℕ} (c : AtWork t b i
         go false z = (s, longer, omega (tests, p .2))
 
     found-empty : (last : Bool) (m : ℕ)
-        → HoldsIn t (withChosen w (w .chosen ++ (n ∷ [])) (pick last (claim 0) (look (suc k)))) m → ⊥
+        → HoldsAt t (w .chord) (w .chosen ++ (n ∷ [])) (pick last (claim 0) (look (suc k))) m → ⊥
     found-empty true m x = omega (arith, x .held)
     found-empty false m x = x .held
 
@@ -60,11 +60,11 @@ module _ {t : Table} {b : Board} {i : ℕ} {w : Job} {k : ℕ} (c : AtWork t b i
     found-covers true q x = x
     found-covers false q x = x
 
-    found : Owes t b i (lookedBy t b (senderAt b i) w k (suc n))
+    found : StepOwes t b i (lookedBy t b (senderAt b i) w k (suc n))
     found =
         let last = eqb (suc k) (size t (w .chord)) in
         job-goes-on c _ tt _ refl refl refl refl (job-at c _ _ _ _ (found-placed last refl))
-        (empty-hands t _ w _ (look k) (c .phase) (λ j x. x) refl (found-empty last)) refl
+        (none-held _ _ _ refl (λ m x. x .held) (found-empty last)) refl
         (λ q ns y a x. inl (found-covers last q (covered w q (look k) (c .phase) x)))
 
   -- there is none
@@ -72,10 +72,7 @@ module _ {t : Table} {b : Board} {i : ℕ} {w : Job} {k : ℕ} (c : AtWork t b i
     abbrev s : Effect
     s = lookedBy t b (senderAt b i) w k 0
 
-    some : Bool
-    some = someClaimed (chordAt t (w .chord)) (channelAt t (w .chord) k) (messageAt b (w .subject) .sent) (b .messages)
-
-    module _ (q : ℕ) (ns : List ℕ) (x : Case t b i s q ns) where
+    module _ (q : ℕ) (ns : List ℕ) (x : Case t b (apply b i s) i none (s .sender) q ns) where
       -- a message of the list that fits and is not pending, where no claimed one fits
       left : (n : ℕ) → isIn n ns ≡ true → n < length (b .messages)
           → (messageAt b n .status ≡ woken) ⊎ (messageAt b n .status ≡ consumed) → Obliged t (apply b i s) q ns
@@ -98,17 +95,17 @@ module _ {t : Table} {b : Board} {i : ℕ} {w : Job} {k : ℕ} (c : AtWork t b i
       missed-covers a (inr z) (inr d) =
           inl (covers-ahead t (w .subject) _ _ _ q _ (x .meets .chord-in) (omega arith) (names-it x (w .subject) a))
 
-    missed : Owes t b i (lookedBy t b (senderAt b i) w k 0)
+    missed : StepOwes t b i (lookedBy t b (senderAt b i) w k 0)
     missed =
         job-goes-on c _ tt _ refl refl refl refl (pass-at c _ _ _)
-        (empty-hands t _ w _ (look k) (c .phase) (λ j x. x) refl (λ n x. pass-empty t _ _ _ _ _ n x))
+        (none-held _ _ _ refl (λ n x. x .held) (λ n x. pass-empty t _ _ _ _ _ n x))
         (subject-of t (w .subject) _ _ _ _)
         (λ q ns y a x. missed-covers q ns y a (covered w q (look k) (c .phase) x) (same? (w .chord) q))
 
-  pub look-owes : Owes t b i (look-step t b (senderAt b i) w k)
+  pub look-owes : StepOwes t b i (look-step t b (senderAt b i) w k)
   unfolding look-step
   look-owes = go (choice t b w k) refl
     where
-      go : (n : ℕ) → choice t b w k ≡ n → Owes t b i (lookedBy t b (senderAt b i) w k n)
+      go : (n : ℕ) → choice t b w k ≡ n → StepOwes t b i (lookedBy t b (senderAt b i) w k n)
       go zero e = missed e
       go (suc n) e = found n e

@@ -1,6 +1,4 @@
 -- Phases and states told apart.
-
--- neither consuming nor telling
 use mathlib.Core.Path.{_≡_, ap, sym, _∙_, refl}
 use mathlib.Core.Bool.{Bool, true, false}
 use Prim.Native.Nat.{ℕ}
@@ -9,6 +7,8 @@ use Rattle.model.specs.Boards.{Phase, look, claim, revert, consume, tell
 use Rattle.model.specs.Boards.{State, Job, idle, working, blocked, Match}
 use Rattle.model.specs.Effects.{Change, none, turn, claims, frees, consumes, wakes-by, resumes, records}
 use Rattle.model.specs.Effects.{signals}
+
+-- neither consuming nor telling
 
 abbrev pub still : Phase → Bool
 still (look k) = true

@@ -1,7 +1,7 @@
 -- The pool follows the board: what the pool holds after each call, and that every match is one that it allows.
 -- The pool is fed the match reads of the last board of the schedule, to which every board on the way grows.
 use mathlib.Core.Path.{_≡_, ap, _∙_, sym, subst, refl, subst⁻¹}
-use mathlib.Core.Logic.{_⊎_, _≢_, inl, inr}
+use mathlib.Core.Logic.{_⊎_, _≢_, inr, inl}
 use mathlib.Core.Bool.{true, false, Bool, _||_}
 use mathlib.Core.List.{map, List, _++_, _∷_, [], map-append}
 use Prim.Native.Nat.{ℕ, _<_, suc}
@@ -26,11 +26,15 @@ use Rattle.model.proofs.Tests.{and, both, never, same?, either, or-righ
 use Rattle.model.proofs.Lists.{nth-every, every-nth, nth-isIn}
 use Rattle.model.proofs.Words.{isRecord}
 use Rattle.model.proofs.Frame.{messages-count, sents-after, records-count, records-last}
-use Rattle.model.proofs.Grows.{Grows, grows-after}
+use Rattle.model.proofs.Grows.{Grows}
+use Rattle.model.proofs.Passage.{grows, step-passage}
 use Rattle.model.proofs.Local.{Full, Selection}
 use Rattle.model.proofs.Choice.{alike-via}
-use Rattle.model.proofs.Obligation.{Unmatched, Meets, unmatched-before}
-use Rattle.model.proofs.Invariant.{Inv, Owes, step-own}
+use Rattle.model.proofs.Notes.{notes-after}
+use Rattle.model.proofs.Matches.{Unmatched}
+use Rattle.model.proofs.Owners.{Owning, keeps-own, new-own}
+use Rattle.model.proofs.Obligation.{Meets, unmatched-before}
+use Rattle.model.proofs.Invariant.{Inv, StepOwes, step-call, CallOwes}
 use Rattle.model.proofs.PoolLaws.{one-distinct, channels-true, true-channels, distinct-one, sameZ-refl}
 use Rattle.model.proofs.PoolLaws.{in-snoc, in-without, without-in, without-distinct, snoc-distinct}
 use Rattle.model.proofs.Cents.{centsIn, cents-same, some-out, cents-in-snoc, added-snoc, cents-snoc}
@@ -120,9 +124,22 @@ is-record (signals n) e = never e
 
 -- a step
 module _ (t : Table) (last b : Board) (p : Pool) (ok : PoolOk t last b p) (i : ℕ) (e : Effect)
-    (v : Inv t b) (l : i < 32) (f : Owes t b i e) where
+    (v : Inv t b) (l : i < 32) (f : StepOwes t b i e) where
   g : Grows b (apply b i e)
-  g = grows-after b i e (f .local .lawful)
+  g = grows (step-passage b i e (omega (arith, v .senders)) (f .lawful))
+
+  own-same : (j : ℕ) → senderAt (apply b i e) j .own ≡ senderAt b j .own
+  own-same j = go (step-call t b i e l v f) (same? j i)
+    where
+      go : CallOwes t b (apply b i e) i (e .change) (e .sender) → (j ≡ i) ⊎ (j ≢ i)
+          → senderAt (apply b i e) j .own ≡ senderAt b j .own
+      go k (inr z) = k .passage .others j z .own
+      go k (inl z) = subst⁻¹ (λ (x : ℕ). senderAt (apply b i e) x .own ≡ senderAt b x .own) z
+          (k .passage .own .own ∙ kept (f .owners (notes-after (k .passage) (v .notes) (f .notes)) .owning))
+        where
+          kept : Owning b (apply b i e) i (e .sender) → e .sender .own ≡ senderAt b i .own
+          kept (keeps-own o n) = o
+          kept (new-own x y o n) = absurd (omega (arith, n, messages-count b i e))
 
   still-in : (n : ℕ) → n < length (apply b i e .messages) → n < length (b .messages)
   still-in n h = omega (arith, messages-count b i e)
@@ -134,7 +151,7 @@ module _ (t : Table) (last b : Board) (p : Pool) (ok : PoolOk t last b p) (i : �
   pool-still q = record {
     sents = ok .sents ∙ sym (sents-after b i e);
     own-count = ok .own-count;
-    owns = λ j. step-own t b i e l v f j ∙ ok .owns j;
+    owns = λ j. own-same j ∙ ok .owns j;
     inside-is = λ n z. let r = ok .inside-is n z in (
       omega (arith, r .0, messages-count b i e),
       subst⁻¹ (λ (ms : List Match).
@@ -213,7 +230,7 @@ module _ (t : Table) (last b : Board) (p : Pool) (ok : PoolOk t last b p) (i : �
     pool-matched = record {
       sents = ok .sents ∙ sym (sents-after b i e);
       own-count = ok .own-count;
-      owns = λ j. step-own t b i e l v f j ∙ ok .owns j;
+      owns = λ j. own-same j ∙ ok .owns j;
       inside-is = λ n q. let z = in-without n _ (p .inside) q in let r = ok .inside-is n (z .0) in (
         omega (arith, r .0, messages-count b i e),
         unmatched-now n (r .1) (sym (ap (λ (y : MatchRead). isIn n (y .messages)) read) ∙ z .1),
@@ -331,4 +348,4 @@ module _ (t : Table) (last b : Board) (p : Pool) (ok : PoolOk t last b p) (i : �
           → (isIn m (p .inside) || eqb m (length (b .messages))) ≡ true
       here m h u (inl e) = or-right (isIn m (p .inside)) (eq-eqb m (length (b .messages)) e)
       here m h u (inr e) = rw (ok .is-inside m (omega (arith, A.messages-now t b i x))
-          (unmatched-before b b′ (A.grows t b i x) m u))
+          (unmatched-before b b′ (A.added-grows t b i x (omega (arith, v .senders))) m u))

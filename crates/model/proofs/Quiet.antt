@@ -10,17 +10,18 @@ use lib.ListN.{getD, length}
 use native.Mathlib.Omega.{arith}
 use Rattle.model.specs.Basics.{every, isIn}
 use Rattle.model.specs.Tables.{Table}
-use Rattle.model.specs.Boards.{Sender, idle, idleSender, Board, Job, senderAt, working, State, woken, messageAt}
+use Rattle.model.specs.Boards.{Sender, idleSender, idle, Board, Job, senderAt, working, State, woken, messageAt}
 use Rattle.model.specs.Boards.{blocked, isIdle, claimed, pending, consumed, Status, matchAt}
 use Rattle.model.specs.Pools.{canStep, quiet}
 use Rattle.model.proofs.Tests.{both, never}
 use Rattle.model.proofs.Grows.{apart}
+use Rattle.model.proofs.Passage.{on-board}
 use Rattle.model.proofs.Local.{StateOk}
 use Rattle.model.proofs.Holding.{Holds}
-use Rattle.model.proofs.Obligation.{Meets, Unmatched, Obliged, by-subject, by-waker, by-woken, by-noted}
-use Rattle.model.proofs.Hands.{on-board}
-use Rattle.model.proofs.Matches.{WillConsume}
-use Rattle.model.proofs.Owners.{woken-waits, WillSignal}
+use Rattle.model.proofs.Notes.{woken-waits}
+use Rattle.model.proofs.Matches.{WillConsume, Unmatched}
+use Rattle.model.proofs.Owners.{WillSignal}
+use Rattle.model.proofs.Obligation.{Meets, Obliged, by-subject, by-waker, by-woken, by-noted}
 use Rattle.model.proofs.Answering.{WillTell}
 use Rattle.model.proofs.Invariant.{Inv}
 
@@ -101,7 +102,7 @@ module _ (t : Table) (b : Board) (v : Inv t b) (q : quiet b ≡ true) where
       go true z = absurd (taken (v .matches .taken n k l z))
 
   pub consumed-matched : (n : ℕ) → n < length (b .messages) → messageAt b n .status ≡ consumed → Unmatched b n → ⊥
-  consumed-matched n l e u = let r = v .notes .match n l e in never (sym (u (r .0) (r .2)) ∙ r .3)
+  consumed-matched n l e u = let r = v .notes .match n e in never (sym (u (r .0) (r .2)) ∙ r .3)
 
   pub none-tell : (n i : ℕ) → WillTell t b (senderAt b i .state) n → ⊥
   none-tell n i p = go (senderAt b i .state) refl p

@@ -19,12 +19,12 @@ use Rattle.model.specs.Demands.{boardAfter, poolAfter, finalReads}
 use Rattle.model.proofs.Tests.{never}
 use Rattle.model.proofs.AcceptedChords.{TableOk}
 use Rattle.model.proofs.Words.{matched-said, MatchedSaid}
-use Rattle.model.proofs.Grows.{apart, Grows, grows-refl, grows-after, grows-trans}
+use Rattle.model.proofs.Grows.{apart, Grows, grows-refl, grows-trans}
+use Rattle.model.proofs.Passage.{waker-on-board, grows, step-passage}
 use Rattle.model.proofs.Local.{SenderOk}
 use Rattle.model.proofs.Holding.{Holds}
-use Rattle.model.proofs.Invariant.{Inv, step-keeps}
+use Rattle.model.proofs.Invariant.{Inv, call-keeps, step-call}
 use Rattle.model.proofs.StepBy.{step-owes, OutcomeOwes}
-use Rattle.model.proofs.Adds.{grows}
 use Rattle.model.proofs.PoolRun.{PoolOk, pool-entered, step-pool}
 use Rattle.model.proofs.Adds as A
 
@@ -48,7 +48,11 @@ empty-inv t rests tok = record {
     matched-is = λ k e. absurd (omega arith);
     state-is = tt;
   });
-  notes = record { waker-is = λ n v l. none l; match = λ n l. none l; woken-is = λ n l. none l };
+  notes = record {
+    waker-is = λ n v e. none (waker-on-board (emptyBoard rests) n v e);
+    match = λ n e. absurd (apart refl e);
+    woken-is = λ n e. absurd (apart refl e);
+  };
   holding = record {
     claimed-is = λ i n x. absurd (holds-none i n x);
     one-holder = λ i j n x. absurd (holds-none i n x);
@@ -61,13 +65,12 @@ empty-inv t rests tok = record {
     signal-due = λ n e. absurd (apart refl e);
   };
   obligation = λ q ns m u. none (m .inside 0 (omega (arith, m .all, tok .chord-some q (m .chord-in))));
-  answering = λ i k l. absurd (owns-none i l);
+  answering = λ i n k o. absurd (owns-none i (omega (arith, o)));
   ranges = record {
     messages-few = omega arith;
     matches-few = omega arith;
-    channel-in = λ n l. none l;
-    cents-in = λ n l. none l;
-    match-in = λ n l. none l;
+    sent-in = λ n l. none l;
+    match-in = λ n. omega arith;
     chord-in = λ k l. none l;
   };
 }
@@ -104,25 +107,27 @@ pub call-inv : (t : Table) (b : Board) (c : Call) → Inv t b → Inv t (answerT
 call-inv t b (adds i x) v = go (addRefusal t b i x) refl
   where
     go : (f : ℕ) → addRefusal t b i x ≡ f → Inv t (addAnswer t b i x f .board)
-    go zero e = let a = A.add-accepted t b i x e in A.added-keeps t b i x v (a .0) (a .1) (a .2) (a .3) (a .4)
+    go zero e =
+        let a = A.add-accepted t b i x e in
+        A.added-keeps t b i x v (omega (arith, a .0, v .senders)) (a .1) (a .2) (a .3) (a .4)
     go (suc f) e = v
 call-inv t b (steps i) v = go (stepBy t b i) (step-owes t b i v)
   where
     go : (o : Outcome) → OutcomeOwes t b i o → Inv t (stepAnswer b i o .board)
     go (refused f) x = v
-    go (does e) x = step-keeps t b i e (x .0) v (x .1)
+    go (does e) x = call-keeps v (step-call t b i e (x .0) v (x .1))
 
 call-grows : (t : Table) (b : Board) (c : Call) → Inv t b → Grows b (answerTo t b c .board)
-call-grows t b (adds i x) v = go (addRefusal t b i x)
+call-grows t b (adds i x) v = go (addRefusal t b i x) refl
   where
-    go : (f : ℕ) → Grows b (addAnswer t b i x f .board)
-    go zero = A.grows t b i x
-    go (suc f) = grows-refl b
+    go : (f : ℕ) → addRefusal t b i x ≡ f → Grows b (addAnswer t b i x f .board)
+    go zero e = A.added-grows t b i x (omega (arith, A.add-accepted t b i x e .0, v .senders))
+    go (suc f) e = grows-refl b
 call-grows t b (steps i) v = go (stepBy t b i) (step-owes t b i v)
   where
     go : (o : Outcome) → OutcomeOwes t b i o → Grows b (stepAnswer b i o .board)
     go (refused f) x = grows-refl b
-    go (does e) x = grows-after b i e (x .1 .local .lawful)
+    go (does e) x = grows (step-passage b i e (omega (arith, x .0, v .senders)) (x .1 .lawful))
 
 call-pool : (t : Table) (last b : Board) (p : Pool) (c : Call) → Inv t b → PoolOk t last b p
     → Grows (answerTo t b c .board) last

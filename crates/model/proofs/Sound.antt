@@ -1,7 +1,7 @@
 -- A board with the invariant is sound.
 use mathlib.Core.Path.{_≡_, refl, sym}
 use mathlib.Core.Logic.{_⊎_, inl, inr, _≢_}
-use mathlib.Core.Bool.{true, not, Bool, false, _&&_, _||_}
+use mathlib.Core.Bool.{true, not, _&&_, _||_, false, Bool}
 use mathlib.Core.List.{List, [], _∷_}
 use Prim.Native.Nat.{ℕ, suc, _<_, _≤_, zero}
 use borrow.Author.Tests.{lt-ltb, le-leb, eq-eqb, ne-eqb}
@@ -10,13 +10,13 @@ use lib.ListN.{length, getD}
 use native.Mathlib.Omega.{arith}
 use Rattle.model.specs.Basics.{every}
 use Rattle.model.specs.Tables.{Table, size}
-use Rattle.model.specs.Boards.{Board, messageAt, wake, Status, pending, claim, claimed, woken, consume}
+use Rattle.model.specs.Boards.{Board, messageAt, wake, Status, pending, claimed, claim, woken, consume}
 use Rattle.model.specs.Boards.{consumed, matchAt, Job, Phase, look, revert, tell, free, signal, pass-end}
 use Rattle.model.specs.Boards.{backoff, Sender, State, idle, working, blocked, isIdle, idleSender, noMessage}
 use Rattle.model.specs.Boards.{noMatch, senderAt}
 use Rattle.model.specs.Sound.{messageOk, noteOk, matchOk, allBelow, atChord, placeOk, stateOk, senderOk}
 use Rattle.model.specs.Sound.{noneShared, owns, sound}
-use Rattle.model.proofs.Tests.{and, or-right, never}
+use Rattle.model.proofs.Tests.{and, no-true, or-right, never}
 use Rattle.model.proofs.Lists.{nth-every, nth-isIn}
 use Rattle.model.proofs.Local.{Selection, Full, Placed, SenderOk, StateOk}
 use Rattle.model.proofs.Invariant.{Inv}
@@ -30,15 +30,15 @@ module _ (t : Table) (b : Board) (v : Inv t b) where
   message-true : (n : ℕ) → n < length (b .messages) → messageOk t b (messageAt b n) ≡ true
   unfolding messageOk
   message-true n l =
-      and (lt-ltb _ _ (v .ranges .channel-in n l)) (and (v .ranges .cents-in n l) (and (le-leb _ _ (v .ranges .match-in n l))
-      (and (le-leb _ _ (plus-one (messageAt b n .waker) (length (b .messages)) (λ w e. v .notes .waker-is n w l e .0)))
+      and (lt-ltb _ _ (v .ranges .sent-in n l .0)) (and (v .ranges .sent-in n l .1) (and (le-leb _ _ (v .ranges .match-in n))
+      (and (le-leb _ _ (plus-one (messageAt b n .waker) (length (b .messages)) (λ w e. v .notes .waker-is n w e .0)))
       (note (messageAt b n .status) refl))))
     where
       note : (s : Status) → messageAt b n .status ≡ s → noteOk (messageAt b n) s ≡ true
       note pending e = refl
       note claimed e = refl
-      note woken e = le-leb 1 (messageAt b n .waker) (v .notes .woken-is n l e)
-      note consumed e = le-leb 1 (messageAt b n .match) (omega (arith, v .notes .match n l e .1))
+      note woken e = le-leb 1 (messageAt b n .waker) (v .notes .woken-is n e)
+      note consumed e = le-leb 1 (messageAt b n .match) (omega (arith, v .notes .match n e .1))
 
   match-true : (k : ℕ) → k < length (b .matches) → matchOk t b (matchAt b k) ≡ true
   unfolding matchOk
@@ -55,9 +55,6 @@ module _ (t : Table) (b : Board) (v : Inv t b) where
 
     full-true : Full t b (w .subject) (w .chord) (w .chosen) → atChord t b w (size t (w .chord)) ≡ true
     full-true f = chord-true (size t (w .chord)) (f .selection) (f .all)
-
-    no-true : {u : Bool} → u ≡ false → not u ≡ true
-    no-true e = rw e
 
     none-below : (c : List ℕ) → length c ≡ 0 → allBelow (length (b .messages)) c ≡ true
     none-below [] e = refl

@@ -11,7 +11,7 @@ use Rattle.model.specs.Effects.{Outcome, refused, does}
 use Rattle.model.specs.Steps.{job-step, blockedStep, stateStep, senderStep, stepBy}
 use Rattle.model.proofs.Tests.{tests}
 use Rattle.model.proofs.Local.{StateOk}
-use Rattle.model.proofs.Invariant.{Owes, Inv}
+use Rattle.model.proofs.Invariant.{StepOwes, Inv}
 use Rattle.model.proofs.AtWork.{AtWork}
 use Rattle.model.proofs.Look.{look-owes}
 use Rattle.model.proofs.Claim.{claim-owes}
@@ -24,10 +24,10 @@ use Rattle.model.proofs.Resume.{resume-owes}
 
 abbrev pub OutcomeOwes : Table → Board → ℕ → Outcome → Type 0
 OutcomeOwes t b i (refused f) = 1 ≤ f
-OutcomeOwes t b i (does s) = (i < 32) × Owes t b i s
+OutcomeOwes t b i (does s) = (i < 32) × StepOwes t b i s
 
 module _ (t : Table) (b : Board) (i : ℕ) (v : Inv t b) where
-  by-phase : (w : Job) (p : Phase) → AtWork t b i w p → Owes t b i (job-step t b (senderAt b i) w p)
+  by-phase : (w : Job) (p : Phase) → AtWork t b i w p → StepOwes t b i (job-step t b (senderAt b i) w p)
   by-phase w (look k) c = look-owes c
   by-phase w (claim k) c = claim-owes c
   by-phase w (revert k m) c = revert-owes c
@@ -40,7 +40,7 @@ module _ (t : Table) (b : Board) (i : ℕ) (v : Inv t b) where
   by-phase w (backoff rests) c = backoff-owes c
 
   by-signal : (g : Bool) → i < 32 → senderAt b i .state ≡ blocked → OutcomeOwes t b i (blockedStep t b (senderAt b i) g)
-  by-signal true l st = (l, resume-owes t b i v st)
+  by-signal true l st = (l, resume-owes t b i v (omega (arith, v .senders)) st)
   by-signal false l st = omega arith
 
   by-state : (x : State) → i < 32 → senderAt b i .state ≡ x → OutcomeOwes t b i (stateStep t b (senderAt b i) x)
@@ -48,8 +48,17 @@ module _ (t : Table) (b : Board) (i : ℕ) (v : Inv t b) where
   by-state (working w) l st =
       let p =
       subst (StateOk t b (senderAt b i .own) (senderAt b i .waker) (senderAt b i .matched)) st
-      (v .locals i .state-is) in
-      (l, by-phase w (w .phase) (record { inv = v; state = st; phase = refl; own-some = p .0; job = p .1 }))
+      (v .locals i .state-is) in (
+        l,
+        by-phase w (w .phase) (record {
+          inv = v;
+          in-senders = omega (arith, v .senders);
+          state = st;
+          phase = refl;
+          own-some = p .0;
+          job = p .1;
+        }),
+      )
   by-state blocked l st = by-signal (senderAt b i .signalled) l st
 
   by-number : (u : Bool) → leb 32 i ≡ u → OutcomeOwes t b i (senderStep t b i u)

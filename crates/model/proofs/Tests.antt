@@ -2,7 +2,7 @@
 -- Assumes nothing.
 use mathlib.Core.Path.{_≡_, subst, sym, refl}
 use mathlib.Core.Logic.{_⊎_, inl, inr, _≢_}
-use mathlib.Core.Bool.{false, true, Bool, _&&_, _||_}
+use mathlib.Core.Bool.{false, true, Bool, _&&_, _||_, not}
 use Prim.Native.Nat.{ℕ, suc}
 use borrow.Author.Tests.{eqb-true, eqb-false, ltb-true, ltb-false, leb-true, leb-false}
 use lib.Dec.{T, eqb}
@@ -32,6 +32,9 @@ either {t} {u} e = go t u e
 pub or-right : (t : Bool) {u : Bool} → u ≡ true → (t || u) ≡ true
 or-right true e = refl
 or-right false e = e
+
+pub no-true : {t : Bool} → t ≡ false → not t ≡ true
+no-true e = rw e
 
 pub neither : {t u : Bool} → (t || u) ≡ false → (t ≡ false) × (u ≡ false)
 neither {t} {u} e = go t u e

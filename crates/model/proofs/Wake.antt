@@ -9,26 +9,24 @@ use lib.ListN.{length, getD}
 use native.Mathlib.Omega.{arith}
 use Rattle.model.specs.Basics.{pick}
 use Rattle.model.specs.Tables.{Table, firstSync}
-use Rattle.model.specs.Boards.{Board, Job, Phase, wake, senderAt, free, signal, working, messageAt, woken}
-use Rattle.model.specs.Boards.{State}
+use Rattle.model.specs.Boards.{Board, Job, Phase, wake, senderAt, free, signal, messageAt, woken, State}
 use Rattle.model.specs.Effects.{wakes-by, Effect, Woke, turn, apply, Freed, frees, messagesAfter, signals}
 use Rattle.model.specs.Steps.{inJob, inPhase, skip, wokenOf, wake-step, free-step, signal-step}
-use Rattle.model.proofs.Tests.{tests, never}
+use Rattle.model.proofs.Tests.{tests}
 use Rattle.model.proofs.Chords.{wakes-first, skipped, first-waits}
 use Rattle.model.proofs.Frame.{messages-at}
-use Rattle.model.proofs.Grows.{Turns, Grows, grows-after}
-use Rattle.model.proofs.Phases.{signalling, turnOf, turn-wakes}
+use Rattle.model.proofs.Grows.{Turns, Grows}
+use Rattle.model.proofs.Phases.{signalling}
 use Rattle.model.proofs.Local.{AtWake, PlacedAt}
-use Rattle.model.proofs.Holding.{Held}
+use Rattle.model.proofs.Holding.{HoldingKept, HoldsAt, Held}
+use Rattle.model.proofs.Places.{drop-place, last-drop}
+use Rattle.model.proofs.Matches.{not-consuming}
+use Rattle.model.proofs.Owners.{WillSignal}
 use Rattle.model.proofs.Obligation.{by-noted}
-use Rattle.model.proofs.Discharge.{go-on, covered}
-use Rattle.model.proofs.Hands.{HoldingKept}
-use Rattle.model.proofs.Trades.{drop-place, last-drop, empty-hands, ends-empty}
-use Rattle.model.proofs.Matches.{no-consume, recorded}
-use Rattle.model.proofs.Owners.{keeps-job, no-rouse, WillSignal}
-use Rattle.model.proofs.Answering.{job-answers}
-use Rattle.model.proofs.Invariant.{Owes, no-record}
-use Rattle.model.proofs.AtWork.{AtWork, drops, job-kept, job-at, from-work, job-ends}
+use Rattle.model.proofs.Covers.{go-on, covered}
+use Rattle.model.proofs.Invariant.{StepOwes, no-record}
+use Rattle.model.proofs.AtWork.{AtWork, drops, grown, job-local, job-at, from-work, no-consume, job-owners}
+use Rattle.model.proofs.AtWork.{no-signal, plain-answering, not-waking, job-ends}
 
 module _ {t : Table} {b : Board} {i : ℕ} {w : Job} {p : Phase} (c : AtWork t b i w p)
     (to : AtWake t b (w .subject) (w .chord) (w .chosen)) where
@@ -64,7 +62,7 @@ module _ {t : Table} {b : Board} {i : ℕ} {w : Job} (c : AtWork t b i w wake) w
     }
 
     g : Grows b (apply b i s)
-    g = grows-after b i s wakes-it
+    g = grown c s wakes-it
 
     placed : (u : Bool) → leb 2 (length (w .chosen)) ≡ u
         → PlacedAt t b (w .subject) (w .chord) (w .chosen) (w .retry) (pick u (free 0) signal)
@@ -72,10 +70,10 @@ module _ {t : Table} {b : Board} {i : ℕ} {w : Job} (c : AtWork t b i w wake) w
     placed false z = to
 
     holds : (u : Bool) → leb 2 (length (w .chosen)) ≡ u
-        → HoldingKept t (turn n (wakes-by (w .subject))) (working w) (working (inPhase w (pick u (free 0) signal)))
+        → HoldingKept (turn n (wakes-by (w .subject))) (HoldsAt t (w .chord) (w .chosen) wake)
+        (HoldsAt t (w .chord) (w .chosen) (pick u (free 0) signal))
     holds true z =
-        drop-place t w _ wake (free 0) (c .phase) refl refl refl _ (firstSync t (w .chord)) (λ m x. x)
-        (λ m x. x) refl fw
+        drop-place t (w .chord) (w .chosen) wake (free 0) _ (firstSync t (w .chord)) (_, (refl, refl, refl), refl) fw
         (λ j x. (x .2, x .0)) (λ j x ne. (ne, low j ne (skipped (firstSync t (w .chord)) 0), x))
         (λ j x y. to .full .selection .one j (firstSync t (w .chord)) x fw y)
       where
@@ -86,7 +84,7 @@ module _ {t : Table} {b : Board} {i : ℕ} {w : Job} (c : AtWork t b i w wake) w
         low j ne (inl x) = omega (arith, x .1)
         low j ne (inr x) = omega (arith, x .1, x .0)
     holds false z =
-        last-drop t _ w _ wake (c .phase) (firstSync t (w .chord)) (λ m x. x) (λ m x. x) refl fw
+        last-drop t (w .chord) (w .chosen) wake _ _ (firstSync t (w .chord)) (_, (refl, refl, refl), refl) fw
         (λ j x. omega (tests, fw))
         (λ m x. x .held)
 
@@ -97,10 +95,11 @@ module _ {t : Table} {b : Board} {i : ℕ} {w : Job} (c : AtWork t b i w wake) w
     now : (messageAt (apply b i s) n .status ≡ woken) × (messageAt (apply b i s) n .waker ≡ suc (w .subject))
     now = rw (messages-at b i s n (wakes-it .on-board), eq-eqb n n refl) (refl, refl)
 
-    woke : Owes t b i s
+    woke : StepOwes t b i s
     unfolding wokenOf
     woke = record {
-      local = job-kept c s wakes-it _ refl (job-at c _ _ _ _ (placed many e));
+      lawful = wakes-it;
+      local = job-local c s wakes-it _ refl (job-at c _ _ _ _ (placed many e));
       holding = from-work c _ _ (holds many e);
       notes = (
         omega (arith, c .job .subject-in, g .messages-more),
@@ -108,17 +107,17 @@ module _ {t : Table} {b : Board} {i : ℕ} {w : Job} (c : AtWork t b i w wake) w
         rw (g .kept n (wakes-it .on-board) .channel, to .full .selection .kinds (firstSync t (w .chord)) fw)
             (first-waits t (w .chord) (wakes-first t (w .chord) _ (to .to-wake) .0)),
       );
-      matches = no-consume b i s w wake (c .state) (c .phase) refl refl;
-      owners = λ x. keeps-job t b i s _ refl refl refl
-          (λ m y. absurd (no-rouse t b i w (c .state) wake (c .phase) refl m y)) (λ m h y. (on many, ap turnOf y));
-      obligation =
-          λ q ns x. go-on x w (c .state) refl _ refl refl refl refl
-          (λ a y. inr (by-noted n (w .subject) (now .0) (now .1) a));
+      matches = not-consuming b (apply b i s) i _ _ (no-consume c refl) refl;
+      owners =
+          λ x. job-owners c s wakes-it _ refl refl refl (λ m y. absurd (no-signal c refl m y))
+          (λ m h y. (on many, y .1));
+      obligation = λ q ns x.
+          go-on x w (c .state) refl _ refl refl refl refl (λ a y. inr (by-noted n (w .subject) (now .0) (now .1) a));
+      answering = plain-answering c s wakes-it _ refl refl refl refl refl refl;
       recorded = no-record t b s refl;
-      answering = job-answers t b i w (c .state) s _ wake (c .phase) refl refl refl refl refl;
     }
 
-  pub wake-owes : Owes t b i (wake-step t b (senderAt b i) w)
+  pub wake-owes : StepOwes t b i (wake-step t b (senderAt b i) w)
   unfolding wake-step wokenOf
   wake-owes = woke (leb 2 (length (w .chosen))) refl
 
@@ -181,13 +180,14 @@ module _ {t : Table} {b : Board} {i : ℕ} {w : Job} {k : ℕ} (c : AtWork t b i
     placed-on false z = (to-free, omega (tests, more-chosen, to-free .full .all))
 
     holds-on : (u : Bool) → eqb (suc (suc k)) (length (w .chosen)) ≡ u
-        → HoldingKept t (turn (getD (w .chosen) (skip first k) 0) frees) (working w)
-        (working (inPhase w (pick u signal (free (suc k)))))
+        → HoldingKept (turn (getD (w .chosen) (skip first k) 0) frees) (HoldsAt t (w .chord) (w .chosen) (free k))
+        (HoldsAt t (w .chord) (w .chosen) (pick u signal (free (suc k))))
     holds-on true z =
-        last-drop t _ w _ (free k) (c .phase) (skip first k) (λ m x. x) (λ m x. x) refl (held-now (skipped first k))
+        last-drop t (w .chord) (w .chosen) (free k) _ _ (skip first k) (_, (refl, refl, refl), refl)
+        (held-now (skipped first k))
         (only (skipped first k) (omega tests)) (λ m x. x .held)
     holds-on false z =
-        drop-place t w _ (free k) (free (suc k)) (c .phase) refl refl refl _ (skip first k) (λ m x. x) (λ m x. x) refl
+        drop-place t (w .chord) (w .chosen) (free k) (free (suc k)) _ (skip first k) (_, (refl, refl, refl), refl)
         (held-now (skipped first k)) (fewer (skipped first k) (skipped first (suc k)))
         (rest (skipped first k) (skipped first (suc k)))
         (λ j x y. to-free .full .selection .one j (skip first k) (x .2) (held-now (skipped first k) .2) y)
@@ -196,34 +196,32 @@ module _ {t : Table} {b : Board} {i : ℕ} {w : Job} {k : ℕ} (c : AtWork t b i
     still-on true = refl
     still-on false = refl
 
-    freed : Owes t b i s′
+    freed : StepOwes t b i s′
     unfolding wokenOf
     freed = record {
-      local = job-kept c s′ puts-back _ refl (job-at c _ _ _ _ (placed-on last e));
+      lawful = puts-back;
+      local = job-local c s′ puts-back _ refl (job-at c _ _ _ _ (placed-on last e));
       holding = from-work c _ _ (holds-on last e);
       notes = tt;
-      matches = no-consume b i s′ w (free k) (c .state) (c .phase) refl refl;
-      owners = λ x. keeps-job t b i s′ _ refl refl refl
+      matches = not-consuming b (apply b i s′) i _ _ (no-consume c refl) refl;
+      owners = λ x. job-owners c s′ puts-back _ refl refl refl
           (λ m y. inl (still-on last, (subst (λ (z : State). WillSignal t z m) (c .state) y) .1))
-          (λ m h y. never (ap turn-wakes y));
-      obligation =
-          λ q ns x.
+          (λ m h y. absurd (not-waking (s′ .change) refl y));
+      obligation = λ q ns x.
           go-on x w (c .state) refl _ refl refl refl refl (λ a y. absurd (covered w q (free k) (c .phase) y));
+      answering = plain-answering c s′ puts-back _ refl refl refl refl refl refl;
       recorded = no-record t b s′ refl;
-      answering = job-answers t b i w (c .state) s′ _ (free k) (c .phase) refl refl refl refl refl;
     }
 
-  pub free-owes : Owes t b i (free-step t b (senderAt b i) w k)
+  pub free-owes : StepOwes t b i (free-step t b (senderAt b i) w k)
   unfolding free-step
   free-owes = freed (eqb (suc (suc k)) (length (w .chosen))) refl
 
 -- `signalled N`
 pub signal-owes : {t : Table} {b : Board} {i : ℕ} {w : Job} → AtWork t b i w signal
-    → Owes t b i (signal-step t b (senderAt b i) w)
+    → StepOwes t b i (signal-step t b (senderAt b i) w)
 unfolding signal-step apply messagesAfter
 signal-owes {t} {b} {i} {w} c =
-    job-ends c _ tt refl refl refl refl
-    (empty-hands t _ w _ signal (c .phase) (λ j x. x) refl
-    (λ n x. ends-empty t (b .messages) (senderAt b i) (w .subject) n x))
+    job-ends c _ tt refl refl refl refl refl (λ j x. x)
     (λ n x. ap signals ((subst (λ (z : State). WillSignal t z n) (c .state) x) .1))
     (λ q ns y a x. absurd (covered w q signal (c .phase) x))

@@ -1,15 +1,13 @@
 -- What a step says: `matched` just where it records a match, and `answered` only to a blocked sender, with the match
 -- of its
 -- own consumed message.
-
--- where a match is recorded
 use mathlib.Core.Path.{_≡_, refl, _∙_, sym, ap}
 use mathlib.Core.Bool.{Bool, false, true, _&&_}
 use Prim.Native.Nat.{_-_, ℕ, zero, suc}
 use lib.Dec.{eqb, leb}
 use lib.ListN.{getD, length}
 use Rattle.model.specs.Tables.{Table, wakes, size}
-use Rattle.model.specs.Boards.{signal, Board, Sender, Job, look, claimed, claim, pending, wake, Phase, revert}
+use Rattle.model.specs.Boards.{signal, Board, Sender, Job, look, claim, claimed, pending, wake, Phase, revert}
 use Rattle.model.specs.Boards.{consume, tell, free, pass-end, backoff, isPending, messageAt, channelOf, isOpen}
 use Rattle.model.specs.Boards.{Status, woken, consumed, blocked, senderAt, State, idle, working}
 use Rattle.model.specs.Effects.{Change, none, turn, records, signals, Effect, wordOf, Said, Outcome, refused}
@@ -20,6 +18,8 @@ use Rattle.model.specs.Steps.{backoff-step, choice, resumeBy, stepBy, re
 use Rattle.model.specs.Steps.{senderStep}
 use Rattle.model.specs.Pools.{stepAnswer}
 use Rattle.model.proofs.Tests.{never}
+
+-- where a match is recorded
 
 abbrev pub isRecord : Change → Bool
 isRecord none = false
