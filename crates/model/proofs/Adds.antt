@@ -17,10 +17,10 @@ use Rattle.model.specs.Boards.{working, Job, isIdle, State, channelOf, b
 use Rattle.model.specs.Effects.{none, turn, Change, records, signals, matchesAfter}
 use Rattle.model.specs.Steps.{more, newPass, resumed}
 use Rattle.model.specs.Adds.{added, newSender, newMessage, centsOk, addRefusal}
+use Rattle.model.specs.Demands.{Same-but-signal}
 use Rattle.model.proofs.Tests.{same?, never, tests, unless-none}
 use Rattle.model.proofs.Lists.{nth-isIn}
 use Rattle.model.proofs.Words.{isRecord}
-use Rattle.model.proofs.Frame.{Like}
 use Rattle.model.proofs.Grows.{SameSent, Grows}
 use Rattle.model.proofs.Passage.{same, After, Passage, grows}
 use Rattle.model.proofs.Local.{SenderOk, pass-ok}
@@ -85,7 +85,8 @@ module _ (t : Table) (b : Board) (i : ℕ) (new : Sent) where
           unturned (ap (λ (x : Message). x .status) k) (ap (λ (x : Message). x .match) k)
           (ap (λ (x : Message). x .waker) k)
       go false e (inl z) =
-          let k : messageAt b′ n ≡ newMessage new = subst⁻¹ (λ (x : ℕ). messageAt b′ x ≡ newMessage new) z new-message in
+          let k : messageAt b′ n ≡ newMessage new =
+          subst⁻¹ (λ (x : ℕ). messageAt b′ x ≡ newMessage new) z new-message in
           let o = sym (off (ltb-false _ _ e)) in
           unturned (ap (λ (x : Message). x .status) k ∙ ap (λ (x : Message). x .status) o)
           (ap (λ (x : Message). x .match) k ∙ ap (λ (x : Message). x .match) o)
@@ -96,8 +97,8 @@ module _ (t : Table) (b : Board) (i : ℕ) (new : Sent) where
           unturned (ap (λ (x : Message). x .status) k) (ap (λ (x : Message). x .match) k)
           (ap (λ (x : Message). x .waker) k)
 
-  same-sender : (x y : Sender) → y ≡ x → Like x y
-  same-sender x y e = subst⁻¹ (Like x) e
+  same-sender : (x y : Sender) → y ≡ x → Same-but-signal x y
+  same-sender x y e = subst⁻¹ (Same-but-signal x) e
       (record { state = refl; own = refl; waker = refl; reply = refl; matched = refl; signalled = λ z. z })
 
   isSignal : Change → Bool

@@ -17,8 +17,8 @@ use Rattle.model.specs.Boards.{pass-end, backoff, State, idle, working, 
 use Rattle.model.specs.Boards.{consumed, channelOf, matchAt, Sender, Match, Message, noMessage, isConsumed}
 use Rattle.model.specs.Effects.{Change, signals, records}
 use Rattle.model.specs.Steps.{toTell, job-end, matchedEnd, wakerEnd, syncEnd, endsBy, keepIf}
+use Rattle.model.specs.Demands.{Same-but-signal}
 use Rattle.model.proofs.Tests.{same?, never, either, and}
-use Rattle.model.proofs.Frame.{Like}
 use Rattle.model.proofs.Passage.{Passage, grows, match-is, MatchIs, old-match, new-match}
 use Rattle.model.proofs.Phases.{still}
 use Rattle.model.proofs.Local.{SenderOk, PlacedAt, tell-on, StateOk}
@@ -124,7 +124,7 @@ module _ {t : Table} {b b′ : Board} {i : ℕ} {c : Change} {d : Sender} (p : P
     other-due : j ≢ i → AnswerDue t b j n → AnswerDue t b′ j n
     other-due ne due = go (p .others j ne) due
       where
-        go : Like (senderAt b j) (senderAt b′ j) → AnswerDue t b j n → AnswerDue t b′ j n
+        go : Same-but-signal (senderAt b j) (senderAt b′ j) → AnswerDue t b j n → AnswerDue t b′ j n
         go k (has-reply e x) = has-reply (ap isIdle (k .state) ∙ e) (omega (arith, x, k .reply))
         go k (has-match e x) = has-match (ap isIdle (k .state) ∙ e) (omega (arith, x, k .matched))
         go k (has-signal e x z) = has-signal (ap isIdle (k .state) ∙ e) (k .signalled x) (consumed-still z)
@@ -161,7 +161,8 @@ module _ {t : Table} {b b′ : Board} {i : ℕ} {c : Change} {d : Sender} (p : P
       → AnswerDue t b′ j n
   old-due j n o o′ l sync sync′ (inr z) x = other-due j n o o′ l sync sync′ z x
   old-due j n o o′ l sync sync′ (inl z) x = subst⁻¹ (λ (y : ℕ). AnswerDue t b′ y n) z (own-due n
-      (subst (λ (y : ℕ). senderAt b y .own ≡ suc n) z o) (subst (λ (y : ℕ). senderAt b′ y .own ≡ suc n) z o′) l sync sync′
+      (subst (λ (y : ℕ). senderAt b y .own ≡ suc n) z o) (subst (λ (y : ℕ). senderAt b′ y .own ≡ suc n) z o′) l
+      sync sync′
       (isIdle (d .state)) refl (subst (λ (y : ℕ). AnswerDue t b y n) z x))
 
   -- a match recorded now: the caller will consume its own message, and tell the other senders

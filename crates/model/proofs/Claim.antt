@@ -147,7 +147,8 @@ module _ {t : Table} {b : Board} {i : ℕ} {w : Job} {k : ℕ} (c : AtWork t b i
             (λ j h x. absurd (not-waking (s .change) refl x));
         obligation = λ q ns x. go-on x w (c .state) refl _ refl refl refl refl (λ a z.
             never (sym (unmatched-of x (w .subject) a (length (b .matches)) (omega (arith, records-count b i s _ m refl)))
-            ∙ ap (λ (r : Match). isIn (w .subject) (r .messages)) (records-last b i s _ m refl (length (b .matches)) refl)
+            ∙ ap (λ (r : Match). isIn (w .subject) (r .messages))
+            (records-last b i s _ m refl (length (b .matches)) refl)
             ∙ full-subject t b (w .subject) (w .chord) (w .chosen) full));
         answering = record {
           own = λ n o o′. job-answer c s takes _ refl refl refl n (λ z. z) (λ x. absurd (no-consume c refl n x));

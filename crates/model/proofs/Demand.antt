@@ -146,8 +146,8 @@ module _ (t : Table) (rests : List ℕ) (cs : List Call) (tok : TableOk t) where
     as-sent = as-sent t b b p ok;
     own-is = ok .owns;
     answered = answered;
-    replied = λ i k e. let r = v .locals i .reply-is k e in
-        holds-own cs [] (append-nil′ cs) i k (r .0) (r .1) (r .2) (r .3);
+    replied = λ before rest i k e z. let r = reached t rests cs before rest tok e .inv .locals i .reply-is k z in
+        holds-own before rest e i k (r .0) (r .1) (r .2) (r .3);
   }
 
   module _ (q : quiet b ≡ true) where

@@ -1,8 +1,8 @@
 -- What a step leaves at each place: one law for items, one for desks.
 -- Assumes nothing.
-use mathlib.Core.Path.{_≡_, ap, refl, _∙_}
+use mathlib.Core.Path.{_≡_, ap, refl, _∙_, sym}
 use mathlib.Core.Logic.{_⊎_, _≢_, inl, inr}
-use mathlib.Core.Bool.{true}
+use mathlib.Core.Bool.{false}
 use mathlib.Core.List.{List, map, [], _∷_}
 use Prim.Native.Nat.{ℕ, _<_, zero, suc}
 use borrow.Author.Tests.{eq-eqb, ne-eqb}
@@ -11,11 +11,13 @@ use lib.ListN.{length, getD, set, length-set, List·getD-map, length-append}
 use lib.Seq.{getD-set-same, getD-set-other, getD-append-seam}
 use native.Mathlib.Omega.{arith}
 use Rattle.model.specs.Basics.{pick}
-use Rattle.model.specs.Boards.{Message, noMessage, Board, messageAt, Sender, senderAt, idleSender, Match}
+use Rattle.model.specs.Boards.{Message, noMessage, Board, messageAt, Sender, idleSender, senderAt, Match}
 use Rattle.model.specs.Boards.{matchAt}
 use Rattle.model.specs.Effects.{Change, none, turn, turned, records, claims, signals, Turn, Effect, apply}
 use Rattle.model.specs.Effects.{messagesAfter, signalledSender, sendersAfter, matchesAfter}
-use Rattle.model.proofs.Tests.{same?}
+use Rattle.model.specs.Demands.{Same-but-signal}
+use Rattle.model.proofs.Tests.{same?, never}
+use Rattle.model.proofs.Words.{isRecord}
 
 -- the item at a place after a change
 abbrev pub messageAfter : Change → ℕ → Message → Message
@@ -76,61 +78,52 @@ senderAfter (turn n τ) d = d
 senderAfter (records n r) d = d
 senderAfter (signals n) d = signalledSender n d
 
+pub senders-each : (c : Change) (ds : List Sender) (j : ℕ)
+    → getD (sendersAfter c ds) j idleSender ≡ senderAfter c (getD ds j idleSender)
+unfolding sendersAfter
+senders-each none ds j = refl
+senders-each (turn n τ) ds j = refl
+senders-each (records n r) ds j = refl
+senders-each (signals n) ds j = List·getD-map (signalledSender n) ds j idleSender
+
 pub senders-at : (b : Board) (i : ℕ) (s : Effect) (j : ℕ) → i < length (b .senders)
     → senderAt (apply b i s) j ≡ senderAfter (s .change) (pick (eqb j i) (s .sender) (senderAt b j))
 unfolding apply sendersAfter
-senders-at b i s j h = go (s .change) ∙ ap (senderAfter (s .change)) (put (same? j i))
+senders-at b i s j h =
+    senders-each (s .change) (set (b .senders) i (s .sender)) j ∙ ap (senderAfter (s .change)) (put (same? j i))
   where
     put : (j ≡ i) ⊎ (j ≢ i)
         → getD (set (b .senders) i (s .sender)) j idleSender ≡ pick (eqb j i) (s .sender) (senderAt b j)
     put (inl e) = rw (eq-eqb j i e) (rw e (getD-set-same (b .senders) i (s .sender) idleSender h))
     put (inr e) = rw (ne-eqb j i e) (getD-set-other (b .senders) i j (s .sender) idleSender e)
 
-    go : (c : Change)
-        → getD (sendersAfter c (set (b .senders) i (s .sender))) j idleSender ≡ senderAfter c
-        (getD (set (b .senders) i (s .sender)) j idleSender)
-    go none = refl
-    go (turn n τ) = refl
-    go (records n r) = refl
-    go (signals n) = List·getD-map (signalledSender n) (set (b .senders) i (s .sender)) j idleSender
+-- a sender after a step is as it was, or as the step leaves it, but for its signal
+pub unaltered : (d : Sender) → Same-but-signal d d
+unaltered d = record { state = refl; own = refl; waker = refl; reply = refl; matched = refl; signalled = λ e. e }
 
--- a desk after a step is as it was, or as the step leaves it, but for its signal
-pub record Like (d e : Sender) : Type 0 where
-  pub state : e .state ≡ d .state
-  pub own : e .own ≡ d .own
-  pub waker : e .waker ≡ d .waker
-  pub reply : e .reply ≡ d .reply
-  pub matched : e .matched ≡ d .matched
-  pub signalled : d .signalled ≡ true → e .signalled ≡ true
+pub like : (c : Change) (d : Sender) → Same-but-signal d (senderAfter c d)
+like none d = unaltered d
+like (turn n τ) d = unaltered d
+like (records n m) d = unaltered d
+like (signals n) d =
+    record { state = refl; own = refl; waker = refl; reply = refl; matched = refl; signalled = λ e. rw e }
 
-like : (c : Change) (d : Sender) → Like d (senderAfter c d)
-like none d = record { state = refl; own = refl; waker = refl; reply = refl; matched = refl; signalled = λ e. e }
-like (turn n τ) d = record { state = refl; own = refl; waker = refl; reply = refl; matched = refl; signalled = λ e. e }
-like (records n m) d = record {
-  state = refl;
-  own = refl;
-  waker = refl;
-  reply = refl;
-  matched = refl;
-  signalled = λ e. e;
-}
-like (signals n) d = record {
-  state = refl;
-  own = refl;
-  waker = refl;
-  reply = refl;
-  matched = refl;
-  signalled = λ e. rw e;
-}
-
-pub own-at : (b : Board) (i : ℕ) (s : Effect) → i < length (b .senders) → Like (s .sender) (senderAt (apply b i s) i)
+pub own-at : (b : Board) (i : ℕ) (s : Effect) → i < length (b .senders)
+    → Same-but-signal (s .sender) (senderAt (apply b i s) i)
 own-at b i s h = rw (senders-at b i s i h, eq-eqb i i refl) (like (s .change) (s .sender))
 
 pub other-at : (b : Board) (i : ℕ) (s : Effect) (j : ℕ) → i < length (b .senders) → j ≢ i
-    → Like (senderAt b j) (senderAt (apply b i s) j)
+    → Same-but-signal (senderAt b j) (senderAt (apply b i s) j)
 other-at b i s j h ne = rw (senders-at b i s j h, ne-eqb j i ne) (like (s .change) (senderAt b j))
 
--- a match recorded
+-- the matches after a change: as they were, or one more
+pub matches-kept : (c : Change) (ms : List Match) → isRecord c ≡ false → matchesAfter c ms ≡ ms
+unfolding matchesAfter
+matches-kept none ms e = refl
+matches-kept (turn n τ) ms e = refl
+matches-kept (records n m) ms e = never (sym e)
+matches-kept (signals n) ms e = refl
+
 pub records-count : (b : Board) (i : ℕ) (s : Effect) (n : ℕ) (m : Match) → s .change ≡ records n m
     → length (apply b i s .matches) ≡ suc (length (b .matches))
 unfolding apply matchesAfter

@@ -41,3 +41,7 @@ pub mod PoolRun
 pub mod Schedule
 pub mod Sound
 pub mod Demand
+pub mod StepFrame
+pub mod QuietExactly
+pub mod NoChords
+pub mod Samples

@@ -17,10 +17,10 @@ use Rattle.model.specs.Boards.{Sender, channelOf, isConsumed, senderAt}
 use Rattle.model.specs.Effects.{Change}
 use Rattle.model.specs.Steps.{alike, subjectPlace, toTell, startAt, passFrom, restsThen, goesIdle, matchedEnd}
 use Rattle.model.specs.Steps.{wakerEnd, syncEnd, endsBy, job-end}
+use Rattle.model.specs.Demands.{Same-but-signal}
 use Rattle.model.proofs.Tests.{same?}
 use Rattle.model.proofs.Lists.{isIn-nth}
 use Rattle.model.proofs.Chords.{names-yes}
-use Rattle.model.proofs.Frame.{Like}
 use Rattle.model.proofs.Grows.{Grows}
 use Rattle.model.proofs.Passage.{Passage, grows}
 
@@ -284,7 +284,7 @@ module _ (t : Table) (b : Board) (d : Sender) (h : ℕ) (q : SenderOk t b d) (so
   ends-ok = by-ok (isSync t (messageAt b (d .own - 1) .sent .channel)) refl
 
 -- a signal does not matter, so all senders are in order after a call if the caller is
-like-ok : (t : Table) (b : Board) (d e : Sender) → Like d e → SenderOk t b d → SenderOk t b e
+like-ok : (t : Table) (b : Board) (d e : Sender) → Same-but-signal d e → SenderOk t b d → SenderOk t b e
 like-ok t b d e l q = record {
   own-in = rw (l .own) (q .own-in);
   waker-is = λ v z. rw (l .own) (q .waker-is v (sym (l .waker) ∙ z));

@@ -70,13 +70,15 @@ module _ {t : Table} {b b′ : Board} {i : ℕ} {c : Change} {d : Sender} (p : P
       (rw y (r .0), rw y (r .1), r .2)
 
   match-on : (n : ℕ) → messageAt b n .status ≡ consumed → messageAt b′ n .match ≡ messageAt b n .match
-      → (k : ℕ) × (messageAt b′ n .match ≡ suc k) × (k < length (b′ .matches)) × (isIn n (matchAt b′ k .messages) ≡ true)
+      → (k : ℕ) × (messageAt b′ n .match ≡ suc k) × (k < length (b′ .matches))
+      × (isIn n (matchAt b′ k .messages) ≡ true)
   match-on n e m =
       let r = ok .match n e in
       (r .0, m ∙ r .1, omega (arith, r .2, g .matches-more), rw (g .matches-same (r .0) (r .2)) (r .3))
 
   match-now : (n : ℕ) → messageAt b′ n .status ≡ consumed → After b b′ c n
-      → (k : ℕ) × (messageAt b′ n .match ≡ suc k) × (k < length (b′ .matches)) × (isIn n (matchAt b′ k .messages) ≡ true)
+      → (k : ℕ) × (messageAt b′ n .match ≡ suc k) × (k < length (b′ .matches))
+      × (isIn n (matchAt b′ k .messages) ≡ true)
   match-now n e (same f s m w) = match-on n (sym s ∙ e) m
   match-now n e (turned-by claims f l s z m w) = absurd (apart refl (sym z ∙ e))
   match-now n e (turned-by frees f l s z m w) = absurd (apart refl (sym z ∙ e))

@@ -19,8 +19,9 @@ use Rattle.model.specs.Effects.{Turn, Change, none, turn, records, signa
 use Rattle.model.specs.Effects.{matchAfter, wakerAfter, matchesAfter, frees, consumes, wakes-by, resumes}
 use Rattle.model.specs.Effects.{Effect, apply}
 use Rattle.model.specs.Steps.{more}
+use Rattle.model.specs.Demands.{Same-but-signal}
 use Rattle.model.proofs.Tests.{same?, never, or-right, and}
-use Rattle.model.proofs.Frame.{Like, messages-count, messages-at, senders-at, senderAfter, own-at, other-at}
+use Rattle.model.proofs.Frame.{messages-count, messages-at, senders-at, senderAfter, own-at, other-at}
 use Rattle.model.proofs.Grows.{Turns, statusBefore, SameSent, apart, Grows, Lawful, message-kept}
 
 -- the turn that a change gives one message; a recorded match claims its last one
@@ -65,8 +66,8 @@ pub record Passage (b b′ : Board) (i : ℕ) (c : Change) (d : Sender) : Type 0
   pub kept : (n : ℕ) → n < length (b .messages) → SameSent (messageAt b n) (messageAt b′ n)
   pub after : (n : ℕ) → After b b′ c n
   pub matches : b′ .matches ≡ matchesAfter c (b .matches)
-  pub own : Like d (senderAt b′ i)
-  pub others : (j : ℕ) → j ≢ i → Like (senderAt b j) (senderAt b′ j)
+  pub own : Same-but-signal d (senderAt b′ i)
+  pub others : (j : ℕ) → j ≢ i → Same-but-signal (senderAt b j) (senderAt b′ j)
   pub signalled : (n j : ℕ) → c ≡ signals n
       → isIdle (senderAt b′ j .state) ≡ false
       → senderAt b′ j .own ≡ suc n

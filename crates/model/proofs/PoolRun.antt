@@ -15,7 +15,7 @@ use Rattle.model.specs.Basics.{isIn, every}
 use Rattle.model.specs.Tables.{Table, chordAt}
 use Rattle.model.specs.Boards.{Board, Sent, messageAt, senderAt, centsOf, noSent, noMessage, Message, Match}
 use Rattle.model.specs.Boards.{noMatch, matchAt, Sender, amount}
-use Rattle.model.specs.Effects.{Effect, apply, matchesAfter, Change, none, turn, records, signals, wordOf}
+use Rattle.model.specs.Effects.{Effect, apply, records, matchesAfter, Change, none, turn, signals, wordOf}
 use Rattle.model.specs.Effects.{valueOf}
 use Rattle.model.specs.Steps.{alike}
 use Rattle.model.specs.Adds.{added, newMessage}
@@ -25,7 +25,7 @@ use Rattle.model.specs.Pools.{noRead, readMatch, fair, without, leaves, 
 use Rattle.model.proofs.Tests.{and, both, never, same?, either, or-right}
 use Rattle.model.proofs.Lists.{nth-every, every-nth, nth-isIn}
 use Rattle.model.proofs.Words.{isRecord}
-use Rattle.model.proofs.Frame.{messages-count, sents-after, records-count, records-last}
+use Rattle.model.proofs.Frame.{matches-kept, messages-count, sents-after, records-count, records-last}
 use Rattle.model.proofs.Grows.{Grows}
 use Rattle.model.proofs.Passage.{grows, step-passage}
 use Rattle.model.proofs.Local.{Full, Selection}
@@ -102,14 +102,8 @@ module _ (t : Table) (last b : Board) (p : Pool) (ok : PoolOk t last b p) where
 
 -- matches after a step
 matches-still : (b : Board) (i : ℕ) (e : Effect) → isRecord (e .change) ≡ false → apply b i e .matches ≡ b .matches
-unfolding apply matchesAfter
-matches-still b i e = go (e .change)
-  where
-    go : (c : Change) → isRecord c ≡ false → matchesAfter c (b .matches) ≡ b .matches
-    go none q = refl
-    go (turn n τ) q = refl
-    go (records n m) q = never (sym q)
-    go (signals n) q = refl
+unfolding apply
+matches-still b i e = matches-kept (e .change) (b .matches)
 
 matches-more : (b : Board) (i : ℕ) (e : Effect) (x : ℕ) (m : Match) → e .change ≡ records x m
     → apply b i e .matches ≡ b .matches ++ (m ∷ [])

@@ -60,7 +60,8 @@ module _ (t : Table) (b : Board) (i : ℕ) (v : Inv t b) (in-senders : i < lengt
         → messageAt b′ n .status ≢ woken
         → (isIdle (s .sender .state) ≡ true → (messageAt b′ n .status ≡ consumed) × (1 ≤ s .sender .reply))
         → (messageAt b n .status ≡ consumed → isIdle (s .sender .state) ≡ true)
-        → ((q : ℕ) (ns : List ℕ) → Case t b b′ i (s .change) (s .sender) q ns → ObligationKept t b b′ i (s .change) q ns)
+        → ((q : ℕ) (ns : List ℕ) → Case t b b′ i (s .change) (s .sender) q ns → ObligationKept t b b′ i
+        (s .change) q ns)
         → StepOwes t b i s
     blocked-owes ok empty notes own matched not-woken is-idle goes-idle seen = record {
       lawful = l;

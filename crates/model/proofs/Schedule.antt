@@ -18,7 +18,7 @@ use Rattle.model.specs.Pools.{matchReads, afterAll, playedAll, history}
 use Rattle.model.specs.Demands.{boardAfter, poolAfter, finalReads}
 use Rattle.model.proofs.Tests.{never}
 use Rattle.model.proofs.AcceptedChords.{TableOk}
-use Rattle.model.proofs.Words.{matched-said, MatchedSaid}
+use Rattle.model.proofs.Words.{step-speaks, OutcomeSpeaks}
 use Rattle.model.proofs.Grows.{apart, Grows, grows-refl, grows-trans}
 use Rattle.model.proofs.Passage.{waker-on-board, grows, step-passage}
 use Rattle.model.proofs.Local.{SenderOk}
@@ -139,12 +139,12 @@ call-pool t last b p (adds i x) v ok = go (addRefusal t b i x) refl
         (played t (matchReads t last) p (adds i x) (addAnswer t b i x f .said))
     go zero e g = pool-entered t last b p ok i x v (A.add-accepted t b i x e .0) g
     go (suc f) e g = ok
-call-pool t last b p (steps i) v ok = go (stepBy t b i) (step-owes t b i v) (matched-said t b i)
+call-pool t last b p (steps i) v ok = go (stepBy t b i) (step-owes t b i v) (step-speaks t b i)
   where
-    go : (o : Outcome) → OutcomeOwes t b i o → MatchedSaid o → Grows (stepAnswer b i o .board) last
+    go : (o : Outcome) → OutcomeOwes t b i o → OutcomeSpeaks o → Grows (stepAnswer b i o .board) last
         → PoolOk t last (stepAnswer b i o .board) (played t (matchReads t last) p (steps i) (stepAnswer b i o .said))
     go (refused f) x m g = ok
-    go (does e) x m g = step-pool t last b p ok i e v (x .0) (x .1) g m
+    go (does e) x m g = step-pool t last b p ok i e v (x .0) (x .1) g (m .matched)
 
 -- a list of calls
 pub all-inv : (t : Table) (cs : List Call) (b : Board) → Inv t b → Inv t (afterAll t b cs)

@@ -91,7 +91,9 @@ module _ {t : Table} {b : Board} {i : ℕ} {w : Job} {k : ℕ} (c : AtWork t b i
           obligation = λ q l y. go-on y w (c .state) refl _ state own (ap (λ (y : Sender). y .waker) e) refl
               (λ a v. absurd (covered w q (tell k) (c .phase) v));
           answering = record {
-            own = λ n o o′. job-answer c s tt _ state own signal n (λ q. omega (arith, ap (λ (y : Sender). y .matched) e))
+            own =
+                λ n o o′.
+                job-answer c s tt _ state own signal n (λ q. omega (arith, ap (λ (y : Sender). y .matched) e))
                 (λ y. absurd (no-consuming n y));
             tells-on = λ n l wt y. tells-on later n y;
             tells-new = λ y m q. never (ap isRecord q);

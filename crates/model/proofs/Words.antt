@@ -1,17 +1,16 @@
--- What a step says: `matched` just where it records a match, and `answered` only to a blocked sender, with the match
--- of its
--- own consumed message.
-use mathlib.Core.Path.{_≡_, refl, _∙_, sym, ap}
+-- What a step says: `matched` just where it records a match, `refused` never where
+-- it does something, and `answered` only to a blocked sender, with the match of its own consumed message.
+use mathlib.Core.Path.{_≡_, refl, sym, _∙_, ap}
 use mathlib.Core.Bool.{Bool, false, true, _&&_}
 use Prim.Native.Nat.{_-_, ℕ, zero, suc}
 use lib.Dec.{eqb, leb}
 use lib.ListN.{getD, length}
 use Rattle.model.specs.Tables.{Table, wakes, size}
-use Rattle.model.specs.Boards.{signal, Board, Sender, Job, look, claim, claimed, pending, wake, Phase, revert}
+use Rattle.model.specs.Boards.{signal, Board, Sender, Job, look, claimed, claim, pending, wake, Phase, revert}
 use Rattle.model.specs.Boards.{consume, tell, free, pass-end, backoff, isPending, messageAt, channelOf, isOpen}
 use Rattle.model.specs.Boards.{Status, woken, consumed, blocked, senderAt, State, idle, working}
-use Rattle.model.specs.Effects.{Change, none, turn, records, signals, Effect, wordOf, Said, Outcome, refused}
-use Rattle.model.specs.Effects.{does, Answered, valueOf}
+use Rattle.model.specs.Effects.{Change, none, turn, records, signals, Effect, wordOf, refused, Outcome, does}
+use Rattle.model.specs.Effects.{Answered, Said, valueOf}
 use Rattle.model.specs.Steps.{lookedBy, claimedBy, passEndBy, job-step, look-step, claim-step, revert-step}
 use Rattle.model.specs.Steps.{consume-step, tell-step, wake-step, free-step, signal-step, pass-end-step}
 use Rattle.model.specs.Steps.{backoff-step, choice, resumeBy, stepBy, resume-step, blockedStep, stateStep}
@@ -19,78 +18,84 @@ use Rattle.model.specs.Steps.{senderStep}
 use Rattle.model.specs.Pools.{stepAnswer}
 use Rattle.model.proofs.Tests.{never}
 
--- where a match is recorded
-
 abbrev pub isRecord : Change → Bool
 isRecord none = false
 isRecord (turn n τ) = false
 isRecord (records n m) = true
 isRecord (signals n) = false
 
-abbrev pub Speaks : Effect → Type 0
-Speaks e = (eqb (wordOf (e .said)) 6 ≡ isRecord (e .change)) × (eqb (wordOf (e .said)) 15 ≡ false)
+-- an effect says `matched` just where it records a match, and never that it was refused
+pub record Speaks (e : Effect) : Type 0 where
+  pub matched : eqb (wordOf (e .said)) 6 ≡ isRecord (e .change)
+  pub unrefused : eqb (wordOf (e .said)) 17 ≡ false
+
+-- an effect of a sender at work answers nobody
+abbrev SpeaksAtWork : Effect → Type 0
+SpeaksAtWork e = Speaks e × (eqb (wordOf (e .said)) 15 ≡ false)
+
+plain : {e : Effect}
+    → eqb (wordOf (e .said)) 6 ≡ isRecord (e .change)
+    → eqb (wordOf (e .said)) 17 ≡ false
+    → eqb (wordOf (e .said)) 15 ≡ false
+    → SpeaksAtWork e
+plain m u a = (record { matched = m; unrefused = u }, a)
 
 module _ (t : Table) (b : Board) (d : Sender) (w : Job) where
-  looked-speaks : (k c : ℕ) → Speaks (lookedBy t b d w k c)
-  looked-speaks k zero = (refl, refl)
-  looked-speaks k (suc n) = (refl, refl)
+  looked-speaks : (k c : ℕ) → SpeaksAtWork (lookedBy t b d w k c)
+  looked-speaks k zero = plain refl refl refl
+  looked-speaks k (suc n) = plain refl refl refl
 
-  claimed-speaks : (k n : ℕ) (pending last wakes full : Bool) → Speaks (claimedBy t b d w k n pending last wakes full)
-  claimed-speaks k n false last wakes full = (refl, refl)
-  claimed-speaks k n true false wakes full = (refl, refl)
-  claimed-speaks k n true true true full = (refl, refl)
-  claimed-speaks k n true true false true = (refl, refl)
-  claimed-speaks k n true true false false = (refl, refl)
+  claimed-speaks : (k n : ℕ) (pending last wakes full : Bool)
+      → SpeaksAtWork (claimedBy t b d w k n pending last wakes full)
+  claimed-speaks k n false last wakes full = plain refl refl refl
+  claimed-speaks k n true false wakes full = plain refl refl refl
+  claimed-speaks k n true true true full = plain refl refl refl
+  claimed-speaks k n true true false true = plain refl refl refl
+  claimed-speaks k n true true false false = plain refl refl refl
 
-  ended-speaks : (again : Bool) → Speaks (passEndBy t b d w again)
-  ended-speaks true = (refl, refl)
-  ended-speaks false = (refl, refl)
+  ended-speaks : (again : Bool) → SpeaksAtWork (passEndBy t b d w again)
+  ended-speaks true = plain refl refl refl
+  ended-speaks false = plain refl refl refl
 
-  job-speaks : (p : Phase) → Speaks (job-step t b d w p)
+  job-speaks : (p : Phase) → SpeaksAtWork (job-step t b d w p)
   unfolding look-step claim-step revert-step consume-step tell-step wake-step free-step signal-step
       pass-end-step backoff-step
   job-speaks (look k) = looked-speaks k (choice t b w k)
   job-speaks (claim k) = claimed-speaks k _ (isPending (messageAt b (getD (w .chosen) k 0) .status))
       (eqb (suc k) (size t (w .chord))) (wakes t (w .chord) (channelOf b (w .subject))) (leb 1024 (length (b .matches)))
-  job-speaks (revert k m) = (refl, refl)
-  job-speaks (consume k m) = (refl, refl)
-  job-speaks (tell k) = (refl, refl)
-  job-speaks wake = (refl, refl)
-  job-speaks (free k) = (refl, refl)
-  job-speaks signal = (refl, refl)
+  job-speaks (revert k m) = plain refl refl refl
+  job-speaks (consume k m) = plain refl refl refl
+  job-speaks (tell k) = plain refl refl refl
+  job-speaks wake = plain refl refl refl
+  job-speaks (free k) = plain refl refl refl
+  job-speaks signal = plain refl refl refl
   job-speaks pass-end = ended-speaks (w .retry && isOpen (messageAt b (w .subject) .status))
-  job-speaks (backoff rests) = (refl, refl)
+  job-speaks (backoff rests) = plain refl refl refl
 
-pub resume-record : (t : Table) (b : Board) (d : Sender) (n : ℕ) (x : Status) →
-    (eqb (wordOf (resumeBy t b d n x .said)) 6 ≡ false) × (isRecord (resumeBy t b d n x .change) ≡ false)
-resume-record t b d n pending = (refl, refl)
-resume-record t b d n claimed = (refl, refl)
-resume-record t b d n woken = (refl, refl)
-resume-record t b d n consumed = (refl, refl)
+resume-speaks : (t : Table) (b : Board) (d : Sender) (n : ℕ) (x : Status) → Speaks (resumeBy t b d n x)
+resume-speaks t b d n pending = record { matched = refl; unrefused = refl }
+resume-speaks t b d n claimed = record { matched = refl; unrefused = refl }
+resume-speaks t b d n woken = record { matched = refl; unrefused = refl }
+resume-speaks t b d n consumed = record { matched = refl; unrefused = refl }
 
--- the word of an outcome: 6 just where a match is recorded
-abbrev pub MatchedSaid : Outcome → Type 0
-MatchedSaid (refused f) = Unit {0}
-MatchedSaid (does e) = eqb (wordOf (e .said)) 6 ≡ isRecord (e .change)
+abbrev pub OutcomeSpeaks : Outcome → Type 0
+OutcomeSpeaks (refused f) = Unit {0}
+OutcomeSpeaks (does e) = Speaks e
 
-pub matched-said : (t : Table) (b : Board) (i : ℕ) → MatchedSaid (stepBy t b i)
+pub step-speaks : (t : Table) (b : Board) (i : ℕ) → OutcomeSpeaks (stepBy t b i)
 unfolding stepBy resume-step
-matched-said t b i = at (leb 32 i)
+step-speaks t b i = at (leb 32 i)
   where
-    resumes-said : (g : Bool) → MatchedSaid (blockedStep t b (senderAt b i) g)
-    resumes-said false = tt
-    resumes-said true =
-        let r =
-        resume-record t b (senderAt b i) (senderAt b i .own - 1) (messageAt b (senderAt b i .own - 1) .status)
-        in
-        r .0 ∙ sym (r .1)
+    by-signal : (g : Bool) → OutcomeSpeaks (blockedStep t b (senderAt b i) g)
+    by-signal false = tt
+    by-signal true = resume-speaks t b (senderAt b i) _ (messageAt b (senderAt b i .own - 1) .status)
 
-    by : (x : State) → MatchedSaid (stateStep t b (senderAt b i) x)
+    by : (x : State) → OutcomeSpeaks (stateStep t b (senderAt b i) x)
     by idle = tt
     by (working w) = job-speaks t b (senderAt b i) w (w .phase) .0
-    by blocked = resumes-said (senderAt b i .signalled)
+    by blocked = by-signal (senderAt b i .signalled)
 
-    at : (u : Bool) → MatchedSaid (senderStep t b i u)
+    at : (u : Bool) → OutcomeSpeaks (senderStep t b i u)
     at true = tt
     at false = by (senderAt b i .state)
 
@@ -107,9 +112,6 @@ answered-said t b i k = at (leb 32 i)
   where
     not-15 : {a : Said} → eqb (wordOf a) 15 ≡ false → a ≡ Answered k → ⊥
     not-15 e q = never (sym e ∙ ap (λ (a : Said). eqb (wordOf a) 15) q)
-
-    d : Sender
-    d = senderAt b i
 
     own : (x : Status) → messageAt b (senderAt b i .own - 1) .status ≡ x → senderAt b i .state ≡ blocked
         → resumeBy t b (senderAt b i) (senderAt b i .own - 1) x .said ≡ Answered k → Answers-own b i k

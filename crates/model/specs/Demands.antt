@@ -10,7 +10,8 @@ use lib.ListN.{length, getD}
 use Rattle.model.specs.Basics.{isIn, every}
 use Rattle.model.specs.Tables.{Table, chordAt, isSync}
 use Rattle.model.specs.Layout.{tableRefusal, tableOf}
-use Rattle.model.specs.Boards.{Sent, Match, Sender, Board, messageAt, senderAt, emptyBoard, isPending, centsOf}
+use Rattle.model.specs.Boards.{Sent, Message, Match, Sender, Board, messageAt, senderAt, emptyBoard, isPending}
+use Rattle.model.specs.Boards.{centsOf}
 use Rattle.model.specs.Effects.{Refused, Answered, refused}
 use Rattle.model.specs.Steps.{stepBy}
 use Rattle.model.specs.Sound.{sound}
@@ -20,12 +21,14 @@ use Rattle.model.specs.Pools.{Pool, emptyPool, sentAt, ownOf, playedAll,
 
 -- The frame: what a call leaves as it was, on every board
 
+-- the same sender, perhaps signalled
 pub record Same-but-signal (d e : Sender) : Type 0 where
   pub state : e .state ≡ d .state
   pub own : e .own ≡ d .own
   pub waker : e .waker ≡ d .waker
   pub reply : e .reply ≡ d .reply
   pub matched : e .matched ≡ d .matched
+  pub signalled : d .signalled ≡ true → e .signalled ≡ true
 
 -- "a claim alters one record of it and no other": a step of sender i from b to b′
 pub record Step-frame (b b′ : Board) (i : ℕ) : Type 0 where
@@ -39,9 +42,11 @@ pub record Step-frame (b b′ : Board) (i : ℕ) : Type 0 where
   pub other-senders : (j : ℕ) → j ≢ i → Same-but-signal (senderAt b j) (senderAt b′ j)
   pub backoffs : b′ .backoffs ≡ b .backoffs
 
--- an add by sender i: messages may be appended; all else but that sender stays
+-- an add by sender i: a message may be appended; all else but that sender stays
 pub record Add-frame (b b′ : Board) (i : ℕ) : Type 0 where
-  pub messages : (n : ℕ) → n < length (b .messages) → messageAt b′ n ≡ messageAt b n
+  pub appended : List Message
+  pub messages : b′ .messages ≡ b .messages ++ appended
+  pub at-most-one : length appended ≤ 1
   pub matches : b′ .matches ≡ b .matches
   pub other-senders : (j : ℕ) → j ≢ i → senderAt b′ j ≡ senderAt b j
   pub backoffs : b′ .backoffs ≡ b .backoffs
@@ -98,9 +103,10 @@ pub record Run-of (t : Table) (rests : List ℕ) (cs : List Call) : Type 0 where
       → cs ≡ before ++ (steps i ∷ rest)
       → answerTo t (boardAfter t rests before) (steps i) .said ≡ Answered k
       → Holds-own t (poolAfter t rests (finalReads t rests cs) before) (finalReads t rests cs) i k
-  pub replied : (i k : ℕ)
-      → senderAt (boardAfter t rests cs) i .reply ≡ suc k
-      → Holds-own t (poolOf t rests cs) (finalReads t rests cs) i k
+  pub replied : (before rest : List Call) (i k : ℕ)
+      → cs ≡ before ++ rest
+      → senderAt (boardAfter t rests before) i .reply ≡ suc k
+      → Holds-own t (poolAfter t rests (finalReads t rests cs) before) (finalReads t rests cs) i k
 
 pub record Quiet-at (t : Table) (rests : List ℕ) (cs : List Call) : Type 0 where
   pub pending : (n : ℕ)

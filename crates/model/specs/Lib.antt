@@ -9,3 +9,4 @@ pub mod Adds
 pub mod Sound
 pub mod Pools
 pub mod Demands
+pub mod Samples

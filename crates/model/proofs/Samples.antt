@@ -1,0 +1,30 @@
+-- The samples computed: 01's (M) items as one theorem over the table of them, and its printed run of table P. Each is
+-- closed, so that its two sides are the same once the definitions are unfolded.
+use mathlib.Core.Path.{_≡_, refl}
+use mathlib.Core.List.{map}
+use Prim.Native.Nat.{ℕ}
+use Rattle.model.specs.Tables.{isSync, firstSync, wakes, naming}
+use Rattle.model.specs.Layout.{word, countsOk, offsetsOk, kindsOk, chordOk, membersOk, tableRefusal, tableOf}
+use Rattle.model.specs.Boards.{builtinBackoffs, backoffAt, amount}
+use Rattle.model.specs.Effects.{messagesAfter, matchesAfter, sendersAfter, apply}
+use Rattle.model.specs.Steps.{passFrom, alike, someClaimed, choice, look-step, claim-step, revert-step, job-end}
+use Rattle.model.specs.Steps.{consume-step, tell-step, wokenOf, wake-step, skip, free-step, signal-step, more}
+use Rattle.model.specs.Steps.{pass-end-step, backoff-step, resume-step, stepBy}
+use Rattle.model.specs.Adds.{addRefusal, added}
+use Rattle.model.specs.Samples.{outcome, samples, expected, printout, tableP, scheduleP, printoutP}
+
+-- to unfold this is to unfold every definition that a run computes with
+unfoldable pub opened : ℕ
+unfolding isSync firstSync wakes naming word countsOk offsetsOk kindsOk chordOk membersOk tableRefusal tableOf
+    builtinBackoffs backoffAt amount messagesAfter matchesAfter sendersAfter apply passFrom alike someClaimed choice
+    look-step claim-step revert-step job-end consume-step tell-step wokenOf wake-step skip free-step signal-step more
+    pass-end-step backoff-step resume-step stepBy addRefusal added
+opened = 0
+
+pub m-items : map outcome samples ≡ map expected samples
+unfolding opened
+m-items = refl
+
+pub run-of-P : printout (tableOf tableP) scheduleP ≡ printoutP
+unfolding opened
+run-of-P = refl

@@ -1,0 +1,176 @@
+-- 01's "Edge items" marked (M), as one table of samples, and its printed run: bytes, calls, and what 01 says of them.
+-- That without chords nothing ever matches is about every schedule, and so a theorem of its own (proofs/NoChords).
+use mathlib.Core.Bool.{Bool, true}
+use mathlib.Core.List.{List, [], _∷_, _++_, map}
+use Prim.Native.Nat.{ℕ, zero, suc, _+_}
+use lib.IntN.{ℤ, pos, negℤ}
+use lib.ListN.{take, replicate}
+use Rattle.model.specs.Tables.{Table}
+use Rattle.model.specs.Layout.{tableRefusal, tableOf}
+use Rattle.model.specs.Boards.{Status, consumed, builtinBackoffs, emptyBoard}
+use Rattle.model.specs.Effects.{Said, Item, Looked, Claimed, Matched, Consumed, Woke, Freed, Signalled, Refused}
+use Rattle.model.specs.Effects.{Missed, Ended, Resumed, Lost, Reverted, Again, Told, Answered, Rested}
+use Rattle.model.specs.Pools.{Call, adds, steps, history, MatchRead, matchReads, quiet}
+use Rattle.model.specs.Demands.{boardAfter}
+
+-- a table's bytes and calls; the reader's number and what the calls are to answer
+pub record Sample : Type 0 where
+  pub table : List ℕ
+  pub calls : List Call
+  pub refusal : ℕ
+  pub said : List Said
+
+abbrev pub saidTo : Table → List Call → List Said
+saidTo t cs = map (λ e. e .said) (history t (emptyBoard builtinBackoffs) cs)
+
+-- by the reader's number: a refused table answers no call
+abbrev pub saidIf : ℕ → Table → List Call → List Said
+saidIf zero t cs = saidTo t cs
+saidIf (suc f) t cs = []
+
+abbrev pub outcome : Sample → ℕ × List Said
+outcome s = (tableRefusal (s .table), saidIf (tableRefusal (s .table)) (tableOf (s .table)) (s .calls))
+
+abbrev pub expected : Sample → ℕ × List Said
+expected s = (s .refusal, s .said)
+
+abbrev pub readAs : List ℕ → ℕ → Sample
+readAs s n = record { table = s; calls = []; refusal = n; said = [] }
+
+abbrev pub runAs : List ℕ → List Call → List Said → Sample
+runAs s cs said = record { table = s; calls = cs; refusal = 0; said = said }
+
+-- 01's line `a DESK TRAY PROPERTY CENTS`
+abbrev pub send : ℕ → ℕ → ℕ → ℕ → Call
+send i channel property cents = adds i (record { channel = channel; property = property; cents = pos cents })
+
+-- the same with CENTS below 0
+abbrev pub sendBack : ℕ → ℕ → ℕ → ℕ → Call
+sendBack i channel property cents = adds i (record { channel = channel; property = property; cents = negℤ (pos cents) })
+
+-- Tables
+
+-- "Table P, hexadecimal: 02 00 01 00 02 00 0C 00 0E 00 12 00 00 01 00 00 02 01 00 01."
+abbrev pub tableP : List ℕ
+tableP =
+    0x02 ∷ 0x00 ∷ 0x01 ∷ 0x00 ∷ 0x02 ∷ 0x00 ∷ 0x0C ∷ 0x00 ∷ 0x0E ∷ 0x00 ∷ 0x12 ∷ 0x00 ∷
+    0x00 ∷ 0x01 ∷
+    0x00 ∷ 0x00 ∷ 0x02 ∷ 0x01 ∷
+    0x00 ∷ 0x01 ∷ []
+
+-- one asynchronous channel and no chord
+abbrev pub chordlessTable : List ℕ
+chordlessTable = 0x01 ∷ 0x00 ∷ 0x00 ∷ 0x00 ∷ 0x00 ∷ 0x00 ∷ 0x0C ∷ 0x00 ∷ 0x0D ∷ 0x00 ∷ 0x0D ∷ 0x00 ∷ 0x00 ∷ []
+
+-- one synchronous channel and one chord that names it twice
+abbrev pub contendedTable : List ℕ
+contendedTable =
+    0x01 ∷ 0x00 ∷ 0x01 ∷ 0x00 ∷ 0x02 ∷ 0x00 ∷ 0x0C ∷ 0x00 ∷ 0x0D ∷ 0x00 ∷ 0x11 ∷ 0x00 ∷
+    0x01 ∷
+    0x00 ∷ 0x00 ∷ 0x02 ∷ 0x00 ∷
+    0x00 ∷ 0x00 ∷ []
+
+-- T asynchronous channels, and one chord that names channel 0 n times: well formed but for what T or n may break
+abbrev pub repeating : ℕ → ℕ → List ℕ
+repeating T n =
+    T ∷ 0 ∷ 1 ∷ 0 ∷ n ∷ 0 ∷ 12 ∷ 0 ∷ (12 + T) ∷ 0 ∷ (16 + T) ∷ 0 ∷ [] ++
+    replicate T 0 ++
+    0 ∷ 0 ∷ n ∷ 0 ∷ [] ++
+    replicate n 0
+
+-- Schedules
+
+-- "Input: `a 0 1 7 0`; `s 0` three times; `a 1 0 7 5000`; `s 1` seven times; `s 0` eight times", with the
+-- property of message 1 left open
+abbrev pub scheduleFor : ℕ → List Call
+scheduleFor property =
+    send 0 1 7 0 ∷ replicate 3 (steps 0) ++ send 1 0 property 5000 ∷ replicate 7 (steps 1) ++ replicate 8 (steps 0)
+
+abbrev pub scheduleP : List Call
+scheduleP = scheduleFor 7
+
+-- The run of P: "Printed, a line each", then "match 0 rule 0 cents 5000 items 1 0 / quiet yes", and no `open` line
+
+pub record Printout : Type 0 where
+  pub said : List Said
+  pub matches : List MatchRead
+  pub statuses : List Status
+  pub quiet : Bool
+
+abbrev pub printout : Table → List Call → Printout
+printout t cs = record {
+  said = saidTo t cs;
+  matches = matchReads t (boardAfter t builtinBackoffs cs);
+  statuses = map (λ x. x .status) (boardAfter t builtinBackoffs cs .messages);
+  quiet = quiet (boardAfter t builtinBackoffs cs);
+}
+
+abbrev pub saidP : List Said
+saidP =
+    Item 0 ∷ Missed ∷ Ended ∷ Refused 13 ∷
+    Item 1 ∷ Looked 1 ∷ Looked 0 ∷ Claimed 1 ∷ Claimed 0 ∷ Woke 0 ∷ Freed 1 ∷ Signalled 0 ∷
+    Resumed ∷ Looked 1 ∷ Looked 0 ∷ Claimed 1 ∷ Matched 0 ∷ Consumed 1 ∷ Consumed 0 ∷ Refused 13 ∷ []
+
+abbrev pub printoutP : Printout
+printoutP = record {
+  said = saidP;
+  matches = record { chord = 0; messages = 1 ∷ 0 ∷ []; cents = pos 5000 } ∷ [];
+  statuses = consumed ∷ consumed ∷ [];
+  quiet = true;
+}
+
+-- Three senders of one synchronous channel, whose steps fall between one another's: a claim is lost and reverted, a
+-- retry rests, and the sender that was told is answered
+abbrev pub contended : List Call
+contended =
+    send 0 0 7 0 ∷ steps 0 ∷ steps 0 ∷ send 2 0 7 0 ∷ steps 2 ∷ steps 0 ∷ steps 2 ∷ send 1 0 7 0 ∷
+    steps 1 ∷ steps 1 ∷ steps 2 ∷ steps 1 ∷ steps 1 ∷ replicate 6 (steps 2) ++
+    steps 1 ∷ steps 1 ∷ steps 1 ∷ steps 0 ∷ steps 2 ∷ steps 32 ∷ []
+
+abbrev pub saidContended : List Said
+saidContended =
+    Item 0 ∷ Looked 0 ∷ Missed ∷ Item 1 ∷ Looked 1 ∷ Ended ∷ Looked 0 ∷ Item 2 ∷
+    Looked 2 ∷ Looked 0 ∷ Claimed 1 ∷ Claimed 2 ∷ Matched 0 ∷ Lost 0 ∷ Reverted 1 ∷ Again ∷ Looked 1 ∷ Missed ∷ Again ∷
+    Consumed 2 ∷ Consumed 0 ∷ Told 0 ∷ Answered 0 ∷ Rested ∷ Refused 8 ∷ []
+
+-- The (M) items
+
+abbrev pub oneMessage : List Call
+oneMessage = send 0 0 7 0 ∷ replicate 3 (steps 0)
+
+abbrev pub secondMessage : List Call
+secondMessage = send 0 0 7 0 ∷ replicate 6 (steps 0)
+
+abbrev pub saidOne : List Said
+saidOne = Item 0 ∷ Looked 0 ∷ Missed ∷ Ended ∷ []
+
+abbrev pub samples : List Sample
+samples =
+    -- "P accepted"
+    readAs tableP 0 ∷
+    -- "P less its last byte: 3"
+    readAs (take 19 tableP) 3 ∷
+    -- "11 bytes: 1"
+    readAs (take 11 tableP) 1 ∷
+    -- "T=17: 2"
+    readAs (repeating 17 2) 2 ∷
+    -- "R=0 with M=0 accepted, nothing ever matches"
+    runAs chordlessTable (send 0 0 7 0 ∷ steps 0 ∷ []) (Item 0 ∷ Ended ∷ []) ∷
+    -- "a rule byte count of 9: 5"
+    readAs (repeating 1 9) 5 ∷
+    -- and the most that is taken: "T (1 to 16)", "member count, 1 to 8"
+    readAs (repeating 16 8) 0 ∷
+    -- "item 1 with property 8 in the run above: `looked 1`, `missed`, `ended`"
+    runAs tableP (scheduleFor 8)
+    (Item 0 ∷ Missed ∷ Ended ∷ Refused 13 ∷ Item 1 ∷ Looked 1 ∷ Missed ∷ Ended ∷ replicate 12 (Refused 13)) ∷
+    -- "cents 999,999,999,999 taken, one more: 11"
+    runAs tableP (send 0 0 7 999_999_999_999 ∷ send 1 0 7 1_000_000_000_000 ∷ []) (Item 0 ∷ Refused 11 ∷ []) ∷
+    -- "(-999,999,999,999 to 999,999,999,999)"
+    runAs tableP (sendBack 0 0 7 999_999_999_999 ∷ sendBack 1 0 7 1_000_000_000_000 ∷ []) (Item 0 ∷ Refused 11 ∷ []) ∷
+    -- "a rule naming tray 0 twice, one item: `looked`, `missed`, `ended`"
+    runAs (repeating 1 2) oneMessage saidOne ∷
+    -- "that rule, second item: matched"
+    runAs (repeating 1 2) (oneMessage ++ secondMessage)
+    (saidOne ++ Item 1 ∷ Looked 1 ∷ Looked 0 ∷ Claimed 1 ∷ Matched 0 ∷ Consumed 1 ∷ Consumed 0 ∷ []) ∷
+    -- the steps of a lost claim, by 01's rules
+    runAs contendedTable contended saidContended ∷ []
