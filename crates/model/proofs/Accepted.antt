@@ -1,5 +1,4 @@
--- Table bytes without a refusal: the reader's tests as plain facts,
--- and the facts as a table that is not refused.
+-- Table bytes without a refusal: the reader's tests as plain facts, and the facts as a table that is not refused.
 use mathlib.Core.Path.{_≡_}
 use mathlib.Core.Bool.{true}
 use mathlib.Core.List.{List}

@@ -1,5 +1,5 @@
--- The table read from accepted bytes: its counts, and each chord's size, first index and channels by its place.
--- The laws are over any bytes from which n chords are read, then over the table.
+-- The table read from accepted bytes: its counts, and each chord's size, first index and channels by its place. The
+-- laws are over any bytes from which n chords are read, then over the table.
 use mathlib.Core.Path.{_≡_, refl, ap}
 use mathlib.Core.Bool.{true}
 use mathlib.Core.List.{List}

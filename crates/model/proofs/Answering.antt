@@ -1,6 +1,5 @@
 -- A sender whose synchronous message is matched has its reply, or will have it: it matched the message itself, its
--- signal is
--- set, or some sender is about to consume or to tell it.
+-- signal is set, or some sender is about to consume or to tell it.
 use mathlib.Core.Path.{_≡_, subst, subst⁻¹, ap, _∙_, sym, refl}
 use mathlib.Core.Logic.{_≢_, _⊎_, inr, inl}
 use mathlib.Core.Bool.{true, false, not, Bool, _&&_, _||_}
@@ -261,7 +260,7 @@ job-ended t is e h = by (isSync t (getD is (e .own - 1) noMessage .sent .channel
     }
     by true z = sync-end (e .waker)
 
--- waiting items of a choice other than the hand are told
+-- the synchronous messages of a choice other than the subject are told
 pub in-tell : (t : Table) (is : List Message) (h n : ℕ) (ns : List ℕ) → isIn n ns ≡ true
     → isSync t (getD is n noMessage .sent .channel) ≡ true → n ≢ h → isIn n (toTell t is h ns) ≡ true
 in-tell t is h n [] e wt ne = e

@@ -1,5 +1,5 @@
--- A sender at work in some phase, and what two common kinds of step owe: the job goes on, or it ends.
--- A change is tame if it consumes, wakes and resumes no message and records no match.
+-- A sender at work in some phase, and what two common kinds of step owe: the job goes on, or it ends. A change is tame
+-- if it consumes, wakes and resumes no message and records no match.
 use mathlib.Core.Path.{_≡_, refl, sym, _∙_, ap, subst, subst⁻¹}
 use mathlib.Core.Logic.{_⊎_, inl, inr, _≢_}
 use mathlib.Core.Bool.{Bool, true, false}
@@ -78,11 +78,12 @@ module _ {t : Table} {b : Board} {i : ℕ} {w : Job} {p : Phase} (c : AtWork t b
       → getD (w .chosen) j 0 < length (b .messages) → Turns b (getD (w .chosen) j 0) τ
   drops τ s j h l = record {
     on-board = l;
-    from = c .inv .holding .claimed-is i _ (subst⁻¹ (λ (z : State). Holds t z (getD (w .chosen) j 0)) (c .state) (record {
-      place = j;
-      held = subst⁻¹ (λ (q : Phase). Held t (w .chord) q (length (w .chosen)) j) (c .phase) h;
-      is = refl;
-    })) ∙ s;
+    from = c .inv .holding .claimed-is i _
+        (subst⁻¹ (λ (z : State). Holds t z (getD (w .chosen) j 0)) (c .state) (record {
+          place = j;
+          held = subst⁻¹ (λ (q : Phase). Held t (w .chord) q (length (w .chosen)) j) (c .phase) h;
+          is = refl;
+        })) ∙ s;
   }
 
   -- what the job holds, by its phase
@@ -272,7 +273,8 @@ module _ {t : Table} {b : Board} {i : ℕ} {w : Job} {p : Phase} (c : AtWork t b
           lawful = l;
           local = local;
           holding = from-work (s .change) _ (none-held (s .change) _ _ idle-hands (λ n y. k (y .place) (y .held))
-              (λ n y. ends-empty t (b .messages) (senderAt b i) (w .subject) n (subst (λ (z : Sender). Holds t (z .state) n) d y)));
+              (λ n y. ends-empty t (b .messages) (senderAt b i) (w .subject) n
+              (subst (λ (z : Sender). Holds t (z .state) n) d y)));
           notes = x .no-note t b′;
           matches = not-consuming b b′ i (s .change) (s .sender) (no-consume st) (x .calm);
           owners = λ n. end-owners (senderAt b i) d′ refl refl local n sg (x .no-wake);

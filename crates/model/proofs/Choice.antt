@@ -1,5 +1,4 @@
--- The look's choice by its two laws, and what a chosen item adds.
--- Assumes nothing.
+-- The look's choice by its two laws, and what a chosen message adds.
 use mathlib.Core.Path.{refl, _≡_, _∙_, sym}
 use mathlib.Core.Logic.{_≢_, _⊎_, inl, inr}
 use mathlib.Core.Bool.{true, not, Bool, _||_, false, _&&_}
@@ -39,7 +38,7 @@ alike-via r a b c = go (not (r .equal))
         eq-eqb (c .property) (b .property)
         (eqb-true (c .property) (a .property) f ∙ sym (eqb-true (b .property) (a .property) e))
 
--- an item open to the member k of the job
+-- a message open to member k of the job's chord
 abbrev pub opens : Table → Board → Job → ℕ → ℕ → Bool
 opens t b w k n =
     isFree (chordAt t (w .chord)) (channelAt t (w .chord) k) (messageAt b (w .subject) .sent) (w .chosen) n

@@ -137,7 +137,8 @@ module _ {t : Table} {b : Board} {i : ℕ} {w : Job} {k : ℕ} (c : AtWork t b i
         lawful = takes;
         local = local;
         holding = from-work c _ _ (take-place t (w .chord) (w .chosen) (claim k) (consume 0 _) _ k (refl, refl, refl)
-            (omega arith, in-chosen) (λ j x ne. omega (tests, x .1, full .all)) (λ j x. (omega arith, omega (arith, in-chosen))));
+            (omega arith, in-chosen) (λ j x ne. omega (tests, x .1, full .all))
+            (λ j x. (omega arith, omega (arith, in-chosen))));
         notes = tt;
         matches = record {
           goes-on = λ n x. absurd (no-consume c refl n x);
@@ -146,7 +147,8 @@ module _ {t : Table} {b : Board} {i : ℕ} {w : Job} {k : ℕ} (c : AtWork t b i
         owners = λ n. job-owners c s takes _ refl refl refl (λ j x. absurd (no-signal c refl j x))
             (λ j h x. absurd (not-waking (s .change) refl x));
         obligation = λ q ns x. go-on x w (c .state) refl _ refl refl refl refl (λ a z.
-            never (sym (unmatched-of x (w .subject) a (length (b .matches)) (omega (arith, records-count b i s _ m refl)))
+            never (sym (unmatched-of x (w .subject) a (length (b .matches))
+            (omega (arith, records-count b i s _ m refl)))
             ∙ ap (λ (r : Match). isIn (w .subject) (r .messages))
             (records-last b i s _ m refl (length (b .matches)) refl)
             ∙ full-subject t b (w .subject) (w .chord) (w .chosen) full));

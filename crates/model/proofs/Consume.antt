@@ -190,7 +190,8 @@ module _ {t : Table} {b : Board} {i : ℕ} {w : Job} {k m : ℕ} (c : AtWork t b
         job-on-owes : PlacedAt t b′ (w .subject) (w .chord) (w .chosen) (w .retry) r
             → HoldingKept (turn n (consumes m)) (HoldsAt t (w .chord) (w .chosen) (consume k m))
             (HoldsAt t (w .chord) (w .chosen) r)
-            → ((y : ℕ) → y < length (b .messages) → isSync t (channelOf b y) ≡ true → WillTell t b (senderAt b i .state) y
+            → ((y : ℕ) → y < length (b .messages) → isSync t (channelOf b y) ≡ true
+            → WillTell t b (senderAt b i .state) y
             → WillTell t b′ (working (inPhase w r)) y)
             → StepOwes t b i s
         job-on-owes placed holds told =

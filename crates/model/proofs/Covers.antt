@@ -1,6 +1,5 @@
 -- A pass looks at every chord ahead that names its subject, and a retry at all of them; and how a step that goes on
--- with its
--- job, or ends it, hands on what it is bound to.
+-- with its job, or ends it, hands on what it is bound to.
 use mathlib.Core.Path.{refl, _≡_, sym, _∙_, subst, ap, subst⁻¹}
 use mathlib.Core.Logic.{inl, inr, _⊎_, _≢_}
 use mathlib.Core.Bool.{Bool, true, false, not, _&&_}

@@ -134,7 +134,8 @@ module _ (t : Table) (rests : List ℕ) (cs : List Call) (tok : TableOk t) where
       w .notes .match (senderAt (boardAfter t rests before) i .own - 1) (a .is-consumed) in
       let same : m .0 ≡ k = omega (arith, m .1, a .match-is) in
       holds-own before (steps i ∷ rest) e i k (s .0) (s .1) (omega (arith, m .2, same))
-      (subst (λ (x : ℕ). isIn (senderAt (boardAfter t rests before) i .own - 1) (matchAt (boardAfter t rests before) x .messages) ≡ true)
+      (subst (λ (x : ℕ). isIn (senderAt (boardAfter t rests before) i .own - 1)
+      (matchAt (boardAfter t rests before) x .messages) ≡ true)
       same (m .3))
 
   pub run-of : Run-of t rests cs

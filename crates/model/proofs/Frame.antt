@@ -1,5 +1,4 @@
--- What a step leaves at each place: one law for items, one for desks.
--- Assumes nothing.
+-- What a step leaves at each place: one law for messages, one for senders.
 use mathlib.Core.Path.{_≡_, ap, refl, _∙_, sym}
 use mathlib.Core.Logic.{_⊎_, _≢_, inl, inr}
 use mathlib.Core.Bool.{false}
@@ -19,7 +18,7 @@ use Rattle.model.specs.Demands.{Same-but-signal}
 use Rattle.model.proofs.Tests.{same?, never}
 use Rattle.model.proofs.Words.{isRecord}
 
--- the item at a place after a change
+-- the message at a place after a change
 abbrev pub messageAfter : Change → ℕ → Message → Message
 messageAfter none m x = x
 messageAfter (turn n τ) m x = pick (eqb m n) (turned τ x) x
@@ -71,7 +70,7 @@ sents-after b i s = go (s .change)
     go (records n r) = map-set (λ x. x .sent) (b .messages) n (turned claims (messageAt b n)) noMessage refl
     go (signals n) = refl
 
--- the desk at a place after a change: itself, perhaps told
+-- the sender at a place after a change: itself, perhaps signalled
 abbrev pub senderAfter : Change → Sender → Sender
 senderAfter none d = d
 senderAfter (turn n τ) d = d

@@ -1,5 +1,4 @@
--- What no step undoes: items keep tray, property and cents, consumed stays, matches are only appended.
--- Assumes nothing.
+-- What no step undoes: messages keep what was sent, consumed stays, matches are only appended.
 use mathlib.Core.Path.{_≡_, refl, ap, _∙_}
 use mathlib.Core.Logic.{_≢_}
 use mathlib.Core.Bool.{Bool, true, false}
@@ -38,7 +37,7 @@ pub record Grows (b b′ : Board) : Type 0 where
   pub matches-more : length (b .matches) ≤ length (b′ .matches)
   pub matches-same : (k : ℕ) → k < length (b .matches) → matchAt b′ k ≡ matchAt b k
 
--- the status that an item has before it turns
+-- the status that a message has before it turns
 abbrev pub statusBefore : Turn → Status
 statusBefore claims = pending
 statusBefore frees = claimed

@@ -1,6 +1,4 @@
--- Laws of the definitions' list functions: members, the first that passes, the lowest that passes, rules naming a
--- tray; the pigeonhole.
--- Assumes nothing.
+-- Laws of the definitions' list functions: members, the first that passes, and the lowest that passes.
 use mathlib.Core.Path.{_≡_, refl, sym, _∙_}
 use mathlib.Core.Logic.{_⊎_, inl, inr, _≢_}
 use mathlib.Core.Bool.{true, false, Bool}

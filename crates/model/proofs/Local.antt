@@ -1,5 +1,4 @@
--- What is true of one desk by itself, whatever the others do: stable under Grows.
--- Assumes nothing.
+-- What is true of one sender by itself, whatever the others do: stable under Grows.
 use mathlib.Core.Path.{_≡_, refl, _∙_, sym, subst⁻¹}
 use mathlib.Core.Logic.{_⊎_, inr, _≢_, inl}
 use mathlib.Core.Bool.{true, false, Bool, not, _&&_}
@@ -24,8 +23,8 @@ use Rattle.model.proofs.Chords.{names-yes}
 use Rattle.model.proofs.Grows.{Grows}
 use Rattle.model.proofs.Passage.{Passage, grows}
 
--- a job at rule r with h in hand: the rule names the hand's tray, and the chosen items are of the members' trays,
--- fit, and are distinct
+-- a job at chord r with subject h: the chord names the subject's channel, and the chosen messages are of the members'
+-- channels, fit, and are distinct
 pub record Selection (t : Table) (b : Board) (h r : ℕ) (c : List ℕ) : Type 0 where
   pub chord-in : r < length (t .chords)
   pub names : isIn (messageAt b h .sent .channel) (chordAt t r .channels) ≡ true
@@ -73,7 +72,7 @@ PlacedAt t b h r c retry (backoff rests) = length c ≡ 0
 abbrev pub Placed : Table → Board → Job → Phase → Type 0
 Placed t b w p = PlacedAt t b (w .subject) (w .chord) (w .chosen) (w .retry) p
 
--- a job of a desk with this own item and waker (numbers plus 1)
+-- a job of a sender with this own message and waker (numbers plus 1)
 pub record JobAt (t : Table) (b : Board) (own waker : ℕ) (w : Job) (p : Phase) : Type 0 where
   pub subject-in : w .subject < length (b .messages)
   pub subject-is : (suc (w .subject) ≡ own) ⊎ (suc (w .subject) ≡ waker)
@@ -233,7 +232,7 @@ pub rests-ok : (t : Table) (b : Board) (o v h k rests : ℕ) → h < length (b .
 rests-ok t b o v h k zero l i = pass-ok t b o v h 0 k false l i
 rests-ok t b o v h k (suc rests) l i = record { subject-in = l; subject-is = i; placed = refl }
 
--- a desk with another state, signal or slip
+-- a sender with another state, signal or reply
 pub with-state : (t : Table) (b : Board) (d : Sender) (s : State) (g : Bool) → SenderOk t b d
     → StateOk t b (d .own) (d .waker) (d .matched) s
     → SenderOk t b
@@ -246,7 +245,7 @@ with-state t b d s g q p = record {
   state-is = p;
 }
 
--- a job's end keeps the desk in order
+-- a job's end keeps the sender in order
 module _ (t : Table) (b : Board) (d : Sender) (h : ℕ) (q : SenderOk t b d) (some : 1 ≤ d .own) where
   idle-ok : (l : ℕ)
       → ((k : ℕ) → l ≡ suc k → (1 ≤ d .own) × Waits t b (d .own) × (k < length (b .matches))

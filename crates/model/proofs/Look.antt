@@ -1,6 +1,5 @@
 -- A look keeps the invariant. The one hard step is a miss: whatever would complete the chord is woken, is claimed and
--- so sets
--- the retry mark, or is matched.
+-- so sets the retry mark, or is matched.
 use mathlib.Core.Path.{_≡_, _∙_, refl, subst⁻¹}
 use mathlib.Core.Logic.{_⊎_, inl, inr, _≢_}
 use mathlib.Core.Bool.{Bool, true, false}

@@ -1,5 +1,5 @@
--- Every synchronous message that is not consumed has one sender, at work or blocked; a woken one is signalled, or
--- will be.
+-- Every synchronous message that is not consumed has one sender, at work or blocked; a woken one is signalled, or will
+-- be.
 use mathlib.Core.Path.{_≡_, sym, _∙_, subst, subst⁻¹, refl, ap}
 use mathlib.Core.Logic.{_≢_, _⊎_, inl, inr}
 use mathlib.Core.Bool.{true, false, Bool}
@@ -78,7 +78,8 @@ module _ {b b′ : Board} {i : ℕ} {c : Change} {d : Sender} (p : Passage b b�
     where
       go : (j ≡ i) ⊎ (j ≢ i) → senderAt b′ j .own ≡ suc n
       go (inl z) = subst⁻¹ (λ (x : ℕ). senderAt b′ x .own ≡ suc n) z (caller-after n
-          (subst (λ (x : ℕ). isIdle (senderAt b x .state) ≡ false) z f) (subst (λ (x : ℕ). senderAt b x .own ≡ suc n) z e))
+          (subst (λ (x : ℕ). isIdle (senderAt b x .state) ≡ false) z f)
+          (subst (λ (x : ℕ). senderAt b x .own ≡ suc n) z e))
       go (inr z) = p .others j z .own ∙ e
 
 module _ {t : Table} {b b′ : Board} {i : ℕ} {c : Change} {d : Sender} (p : Passage b b′ i c d) (ok : Owners t b)
@@ -162,7 +163,8 @@ module _ {t : Table} {b b′ : Board} {i : ℕ} {c : Change} {d : Sender} (p : P
         → senderAt b′ j .signalled ≡ true
     old-signal (inr z) q s = p .others j z .signalled s
     old-signal (inl z) q s = subst⁻¹ (λ (x : ℕ). senderAt b′ x .signalled ≡ true) z (p .own .signalled
-        (go (k .signal-kept (subst (λ (x : ℕ). senderAt b x .signalled ≡ true) z s) n (subst (λ (x : ℕ). senderAt b x .own ≡ suc n) z q)
+        (go (k .signal-kept (subst (λ (x : ℕ). senderAt b x .signalled ≡ true) z s) n
+        (subst (λ (x : ℕ). senderAt b x .own ≡ suc n) z q)
         (sym (p .own .own) ∙ subst (λ (x : ℕ). senderAt b′ x .own ≡ suc n) z o))))
       where
         go : (d .signalled ≡ true) ⊎ (messageAt b′ n .status ≢ woken) → d .signalled ≡ true

@@ -1,7 +1,6 @@
 -- A call by sender i, seen place by place: from board b to b′, with change c, leaving the sender as d but for its
--- signal.
--- Steps and adds are both passages, and each part of the invariant is shown to survive every passage that pays what
--- it owes.
+-- signal. Steps and adds are both passages, and each part of the invariant is shown to survive every passage that pays
+-- what it owes.
 use mathlib.Core.Path.{_≡_, ap, refl, _∙_, sym, subst⁻¹}
 use mathlib.Core.Logic.{_≢_, _⊎_, inl, inr}
 use mathlib.Core.Bool.{Bool, false, true, not}

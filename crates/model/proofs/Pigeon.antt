@@ -1,5 +1,4 @@
--- The pigeonhole, and what it does of a look that misses.
--- Assumes nothing.
+-- The pigeonhole: of more messages than were chosen, one was not; what a look that misses rests on.
 use mathlib.Core.Path.{_≡_, refl, _∙_, sym, ap}
 use mathlib.Core.Logic.{_⊎_, inr, inl, _≢_}
 use mathlib.Core.Bool.{Bool, true, false, _&&_, not}
@@ -66,8 +65,8 @@ pigeon (suc k) f lt inj = pigeon k (move f k) low one
             (omega (arith, inj i (suc k) (omega arith) (omega arith) (rw (ne-eqb (f i) k p, eq-eqb (f j) k q) at e)))
         go (inr p) (inr q) e = inj i j (omega arith) (omega arith) (rw (ne-eqb (f i) k p, ne-eqb (f j) k q) at e)
 
--- a mark g on the places; k + 1 distinct numbers by place, and a list of k whose marks by place are the same:
--- some number at a place with k's mark is not in the list
+-- a mark g on the places; k + 1 distinct numbers by place, and a list of k whose marks by place are the same: some
+-- number at a place with k's mark is not in the list
 module _ (g h : ℕ → ℕ) (ns : ℕ → ℕ) (c : List ℕ) (k : ℕ)
     (size : length c ≡ k)
     (marks : (j : ℕ) → j < k → h (getD c j 0) ≡ g j)

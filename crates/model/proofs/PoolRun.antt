@@ -1,5 +1,5 @@
--- The pool follows the board: what the pool holds after each call, and that every match is one that it allows.
--- The pool is fed the match reads of the last board of the schedule, to which every board on the way grows.
+-- The pool follows the board: what the pool holds after each call, and that every match is one that it allows. The
+-- pool is fed the match reads of the last board of the schedule, to which every board on the way grows.
 use mathlib.Core.Path.{_≡_, ap, _∙_, sym, subst, refl, subst⁻¹}
 use mathlib.Core.Logic.{_⊎_, _≢_, inr, inl}
 use mathlib.Core.Bool.{true, false, Bool, _||_}
@@ -156,7 +156,8 @@ module _ (t : Table) (last b : Board) (p : Pool) (ok : PoolOk t last b p) (i : �
     good = ok .good;
     once-in = ok .once-in;
     total = subst⁻¹ (λ (ms : List Match).
-        centsAdded t (p .sent) ≡ centsIn t (sentOf last) ms +ℤ centsOf t (sentOf last) (p .inside)) (matches-still b i e q) (ok .total);
+        centsAdded t (p .sent) ≡ centsIn t (sentOf last) ms +ℤ centsOf t (sentOf last) (p .inside))
+        (matches-still b i e q) (ok .total);
   }
 
   -- match m is recorded, which the last board still has
@@ -198,7 +199,8 @@ module _ (t : Table) (last b : Board) (p : Pool) (ok : PoolOk t last b p) (i : �
         and (eq-eqb _ _ (sym (ok .number)))
         (and (lt-ltb (length (b .matches)) (length (matchReads t last)) in-reads)
         (and (lt-ltb _ _ (full .1 .selection .chord-in))
-        (and all-in (and (full-meets t last b p ok (full .0) (m .chord) (m .messages) (full .1)) (sameZ-refl _ _ cents-are)))))
+        (and all-in (and (full-meets t last b p ok (full .0) (m .chord) (m .messages) (full .1))
+        (sameZ-refl _ _ cents-are)))))
 
     unmatched-now : (n : ℕ) → Unmatched b n → isIn n (m .messages) ≡ false → Unmatched (apply b i e) n
     unmatched-now n u q y h = at (same? y (length (b .matches)))
@@ -236,7 +238,8 @@ module _ (t : Table) (last b : Board) (p : Pool) (ok : PoolOk t last b p) (i : �
       good = and (ok .good) (ap (fair t (matchReads t last) p (length (b .matches))) read ∙ is-fair);
       once-in = without-distinct _ (p .inside) (ok .once-in);
       total = subst⁻¹ (λ (y : MatchRead). centsAdded t (p .sent)
-          ≡ centsIn t (sentOf last) (apply b i e .matches) +ℤ centsOf t (sentOf last) (without (y .messages) (p .inside))) read total-now;
+          ≡ centsIn t (sentOf last) (apply b i e .matches)
+          +ℤ centsOf t (sentOf last) (without (y .messages) (p .inside))) read total-now;
     }
 
   pub step-pool : Grows (apply b i e) last → eqb (wordOf (e .said)) 6 ≡ isRecord (e .change)

@@ -1,5 +1,4 @@
 -- On a quiet board nothing is claimed, woken or owed.
--- Assumes nothing.
 use mathlib.Core.Path.{_≡_, refl, sym, _∙_, ap}
 use mathlib.Core.Logic.{_⊎_, inr, inl}
 use mathlib.Core.Bool.{not, true, false, Bool}

@@ -30,7 +30,8 @@ module _ (t : Table) (b : Board) (v : Inv t b) where
   message-true : (n : ℕ) → n < length (b .messages) → messageOk t b (messageAt b n) ≡ true
   unfolding messageOk
   message-true n l =
-      and (lt-ltb _ _ (v .ranges .sent-in n l .0)) (and (v .ranges .sent-in n l .1) (and (le-leb _ _ (v .ranges .match-in n))
+      and (lt-ltb _ _ (v .ranges .sent-in n l .0)) (and (v .ranges .sent-in n l .1)
+      (and (le-leb _ _ (v .ranges .match-in n))
       (and (le-leb _ _ (plus-one (messageAt b n .waker) (length (b .messages)) (λ w e. v .notes .waker-is n w e .0)))
       (note (messageAt b n .status) refl))))
     where
@@ -88,7 +89,8 @@ module _ (t : Table) (b : Board) (v : Inv t b) where
     state-true : (x : State) → StateOk t b (d .own) (d .waker) (d .matched) x → stateOk t b d x ≡ true
     state-true idle q = refl
     state-true (working w) q =
-        and (le-leb 1 (d .own) (q .0)) (and (lt-ltb _ _ (q .1 .subject-in)) (and (subject-true (w .subject) (q .1 .subject-is))
+        and (le-leb 1 (d .own) (q .0)) (and (lt-ltb _ _ (q .1 .subject-in))
+        (and (subject-true (w .subject) (q .1 .subject-is))
         (place-true w (w .phase) (q .1 .placed))))
     state-true blocked q = le-leb 1 (d .own) (q .0)
 
@@ -129,7 +131,8 @@ module _ (t : Table) (b : Board) (v : Inv t b) where
   pub is-sound : sound t b ≡ true
   unfolding sound
   is-sound =
-      and (eq-eqb _ _ (v .senders)) (and (le-leb _ _ (v .ranges .messages-few)) (and (le-leb _ _ (v .ranges .matches-few))
+      and (eq-eqb _ _ (v .senders)) (and (le-leb _ _ (v .ranges .messages-few))
+      (and (le-leb _ _ (v .ranges .matches-few))
       (and (nth-every _ (b .messages) noMessage message-true) (and (nth-every _ (b .matches) noMatch match-true)
       (and (nth-every _ (b .senders) idleSender (λ i l. sender-true (senderAt b i) (v .locals i)))
       (shared-true (b .senders) (λ i j p q e o.

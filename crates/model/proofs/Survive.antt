@@ -1,5 +1,5 @@
--- A table survives being written and read: accepted bytes are what is written for the table read from them,
--- what is written for a table reads as it, and a chord's channels are the part of the bytes that holds them.
+-- A table survives being written and read: accepted bytes are what is written for the table read from them, what is
+-- written for a table reads as it, and a chord's channels are the part of the bytes that holds them.
 use mathlib.Core.Path.{_≡_, refl}
 use mathlib.Core.Bool.{true}
 use mathlib.Core.List.{List, [], _∷_, _++_}

@@ -1,5 +1,4 @@
 -- Tests, and lists as the board uses them.
--- Assumes nothing.
 use mathlib.Core.Path.{_≡_, subst, sym, refl}
 use mathlib.Core.Logic.{_⊎_, inl, inr, _≢_}
 use mathlib.Core.Bool.{false, true, Bool, _&&_, _||_, not}

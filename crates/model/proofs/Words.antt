@@ -1,5 +1,5 @@
--- What a step says: `matched` just where it records a match, `refused` never where
--- it does something, and `answered` only to a blocked sender, with the match of its own consumed message.
+-- What a step says: `matched` just where it records a match, `refused` never where it does something, and `answered`
+-- only to a blocked sender, with the match of its own consumed message.
 use mathlib.Core.Path.{_≡_, refl, sym, _∙_, ap}
 use mathlib.Core.Bool.{Bool, false, true, _&&_}
 use Prim.Native.Nat.{_-_, ℕ, zero, suc}

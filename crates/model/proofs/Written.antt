@@ -1,5 +1,5 @@
--- Bytes written for a table: read, they are the table again,
--- and they are accepted if the table keeps the layout's rules.
+-- Bytes written for a table: read, they are the table again, and they are accepted if the table keeps the layout's
+-- rules.
 use mathlib.Core.Path.{_≡_, refl, sym}
 use mathlib.Core.Bool.{true, Bool, false}
 use mathlib.Core.List.{List, [], _∷_, _++_}

@@ -16,13 +16,19 @@ abbrev pub every : {A : Type 0} → (A → Bool) → List A → Bool
 every f [] = true
 every f (x ∷ xs) = f x && every f xs
 
+-- all of these hold
+abbrev pub allOf : List Bool → Bool
+allOf [] = true
+allOf (x ∷ []) = x
+allOf (x ∷ y ∷ zs) = x && allOf (y ∷ zs)
+
 -- the place of the first that passes; the length for none
 abbrev pub firstBy : (ℕ → Bool) → List ℕ → ℕ
 firstBy f [] = 0
 firstBy f (m ∷ ms) = elim (f m) [ true ↦ 0 | false ↦ suc (firstBy f ms) ]
 
--- 01, "Refused, by place": "In the order checked". Refusal n unless the test holds, else what is checked next; 0 is
--- no refusal.
+-- 01, "Refused, by place": "In the order checked". Refusal n unless the test holds, else what is checked next; 0 is no
+-- refusal.
 abbrev pub unless : Bool → ℕ → ℕ → ℕ
 unless true n next = next
 unless false n next = n

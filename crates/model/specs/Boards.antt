@@ -1,5 +1,5 @@
--- Messages, matches, senders and the board (01: items, matches, desks). Numbers that may be missing are kept plus 1,
--- 0 for none.
+-- Messages, matches, senders and the board (01: items, matches, desks). Numbers that may be missing are kept plus 1, 0
+-- for none.
 use mathlib.Core.Bool.{Bool, true, false}
 use mathlib.Core.List.{List, [], _∷_}
 use lib.IntN.{ℤ, pos, _+ℤ_}
@@ -28,10 +28,9 @@ pub record Match : Type 0 where
   pub chord : ℕ
   pub messages : List ℕ
 
--- Where a job is. The first number of a phase is its place: the member that the next step is about, or for backoff
--- the rests
--- after that one. revert has the number of claims made beside it, consume the match plus 1. pass-end: "When the rules
--- run out".
+-- Where a job is. The first number of a phase is its place: the member that the next step is about, or for backoff the
+-- rests after that one. revert has the number of claims made beside it, consume the match plus 1. pass-end: "When the
+-- rules run out".
 pub data Phase : Type 0 where
   look : ℕ → Phase
   claim : ℕ → Phase
@@ -45,8 +44,7 @@ pub data Phase : Type 0 where
   backoff : ℕ → Phase
 
 -- A sender's work on the subject, 01's item in hand. chosen: "A desk remembers up to eight chosen items, in member
--- order";
--- retry: 01's retry mark; retries: how often the job said `again`, at most 16.
+-- order"; retry: 01's retry mark; retries: how often the job said `again`, at most 16.
 pub record Job : Type 0 where
   pub subject : ℕ
   pub chord : ℕ

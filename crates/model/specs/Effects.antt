@@ -113,8 +113,7 @@ turned τ x = record {
 }
 
 -- What a step does beside altering its own sender: nothing; message n turns; match m is recorded with the last claim,
--- of n;
--- message n's sender is signalled.
+-- of n; message n's sender is signalled.
 pub data Change : Type 0 where
   none : Change
   turn : ℕ → Turn → Change

@@ -1,12 +1,12 @@
--- Table bytes (01, "Table bytes"): refusals 1 to 7 in their order, the table read and written, a chord's channels as
--- a part.
+-- Table bytes (01, "Table bytes"): refusals 1 to 7 in their order, the table read and written, a chord's channels as a
+-- part.
 use mathlib.Core.Path.{_≡_}
 use mathlib.Core.Bool.{Bool, true, false, _&&_}
 use mathlib.Core.List.{List, [], _∷_, _++_}
 use Prim.Native.Nat.{ℕ, zero, suc, _+_, _*_, _/_, _%_, _<_}
 use lib.Dec.{eqb, ltb, leb}
 use lib.ListN.{length, getD, take, drop}
-use Rattle.model.specs.Basics.{pick, every, unless, firstOf}
+use Rattle.model.specs.Basics.{allOf, pick, every, unless, firstOf}
 use Rattle.model.specs.Tables.{Chord, Table, chordAt}
 
 -- "little endian .. u16": the i-th of the bytes s
@@ -30,13 +30,16 @@ abbrev pub membersStart : ℕ → ℕ → ℕ
 membersStart T R = 12 + (T + 4 * R)
 
 unfoldable pub countsOk : List ℕ → Bool
-countsOk s = leb 1 (countT s) && (leb (countT s) 16 && (leb (countR s) 32 && leb (countM s) 256))
+countsOk s = allOf (leb 1 (countT s) ∷ leb (countT s) 16 ∷ leb (countR s) 32 ∷ leb (countM s) 256 ∷ [])
 
 -- "the offsets of trays, rules and members, which must be 12, 12+T and 12+T+4R. The length is 12+T+4R+M."
 unfoldable pub offsetsOk : List ℕ → Bool
 offsetsOk s =
-    eqb (word 3 s) 12 && (eqb (word 4 s) (chordsStart (countT s)) && (eqb (word 5 s) (membersStart (countT s) (countR s)) &&
-    eqb (length s) (membersStart (countT s) (countR s) + countM s)))
+    allOf
+    (eqb (word 3 s) 12 ∷
+    eqb (word 4 s) (chordsStart (countT s)) ∷
+    eqb (word 5 s) (membersStart (countT s) (countR s)) ∷
+    eqb (length s) (membersStart (countT s) (countR s) + countM s) ∷ [])
 
 abbrev pub kindBytes : List ℕ → List ℕ
 kindBytes s = take (countT s) (drop 12 s)
@@ -54,7 +57,7 @@ kindsOk ks = every (λ k. leb k 1) ks
 -- "A rule is a u16 (its first member's index), a u8 (member count, 1 to 8) and a u8 (1: .. equal property numbers; 0:
 -- any)."
 unfoldable pub chordOk : ℕ → List ℕ → Bool
-chordOk next s = eqb (word 0 s) next && (leb 1 (getD s 2 0) && (leb (getD s 2 0) 8 && leb (getD s 3 0) 1))
+chordOk next s = allOf (eqb (word 0 s) next ∷ leb 1 (getD s 2 0) ∷ leb (getD s 2 0) 8 ∷ leb (getD s 3 0) 1 ∷ [])
 
 -- "Each rule starts where the one before it ended"
 abbrev pub chordsOk : ℕ → ℕ → List ℕ → Bool
@@ -142,13 +145,18 @@ written t out = pick (eqb (writeRefusal t out) 0) (tableBytes t ++ drop (length 
 
 -- a chord that keeps them among T channels
 unfoldable pub chordKeeps : ℕ → Chord → Bool
-chordKeeps T c = leb 1 (length (c .channels)) && (leb (length (c .channels)) 8 && membersOk T (c .channels))
+chordKeeps T c = allOf (leb 1 (length (c .channels)) ∷ leb (length (c .channels)) 8 ∷ membersOk T (c .channels) ∷ [])
 
 -- a table that keeps the layout's rules
 unfoldable pub keepsLayout : Table → Bool
 keepsLayout t =
-    leb 1 (length (t .kinds)) && (leb (length (t .kinds)) 16 && (leb (length (t .chords)) 32 &&
-    (leb (length (writtenMembers (t .chords))) 256 && (kindsOk (t .kinds) && every (chordKeeps (length (t .kinds))) (t .chords)))))
+    allOf
+    (leb 1 (length (t .kinds)) ∷
+    leb (length (t .kinds)) 16 ∷
+    leb (length (t .chords)) 32 ∷
+    leb (length (writtenMembers (t .chords))) 256 ∷
+    kindsOk (t .kinds) ∷
+    every (chordKeeps (length (t .kinds))) (t .chords) ∷ [])
 
 abbrev pub allBytes : List ℕ → Bool
 allBytes s = every (λ b. ltb b 256) s

@@ -5,7 +5,7 @@ use Prim.Native.Nat.{ℕ, zero, suc, _+_}
 use lib.IntN.{ℤ, pos, negsuc, _+ℤ_}
 use lib.Dec.{eqb, ltb}
 use lib.ListN.{length, getD, set, replicate}
-use Rattle.model.specs.Basics.{pick, isIn, every}
+use Rattle.model.specs.Basics.{allOf, pick, isIn, every}
 use Rattle.model.specs.Tables.{Chord, Table, chordAt}
 use Rattle.model.specs.Boards.{Sent, noSent, Match, State, idle, working, blocked, Sender, Board, messageAt}
 use Rattle.model.specs.Boards.{emptyBoard}
@@ -78,8 +78,8 @@ matchReads t b = map (readMatch t b) (b .matches)
 abbrev pub noRead : MatchRead
 noRead = record { chord = 0; messages = []; cents = pos 0 }
 
--- "Items meet a rule if they are distinct, one of its tray for each member in order, with equal property numbers
--- where wanted"
+-- "Items meet a rule if they are distinct, one of its tray for each member in order, with equal property numbers where
+-- wanted"
 
 abbrev pub distinct : List ℕ → Bool
 distinct [] = true
@@ -93,11 +93,13 @@ channelsMeet sent (m ∷ ms) (n ∷ ns) = eqb (sent n .channel) m && channelsMee
 
 unfoldable pub meets : Chord → (ℕ → Sent) → List ℕ → Bool
 meets r sent ns =
-    distinct ns && (channelsMeet sent (r .channels) ns && every (λ n. alike r (sent (getD ns 0 0)) (sent n)) ns)
+    allOf
+    (distinct ns ∷
+    channelsMeet sent (r .channels) ns ∷
+    every (λ n. alike r (sent (getD ns 0 0)) (sent n)) ns ∷ [])
 
 -- "The pool is a plain set of items": those sent so far by number, the numbers inside, and each sender's own message
--- plus 1.
--- good: every exchange so far was as the pool wants it.
+-- plus 1. good: every exchange so far was as the pool wants it.
 pub record Pool : Type 0 where
   pub sent : List Sent
   pub inside : List ℕ
@@ -133,13 +135,16 @@ sameZ (negsuc a) (pos b) = false
 sameZ (negsuc a) (negsuc b) = eqb a b
 
 -- "K is the number of matches before. Match K reads a rule of the table, items that are all in the pool and meet it,
--- and the
--- cents of a match of them."
+-- and the cents of a match of them."
 unfoldable pub fair : Table → List MatchRead → Pool → ℕ → MatchRead → Bool
 fair t ms p k m =
-    eqb k (p .matches) && (ltb k (length ms) && (ltb (m .chord) (length (t .chords)) &&
-    (every (λ n. isIn n (p .inside)) (m .messages) && (meets (chordAt t (m .chord)) (sentAt (p .sent)) (m .messages) &&
-    sameZ (m .cents) (centsOf t (sentAt (p .sent)) (m .messages))))))
+    allOf
+    (eqb k (p .matches) ∷
+    ltb k (length ms) ∷
+    ltb (m .chord) (length (t .chords)) ∷
+    every (λ n. isIn n (p .inside)) (m .messages) ∷
+    meets (chordAt t (m .chord)) (sentAt (p .sent)) (m .messages) ∷
+    sameZ (m .cents) (centsOf t (sentAt (p .sent)) (m .messages)) ∷ [])
 
 abbrev pub without : List ℕ → List ℕ → List ℕ
 without ys [] = []

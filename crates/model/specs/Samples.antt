@@ -80,8 +80,8 @@ repeating T n =
 
 -- Schedules
 
--- "Input: `a 0 1 7 0`; `s 0` three times; `a 1 0 7 5000`; `s 1` seven times; `s 0` eight times", with the
--- property of message 1 left open
+-- "Input: `a 0 1 7 0`; `s 0` three times; `a 1 0 7 5000`; `s 1` seven times; `s 0` eight times", with the property of
+-- message 1 left open
 abbrev pub scheduleFor : ℕ → List Call
 scheduleFor property =
     send 0 1 7 0 ∷ replicate 3 (steps 0) ++ send 1 0 property 5000 ∷ replicate 7 (steps 1) ++ replicate 8 (steps 0)

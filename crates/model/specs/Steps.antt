@@ -1,11 +1,11 @@
--- Steps (01, "The steps"). Each test's outcome is an argument of a helper by clauses, so that a proof goes by the
--- same clauses.
+-- Steps (01, "The steps"). Each test's outcome is an argument of a helper by clauses, so that a proof goes by the same
+-- clauses.
 use mathlib.Core.Bool.{Bool, true, false, _&&_, _||_, not}
 use mathlib.Core.List.{List, [], _∷_, _++_}
 use Prim.Native.Nat.{ℕ, zero, suc, _-_}
 use lib.Dec.{eqb, ltb, leb}
 use lib.ListN.{length, getD}
-use Rattle.model.specs.Basics.{pick, isIn, firstBy}
+use Rattle.model.specs.Basics.{allOf, pick, isIn, firstBy}
 use Rattle.model.specs.Tables.{Chord, Table, chordAt, size, channelAt, isSync, firstSync, wakes, naming}
 use Rattle.model.specs.Boards.{Status, pending, claimed, woken, consumed, Sent, Message, Match, Phase, look}
 use Rattle.model.specs.Boards.{claim, revert}
@@ -89,7 +89,7 @@ fits r channel s x = eqb (x .sent .channel) channel && alike r s (x .sent)
 
 -- "pending item of its tray not yet chosen, with the hand's property number if the rule wants that"
 abbrev pub isFree : Chord → ℕ → Sent → List ℕ → ℕ → Message → Bool
-isFree r channel s chosen n x = fits r channel s x && (isPending (x .status) && not (isIn n chosen))
+isFree r channel s chosen n x = allOf (fits r channel s x ∷ isPending (x .status) ∷ not (isIn n chosen) ∷ [])
 
 -- the lowest number, plus 1, of those that pass; 0 for none
 abbrev pub lowest : (ℕ → Message → Bool) → ℕ → List Message → ℕ
@@ -109,8 +109,7 @@ abbrev pub subjectPlace : Table → Board → ℕ → ℕ → ℕ
 subjectPlace t b h r = firstBy (eqb (channelOf b h)) (chordAt t r .channels)
 
 -- "The item in hand fills the first member of its tray, whatever its status .. Any other member takes the
--- lowest-numbered
--- pending item": what a look takes for member k, its number plus 1, 0 for none
+-- lowest-numbered pending item": what a look takes for member k, its number plus 1, 0 for none
 unfoldable pub choice : Table → Board → Job → ℕ → ℕ
 choice t b w k =
     pick (eqb (subjectPlace t b (w .subject) (w .chord)) k) (suc (w .subject))
@@ -267,9 +266,8 @@ tell-step t b d w k =
     let n = getD ns k 0 in
     record { said = Told n; change = signals n; sender = toldTo t (b .messages) d w k (eqb (suc k) (length ns)) }
 
--- A wake: "`woke N`: the first member of a waiting tray becomes woken and notes the hand as its waker; `freed N`:
--- each other
--- member in order becomes pending; `signalled N` sets the woken item's signal"
+-- A wake: "`woke N`: the first member of a waiting tray becomes woken and notes the hand as its waker; `freed N`: each
+-- other member in order becomes pending; `signalled N` sets the woken item's signal"
 
 unfoldable pub wokenOf : Table → Job → ℕ
 wokenOf t w = getD (w .chosen) (firstSync t (w .chord)) 0
@@ -334,8 +332,8 @@ job-step t b d w signal = signal-step t b d w
 job-step t b d w pass-end = pass-end-step t b d w
 job-step t b d w (backoff rests) = backoff-step t b d w rests
 
--- "A blocked desk with a signal steps: signal cleared": `answered`, `resumed`, or "if neither .. `ended`, and it
--- stays blocked"
+-- "A blocked desk with a signal steps: signal cleared": `answered`, `resumed`, or "if neither .. `ended`, and it stays
+-- blocked"
 
 -- "the item is pending, its noted waker becomes the desk's waker, a new job on the item begins"
 abbrev pub resumed : Table → Board → Sender → ℕ → Sender

@@ -7,8 +7,7 @@ use lib.ListN.{length, getD}
 use Rattle.model.specs.Basics.{isIn, firstBy}
 
 -- 01's rule: "names one to eight trays, its members, in order". Its channels are the members; equal: "all its items
--- must have
--- equal property numbers".
+-- must have equal property numbers".
 pub record Chord : Type 0 where
   pub channels : List ℕ
   pub equal : Bool
@@ -38,8 +37,7 @@ unfoldable pub firstSync : Table → ℕ → ℕ
 firstSync t r = firstBy (isSync t) (chordAt t r .channels)
 
 -- The last claim wakes and does not match: "matched K instead, if the item in hand is of a waiting tray or the rule
--- names none.
--- Otherwise .. `woke N`".
+-- names none. Otherwise .. `woke N`".
 unfoldable pub wakes : Table → ℕ → ℕ → Bool
 wakes t r channel = not (isSync t channel) && ltb (firstSync t r) (size t r)
 
