@@ -12,15 +12,17 @@ use lib.Seq.{getD-append-seam, getD-set-same, getD-set-other}
 use native.Mathlib.Omega.{arith}
 use Rattle.model.specs.Basics.{isIn}
 use Rattle.model.specs.Tables.{Table, chordAt}
-use Rattle.model.specs.Boards.{Board, Sent, Sender, Message, messageAt, noMessage, senderAt, idleSender, idle}
+use Rattle.model.specs.Boards.{Board, Sent, Sender, Message, messageAt, noMessage, senderAt, idle, idleSender}
 use Rattle.model.specs.Boards.{working, Job, isIdle, State, channelOf, blocked}
 use Rattle.model.specs.Effects.{none, turn, Change, records, signals, matchesAfter}
-use Rattle.model.specs.Steps.{more, newPass, resumed}
+use Rattle.model.specs.Jobs.{newPass}
+use Rattle.model.specs.Steps.{more, resumed}
 use Rattle.model.specs.Adds.{added, newSender, newMessage, centsOk, addRefusal}
 use Rattle.model.specs.Demands.{Same-but-signal}
 use Rattle.model.proofs.Tests.{same?, never, tests, unless-none}
 use Rattle.model.proofs.Lists.{nth-isIn}
 use Rattle.model.proofs.Words.{isRecord}
+use Rattle.model.proofs.Frame.{unaltered}
 use Rattle.model.proofs.Grows.{SameSent, Grows}
 use Rattle.model.proofs.Passage.{same, After, Passage, grows}
 use Rattle.model.proofs.Local.{SenderOk, pass-ok}
@@ -52,7 +54,7 @@ module _ (t : Table) (b : Board) (i : ℕ) (new : Sent) where
   unfolding added
   matches-now = refl
 
-  old-message : (n : ℕ) → n < last → messageAt b′ n ≡ messageAt b n
+  pub old-message : (n : ℕ) → n < last → messageAt b′ n ≡ messageAt b n
   unfolding added
   old-message n l = List·getD-append (b .messages) (newMessage new ∷ []) noMessage n l
 
@@ -98,8 +100,7 @@ module _ (t : Table) (b : Board) (i : ℕ) (new : Sent) where
           (ap (λ (x : Message). x .waker) k)
 
   same-sender : (x y : Sender) → y ≡ x → Same-but-signal x y
-  same-sender x y e = subst⁻¹ (Same-but-signal x) e
-      (record { state = refl; own = refl; waker = refl; reply = refl; matched = refl; signalled = λ z. z })
+  same-sender x y e = subst⁻¹ (Same-but-signal x) e (unaltered x)
 
   isSignal : Change → Bool
   isSignal none = false

@@ -15,7 +15,8 @@ use Rattle.model.specs.Boards.{Board, Job, Phase, look, claim, revert, c
 use Rattle.model.specs.Boards.{pass-end, backoff, State, idle, working, blocked, isIdle, senderAt, messageAt}
 use Rattle.model.specs.Boards.{consumed, channelOf, matchAt, Sender, Match, Message, noMessage, isConsumed}
 use Rattle.model.specs.Effects.{Change, signals, records}
-use Rattle.model.specs.Steps.{toTell, job-end, matchedEnd, wakerEnd, syncEnd, endsBy, keepIf}
+use Rattle.model.specs.Jobs.{job-end, matchedEnd, wakerEnd, syncEnd, endsBy}
+use Rattle.model.specs.Steps.{toTell, keepIf}
 use Rattle.model.specs.Demands.{Same-but-signal}
 use Rattle.model.proofs.Tests.{same?, never, either, and}
 use Rattle.model.proofs.Passage.{Passage, grows, match-is, MatchIs, old-match, new-match}

@@ -13,7 +13,8 @@ use Rattle.model.specs.Boards.{Board, Job, Phase, senderAt, working, sig
 use Rattle.model.specs.Boards.{Sender, messageAt, consumed, woken, Message}
 use Rattle.model.specs.Effects.{Change, none, turn, claims, frees, consumes, wakes-by, resumes, records}
 use Rattle.model.specs.Effects.{signals, Turn, Effect, apply}
-use Rattle.model.specs.Steps.{passFrom, restsThen, inJob, job-end}
+use Rattle.model.specs.Jobs.{passFrom, inJob, job-end}
+use Rattle.model.specs.Steps.{restsThen}
 use Rattle.model.proofs.Tests.{never}
 use Rattle.model.proofs.Words.{isRecord}
 use Rattle.model.proofs.Frame.{messages-count}

@@ -12,7 +12,7 @@ use native.Mathlib.Nat.{zero-add}
 use native.Mathlib.Omega.{arith}
 use Rattle.model.specs.Tables.{Chord, Table, chordAt, channelAt, size}
 use Rattle.model.specs.Boards.{Sent, Board, Job, messageAt, isPending, Message, noMessage, isClaimed}
-use Rattle.model.specs.Steps.{alike, isFree, choice, subjectPlace, fits, someClaimed}
+use Rattle.model.specs.Looks.{alike, isFree, choice, subjectPlace, fits, someClaimed}
 use Rattle.model.proofs.Tests.{same?, both}
 use Rattle.model.proofs.Lists.{lowest-none, lowest-at, first-passes, first-before, not-in, none-of}
 use Rattle.model.proofs.Passage.{on-board}

@@ -12,7 +12,8 @@ use Rattle.model.specs.Tables.{Table, size, wakes, isSync}
 use Rattle.model.specs.Boards.{Board, Job, claim, senderAt, revert, isPending, messageAt, wake, channelOf}
 use Rattle.model.specs.Boards.{Match, consume}
 use Rattle.model.specs.Effects.{none, claims, Effect, apply, records, Change}
-use Rattle.model.specs.Steps.{loses, claimsTo, fires, inPhase, claimedBy, claim-step}
+use Rattle.model.specs.Jobs.{inPhase}
+use Rattle.model.specs.Steps.{loses, claimsTo, fires, claimedBy, claim-step}
 use Rattle.model.proofs.Tests.{tests, never}
 use Rattle.model.proofs.Lists.{isIn-nth}
 use Rattle.model.proofs.Frame.{records-count, records-last}

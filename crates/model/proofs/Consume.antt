@@ -12,10 +12,10 @@ use native.Mathlib.Omega.{arith}
 use Rattle.model.specs.Basics.{isIn}
 use Rattle.model.specs.Tables.{Table, isSync}
 use Rattle.model.specs.Boards.{Board, Job, consume, Sender, messageAt, consumed, senderAt, matchAt, signal}
-use Rattle.model.specs.Boards.{State, Phase, working, tell, channelOf, idleSender, idle}
+use Rattle.model.specs.Boards.{State, Phase, working, tell, channelOf, idle, idleSender}
 use Rattle.model.specs.Effects.{consumes, Effect, Consumed, turn, apply}
-use Rattle.model.specs.Steps.{withMatched, inJob, inPhase, toTell, job-end, consumedTo, consumedEnd}
-use Rattle.model.specs.Steps.{consume-step}
+use Rattle.model.specs.Jobs.{inJob, inPhase, job-end}
+use Rattle.model.specs.Steps.{withMatched, toTell, consumedTo, consumedEnd, consume-step}
 use Rattle.model.proofs.Tests.{same?, tests, never}
 use Rattle.model.proofs.Lists.{nth-isIn, isIn-nth}
 use Rattle.model.proofs.Words.{isRecord}
@@ -24,7 +24,7 @@ use Rattle.model.proofs.Grows.{Turns, Grows}
 use Rattle.model.proofs.Phases.{consumeAt}
 use Rattle.model.proofs.Local.{AtConsume, JobAt, job-on, SenderOk, sender-on, StateOk, PlacedAt, with-state}
 use Rattle.model.proofs.Local.{ends-ok}
-use Rattle.model.proofs.Holding.{HoldingKept, HoldsAt, Holds}
+use Rattle.model.proofs.Holding.{HoldingKept, Holds, HoldsAt}
 use Rattle.model.proofs.Places.{drop-place, last-drop, ends-empty}
 use Rattle.model.proofs.Notes.{NotesKept}
 use Rattle.model.proofs.Matches.{WillConsume, WillConsumeIn}

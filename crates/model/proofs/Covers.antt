@@ -15,8 +15,9 @@ use Rattle.model.specs.Boards.{Board, channelOf, messageAt, Status, isPe
 use Rattle.model.specs.Boards.{pending, claimed, isOpen, Job, Phase, isConsumed, Message, Sender, noMessage}
 use Rattle.model.specs.Boards.{senderAt, working, blocked}
 use Rattle.model.specs.Effects.{Change, Turn, resumes, none, turn, records, signals}
-use Rattle.model.specs.Steps.{startAt, passFrom, restsThen, subjectPlace, job-end, inJob, endsBy, syncEnd}
-use Rattle.model.specs.Steps.{wakerEnd, resumed, newPass, choice, fits}
+use Rattle.model.specs.Jobs.{startAt, passFrom, job-end, inJob, endsBy, syncEnd, wakerEnd, newPass}
+use Rattle.model.specs.Looks.{subjectPlace, choice, fits}
+use Rattle.model.specs.Steps.{restsThen, resumed}
 use Rattle.model.proofs.Tests.{tests, never, and, no-true}
 use Rattle.model.proofs.Lists.{isIn-nth, first-in, nth-isIn}
 use Rattle.model.proofs.Pigeon.{one-left}

@@ -6,7 +6,7 @@ use mathlib.Core.List.{List, map, [], _∷_}
 use Prim.Native.Nat.{ℕ, _<_, zero, suc}
 use borrow.Author.Tests.{eq-eqb, ne-eqb}
 use lib.Dec.{eqb}
-use lib.ListN.{length, getD, set, length-set, List·getD-map, length-append}
+use lib.ListN.{length, getD, set, length-set, List·getD-map, length-map, length-append}
 use lib.Seq.{getD-set-same, getD-set-other, getD-append-seam}
 use native.Mathlib.Omega.{arith}
 use Rattle.model.specs.Basics.{pick}
@@ -114,6 +114,16 @@ own-at b i s h = rw (senders-at b i s i h, eq-eqb i i refl) (like (s .change) (s
 pub other-at : (b : Board) (i : ℕ) (s : Effect) (j : ℕ) → i < length (b .senders) → j ≢ i
     → Same-but-signal (senderAt b j) (senderAt (apply b i s) j)
 other-at b i s j h ne = rw (senders-at b i s j h, ne-eqb j i ne) (like (s .change) (senderAt b j))
+
+pub senders-count : (b : Board) (i : ℕ) (s : Effect) → length (apply b i s .senders) ≡ length (b .senders)
+unfolding apply sendersAfter
+senders-count b i s = each (s .change) (set (b .senders) i (s .sender)) ∙ length-set (b .senders) i (s .sender)
+  where
+    each : (c : Change) (ds : List Sender) → length (sendersAfter c ds) ≡ length ds
+    each none ds = refl
+    each (turn n τ) ds = refl
+    each (records n m) ds = refl
+    each (signals n) ds = length-map ds (signalledSender n)
 
 -- the matches after a change: as they were, or one more
 pub matches-kept : (c : Change) (ms : List Match) → isRecord c ≡ false → matchesAfter c ms ≡ ms

@@ -10,7 +10,7 @@ use native.Mathlib.Omega.{arith}
 use Rattle.model.specs.Basics.{pick}
 use Rattle.model.specs.Boards.{Message, Board, messageAt, consumed, matchAt, Status, pending, claimed, woken}
 use Rattle.model.specs.Boards.{isPending}
-use Rattle.model.specs.Effects.{Turn, turned, turn, Change, none, records, claims, signals, frees, consumes}
+use Rattle.model.specs.Effects.{Turn, turn, turned, Change, none, records, claims, signals, frees, consumes}
 use Rattle.model.specs.Effects.{wakes-by, resumes}
 use Rattle.model.proofs.Tests.{never}
 use Rattle.model.proofs.Frame.{messageAfter}

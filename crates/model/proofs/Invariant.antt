@@ -3,15 +3,14 @@ use mathlib.Core.Path.{_≡_, _∙_, sym, ap}
 use mathlib.Core.Bool.{false}
 use mathlib.Core.List.{List}
 use Prim.Native.Nat.{ℕ, _<_, _≤_}
-use lib.ListN.{length, getD, set, length-set, length-map}
+use lib.ListN.{length, getD}
 use native.Mathlib.Omega.{arith}
 use Rattle.model.specs.Tables.{Table}
 use Rattle.model.specs.Boards.{Board, Sender, senderAt, Match}
-use Rattle.model.specs.Effects.{Change, Effect, records, valueOf, apply, sendersAfter, none, turn, signals}
-use Rattle.model.specs.Effects.{signalledSender}
+use Rattle.model.specs.Effects.{Change, Effect, records, valueOf, apply}
 use Rattle.model.proofs.Tests.{never}
 use Rattle.model.proofs.Words.{isRecord}
-use Rattle.model.proofs.Frame.{messages-count}
+use Rattle.model.proofs.Frame.{senders-count, messages-count}
 use Rattle.model.proofs.Grows.{Lawful}
 use Rattle.model.proofs.Passage.{Passage, step-passage}
 use Rattle.model.proofs.Local.{SenderOk, locals-after, Full}
@@ -94,17 +93,6 @@ pub record StepOwes (t : Table) (b : Board) (i : ℕ) (s : Effect) : Type 0 wher
       → ObligationKept t b (apply b i s) i (s .change) q ns
   pub answering : AnsweringKept t b (apply b i s) i (s .change) (s .sender)
   pub recorded : Recorded t b s
-
-senders-count : (b : Board) (i : ℕ) (s : Effect) → length (apply b i s .senders) ≡ length (b .senders)
-unfolding apply sendersAfter
-senders-count b i s = go (s .change)
-  where
-    go : (c : Change) → length (sendersAfter c (set (b .senders) i (s .sender))) ≡ length (b .senders)
-    go none = length-set (b .senders) i (s .sender)
-    go (turn n τ) = length-set (b .senders) i (s .sender)
-    go (records n m) = length-set (b .senders) i (s .sender)
-    go (signals n) =
-        length-map (set (b .senders) i (s .sender)) (signalledSender n) ∙ length-set (b .senders) i (s .sender)
 
 -- a step adds no message, so there is nothing new to be bound to
 pub step-call : (t : Table) (b : Board) (i : ℕ) (s : Effect) → i < 32 → Inv t b → StepOwes t b i s

@@ -39,8 +39,12 @@ pub mod PoolLaws
 pub mod Cents
 pub mod PoolRun
 pub mod Schedule
+pub mod SoundFacts
 pub mod Sound
 pub mod Demand
+pub mod SoundFrame
+pub mod SoundJobs
+pub mod SoundKept
 pub mod StepFrame
 pub mod QuietExactly
 pub mod NoChords

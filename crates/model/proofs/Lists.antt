@@ -11,7 +11,7 @@ use native.Mathlib.Nat.{not-suc-le-zero, le-of-suc-le-suc}
 use native.Mathlib.Omega.{arith}
 use Rattle.model.specs.Basics.{isIn, every, firstBy}
 use Rattle.model.specs.Boards.{Message, noMessage}
-use Rattle.model.specs.Steps.{lowest, someMessage}
+use Rattle.model.specs.Looks.{lowest, someMessage}
 use Rattle.model.proofs.Tests.{or-right, never, either, both, and, neither}
 
 -- members

@@ -14,8 +14,9 @@ use Rattle.model.specs.Boards.{Board, messageAt, wake, matchAt, consumed
 use Rattle.model.specs.Boards.{tell, free, signal, pass-end, backoff, Job, State, idle, working, blocked}
 use Rattle.model.specs.Boards.{Sender, channelOf, isConsumed, senderAt}
 use Rattle.model.specs.Effects.{Change}
-use Rattle.model.specs.Steps.{alike, subjectPlace, toTell, startAt, passFrom, restsThen, goesIdle, matchedEnd}
-use Rattle.model.specs.Steps.{wakerEnd, syncEnd, endsBy, job-end}
+use Rattle.model.specs.Jobs.{startAt, passFrom, goesIdle, matchedEnd, wakerEnd, syncEnd, endsBy, job-end}
+use Rattle.model.specs.Looks.{alike, subjectPlace}
+use Rattle.model.specs.Steps.{toTell, restsThen}
 use Rattle.model.specs.Demands.{Same-but-signal}
 use Rattle.model.proofs.Tests.{same?}
 use Rattle.model.proofs.Lists.{isIn-nth}

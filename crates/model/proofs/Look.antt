@@ -13,10 +13,12 @@ use Rattle.model.specs.Basics.{pick, isIn}
 use Rattle.model.specs.Tables.{Table, size}
 use Rattle.model.specs.Boards.{Board, Job, look, claim, senderAt, messageAt, woken, consumed}
 use Rattle.model.specs.Effects.{none, Effect, apply}
-use Rattle.model.specs.Steps.{choice, lookedBy, missedRetry, nextChord, look-step}
+use Rattle.model.specs.Jobs.{nextChord}
+use Rattle.model.specs.Looks.{choice, missedRetry}
+use Rattle.model.specs.Steps.{lookedBy, look-step}
 use Rattle.model.proofs.Tests.{tests, neither, same?}
 use Rattle.model.proofs.Frame.{messages-at}
-use Rattle.model.proofs.Local.{PlacedAt, Placed, Selection}
+use Rattle.model.proofs.Local.{Placed, PlacedAt, Selection}
 use Rattle.model.proofs.Choice.{chose-selection, chosen-fresh, choice-some, none-claimed}
 use Rattle.model.proofs.Holding.{HoldsAt}
 use Rattle.model.proofs.Places.{none-held, pass-empty}

@@ -15,9 +15,9 @@ use Rattle.model.specs.Boards.{Phase, pass-end, backoff, State, idle, wo
 use Rattle.model.specs.Boards.{isConsumed, noMessage, Job, backoffAt, isOpen, messageAt, Status, pending}
 use Rattle.model.specs.Boards.{claimed, woken, consumed, senderAt, idleSender, emptyBoard}
 use Rattle.model.specs.Effects.{Effect, Outcome, refused, does, apply, wordOf}
-use Rattle.model.specs.Steps.{passFrom, startAt, restsThen, matchedEnd, wakerEnd, syncEnd, job-end, endsBy}
-use Rattle.model.specs.Steps.{passEndBy, more, job-step, pass-end-step, backoff-step, resumeBy, stepBy}
-use Rattle.model.specs.Steps.{resume-step, blockedStep, stateStep, senderStep}
+use Rattle.model.specs.Jobs.{passFrom, startAt, matchedEnd, wakerEnd, syncEnd, job-end, endsBy}
+use Rattle.model.specs.Steps.{restsThen, passEndBy, more, job-step, pass-end-step, backoff-step, resumeBy}
+use Rattle.model.specs.Steps.{stepBy, resume-step, blockedStep, stateStep, senderStep}
 use Rattle.model.specs.Adds.{added, addRefusal}
 use Rattle.model.specs.Pools.{Call, answerTo, adds, addAnswer, steps, stepAnswer, afterAll, history}
 use Rattle.model.specs.Demands.{boardAfter}

@@ -13,7 +13,8 @@ use Rattle.model.specs.Tables.{Table, size, channelAt, chordAt}
 use Rattle.model.specs.Boards.{Board, channelOf, messageAt, Phase, look, claim, revert, consume, tell, wake}
 use Rattle.model.specs.Boards.{free, signal, pass-end, backoff, Job, senderAt, working, woken, Sender}
 use Rattle.model.specs.Effects.{Change, Turn, resumes, claims, frees, consumes, wakes-by}
-use Rattle.model.specs.Steps.{alike, resumed}
+use Rattle.model.specs.Looks.{alike}
+use Rattle.model.specs.Steps.{resumed}
 use Rattle.model.specs.Pools.{meets}
 use Rattle.model.proofs.Tests.{same?}
 use Rattle.model.proofs.Pigeon.{found}

@@ -7,10 +7,11 @@ use Prim.Native.Nat.{ℕ}
 use lib.ListN.{length}
 use Rattle.model.specs.Basics.{isIn}
 use Rattle.model.specs.Tables.{Table}
-use Rattle.model.specs.Boards.{Board, Job, Phase, senderAt, pass-end, isOpen, messageAt, backoff, backoffAt}
+use Rattle.model.specs.Boards.{Board, Job, Phase, senderAt, pass-end, isOpen, messageAt, backoffAt, backoff}
 use Rattle.model.specs.Boards.{woken, consumed}
 use Rattle.model.specs.Effects.{Said, none, apply, messagesAfter, Again, Rested}
-use Rattle.model.specs.Steps.{inJob, restsThen, passEndBy, more, pass-end-step, backoff-step}
+use Rattle.model.specs.Jobs.{inJob}
+use Rattle.model.specs.Steps.{restsThen, passEndBy, more, pass-end-step, backoff-step}
 use Rattle.model.proofs.Phases.{still, signalling}
 use Rattle.model.proofs.Holding.{Held}
 use Rattle.model.proofs.Places.{none-held, rests-empty}

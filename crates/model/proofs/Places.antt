@@ -10,7 +10,8 @@ use Rattle.model.specs.Tables.{Table, naming, isSync}
 use Rattle.model.specs.Boards.{woken, Phase, working, Board, Sender, Message, isConsumed, noMessage}
 use Rattle.model.specs.Effects.{Change, none, turn, claims, frees, consumes, wakes-by, resumes, records}
 use Rattle.model.specs.Effects.{signals, Turn}
-use Rattle.model.specs.Steps.{startAt, passFrom, restsThen, matchedEnd, wakerEnd, syncEnd, endsBy, job-end}
+use Rattle.model.specs.Jobs.{startAt, passFrom, matchedEnd, wakerEnd, syncEnd, endsBy, job-end}
+use Rattle.model.specs.Steps.{restsThen}
 use Rattle.model.proofs.Tests.{never, same?}
 use Rattle.model.proofs.Grows.{statusBefore, apart}
 use Rattle.model.proofs.Passage.{TurnsTo}

@@ -17,7 +17,7 @@ use Rattle.model.specs.Boards.{Board, Sent, messageAt, senderAt, centsOf
 use Rattle.model.specs.Boards.{noMatch, matchAt, Sender, amount}
 use Rattle.model.specs.Effects.{Effect, apply, records, matchesAfter, Change, none, turn, signals, wordOf}
 use Rattle.model.specs.Effects.{valueOf}
-use Rattle.model.specs.Steps.{alike}
+use Rattle.model.specs.Looks.{alike}
 use Rattle.model.specs.Adds.{added, newMessage}
 use Rattle.model.specs.Sound.{owns}
 use Rattle.model.specs.Pools.{Pool, ownOf, distinct, centsAdded, sentAt, meets, channelsMeet, matchReads}

@@ -12,7 +12,8 @@ use Rattle.model.specs.Tables.{Table}
 use Rattle.model.specs.Boards.{Board, senderAt, blocked, State, messageAt, woken, isIdle, consumed, Message}
 use Rattle.model.specs.Boards.{Status, matchAt, pending, claimed}
 use Rattle.model.specs.Effects.{Effect, apply, resumes}
-use Rattle.model.specs.Steps.{staysBlocked, resumeBy, resumed, newPass, resume-step}
+use Rattle.model.specs.Jobs.{newPass}
+use Rattle.model.specs.Steps.{staysBlocked, resumeBy, resumed, resume-step}
 use Rattle.model.proofs.Tests.{never}
 use Rattle.model.proofs.Words.{isRecord}
 use Rattle.model.proofs.Frame.{messages-count, messageAfter, messages-at}

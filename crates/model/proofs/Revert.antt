@@ -9,7 +9,8 @@ use native.Mathlib.Omega.{arith}
 use Rattle.model.specs.Tables.{Table}
 use Rattle.model.specs.Boards.{Board, Job, revert, senderAt}
 use Rattle.model.specs.Effects.{frees, Reverted, turn}
-use Rattle.model.specs.Steps.{inJob, revertedTo, revert-step}
+use Rattle.model.specs.Jobs.{inJob}
+use Rattle.model.specs.Steps.{revertedTo, revert-step}
 use Rattle.model.proofs.Tests.{tests}
 use Rattle.model.proofs.Grows.{Turns}
 use Rattle.model.proofs.Local.{Placed}

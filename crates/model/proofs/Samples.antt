@@ -7,9 +7,11 @@ use Rattle.model.specs.Tables.{isSync, firstSync, wakes, naming}
 use Rattle.model.specs.Layout.{word, countsOk, offsetsOk, kindsOk, chordOk, membersOk, tableRefusal, tableOf}
 use Rattle.model.specs.Boards.{builtinBackoffs, backoffAt, amount}
 use Rattle.model.specs.Effects.{messagesAfter, matchesAfter, sendersAfter, apply}
-use Rattle.model.specs.Steps.{passFrom, alike, someClaimed, choice, look-step, claim-step, revert-step, job-end}
-use Rattle.model.specs.Steps.{consume-step, tell-step, wokenOf, wake-step, skip, free-step, signal-step, more}
-use Rattle.model.specs.Steps.{pass-end-step, backoff-step, resume-step, stepBy}
+use Rattle.model.specs.Jobs.{passFrom, job-end}
+use Rattle.model.specs.Looks.{alike, someClaimed, choice}
+use Rattle.model.specs.Steps.{look-step, claim-step, revert-step, consume-step, tell-step, wokenOf, wake-step}
+use Rattle.model.specs.Steps.{skip, free-step, signal-step, more, pass-end-step, backoff-step, resume-step}
+use Rattle.model.specs.Steps.{stepBy}
 use Rattle.model.specs.Adds.{addRefusal, added}
 use Rattle.model.specs.Samples.{outcome, samples, expected, printout, tableP, scheduleP, printoutP}
 

@@ -12,7 +12,8 @@ use Rattle.model.specs.Tables.{Table}
 use Rattle.model.specs.Boards.{Board, Job, tell, senderAt, State, Sender, signal, consumed, messageAt, Phase}
 use Rattle.model.specs.Boards.{Message}
 use Rattle.model.specs.Effects.{Effect, Told, signals, apply, messagesAfter}
-use Rattle.model.specs.Steps.{toTell, inJob, inPhase, job-end, toldTo, tell-step}
+use Rattle.model.specs.Jobs.{inJob, inPhase, job-end}
+use Rattle.model.specs.Steps.{toTell, toldTo, tell-step}
 use Rattle.model.proofs.Tests.{never, same?, tests}
 use Rattle.model.proofs.Lists.{isIn-nth, nth-isIn}
 use Rattle.model.proofs.Words.{isRecord}

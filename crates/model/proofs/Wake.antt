@@ -11,7 +11,8 @@ use Rattle.model.specs.Basics.{pick}
 use Rattle.model.specs.Tables.{Table, firstSync}
 use Rattle.model.specs.Boards.{Board, Job, Phase, wake, senderAt, free, signal, messageAt, woken, State}
 use Rattle.model.specs.Effects.{wakes-by, Effect, Woke, turn, apply, Freed, frees, messagesAfter, signals}
-use Rattle.model.specs.Steps.{inJob, inPhase, skip, wokenOf, wake-step, free-step, signal-step}
+use Rattle.model.specs.Jobs.{inJob, inPhase}
+use Rattle.model.specs.Steps.{skip, wokenOf, wake-step, free-step, signal-step}
 use Rattle.model.proofs.Tests.{tests}
 use Rattle.model.proofs.Chords.{wakes-first, skipped, first-waits}
 use Rattle.model.proofs.Frame.{messages-at}

@@ -11,10 +11,10 @@ use Rattle.model.specs.Boards.{consume, tell, free, pass-end, backoff, i
 use Rattle.model.specs.Boards.{Status, woken, consumed, blocked, senderAt, State, idle, working}
 use Rattle.model.specs.Effects.{Change, none, turn, records, signals, Effect, wordOf, refused, Outcome, does}
 use Rattle.model.specs.Effects.{Answered, Said, valueOf}
+use Rattle.model.specs.Looks.{choice}
 use Rattle.model.specs.Steps.{lookedBy, claimedBy, passEndBy, job-step, look-step, claim-step, revert-step}
 use Rattle.model.specs.Steps.{consume-step, tell-step, wake-step, free-step, signal-step, pass-end-step}
-use Rattle.model.specs.Steps.{backoff-step, choice, resumeBy, stepBy, resume-step, blockedStep, stateStep}
-use Rattle.model.specs.Steps.{senderStep}
+use Rattle.model.specs.Steps.{backoff-step, resumeBy, stepBy, resume-step, blockedStep, stateStep, senderStep}
 use Rattle.model.specs.Pools.{stepAnswer}
 use Rattle.model.proofs.Tests.{never}
 

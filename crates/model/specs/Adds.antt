@@ -1,14 +1,14 @@
 -- An add: its refusals, and the board after an accepted one.
-use mathlib.Core.Bool.{Bool, true, false, not}
-use mathlib.Core.List.{List, [], _∷_, _++_}
-use Prim.Native.Nat.{ℕ, zero, suc}
+use mathlib.Core.Bool.{Bool, false}
+use mathlib.Core.List.{List, _++_, _∷_, []}
+use Prim.Native.Nat.{suc, ℕ}
+use lib.Dec.{leb, ltb}
 use lib.IntN.{ℤ, pos, negsuc}
-use lib.Dec.{ltb, leb}
 use lib.ListN.{length, set}
 use Rattle.model.specs.Basics.{unless}
 use Rattle.model.specs.Tables.{Table}
-use Rattle.model.specs.Boards.{pending, Sent, Message, working, Sender, Board, senderAt, isIdle}
-use Rattle.model.specs.Steps.{newPass}
+use Rattle.model.specs.Boards.{Board, Sent, isIdle, senderAt, Message, pending, Sender, working}
+use Rattle.model.specs.Jobs.{newPass}
 
 -- "cents (signed, -999,999,999,999 to 999,999,999,999)"
 abbrev pub centsOk : ℤ → Bool

@@ -1,23 +1,23 @@
--- What the board owes its users, as types: the frame of a call, quiet, and demand 3. Tables-survive stands in Layout.
+-- What the board owes its users, as types: the frame of a call, sound boards kept, quiet, and demand 3. Tables-survive stands in Layout.
 use mathlib.Core.Path.{_≡_}
 use mathlib.Core.Logic.{_≢_}
-use mathlib.Core.Bool.{Bool, true, false, _&&_}
-use mathlib.Core.List.{List, [], _∷_, _++_}
-use Prim.Native.Nat.{ℕ, zero, suc, _-_, _≤_, _<_}
-use lib.IntN.{_+ℤ_}
+use mathlib.Core.Bool.{true, false}
+use mathlib.Core.List.{List, _++_, _∷_}
+use Prim.Native.Nat.{ℕ, _≤_, _<_, suc}
 use lib.Dec.{eqb}
+use lib.IntN.{_+ℤ_}
 use lib.ListN.{length, getD}
 use Rattle.model.specs.Basics.{isIn, every}
-use Rattle.model.specs.Tables.{Table, chordAt, isSync}
+use Rattle.model.specs.Tables.{Table, isSync, chordAt}
 use Rattle.model.specs.Layout.{tableRefusal, tableOf}
-use Rattle.model.specs.Boards.{Sent, Message, Match, Sender, Board, messageAt, senderAt, emptyBoard, isPending}
-use Rattle.model.specs.Boards.{centsOf}
-use Rattle.model.specs.Effects.{Refused, Answered, refused}
+use Rattle.model.specs.Boards.{Sender, Board, messageAt, Match, senderAt, Message, Sent, emptyBoard, pending}
+use Rattle.model.specs.Boards.{isPending, centsOf}
+use Rattle.model.specs.Effects.{Refused, refused, Answered}
 use Rattle.model.specs.Steps.{stepBy}
 use Rattle.model.specs.Sound.{sound}
-use Rattle.model.specs.Pools.{Call, adds, steps, answerTo, afterAll, history, quiet, MatchRead, matchReads}
-use Rattle.model.specs.Pools.{noRead, meets}
-use Rattle.model.specs.Pools.{Pool, emptyPool, sentAt, ownOf, playedAll, centsAdded, centsMatched, timesHeld}
+use Rattle.model.specs.Pools.{answerTo, steps, adds, Call, quiet, afterAll, MatchRead, Pool, playedAll}
+use Rattle.model.specs.Pools.{emptyPool, history, matchReads, ownOf, sentAt, noRead, timesHeld, meets}
+use Rattle.model.specs.Pools.{centsAdded, centsMatched}
 
 -- The frame: what a call leaves as it was, on every board
 
@@ -57,6 +57,10 @@ pub record Frame : Type 0 where
   -- "a refusal returns the number only and leaves all as found"
   pub refusal : (t : Table) (b : Board) (c : Call) (f : ℕ) → answerTo t b c .said ≡ Refused f
       → answerTo t b c .board ≡ b
+
+-- "A sound board that no schedule reaches is still handled safely, by the same steps": every call leaves it sound
+abbrev pub Sound-kept : Type 0
+Sound-kept = (t : Table) (b : Board) (c : Call) → sound t b ≡ true → sound t (answerTo t b c .board) ≡ true
 
 -- "so that each desk's step would be refused 13"
 pub record Quiet-exactly : Type 0 where
@@ -112,7 +116,7 @@ pub record Quiet-at (t : Table) (rests : List ℕ) (cs : List Call) : Type 0 whe
   pub pending : (n : ℕ)
       → n < length (boardAfter t rests cs .messages)
       → isPending (messageAt (boardAfter t rests cs) n .status) ≡ isIn n (poolOf t rests cs .inside)
-  -- "on a quiet board nothing more can match"
+  -- nothing more can match: no chord "can be met" from the pool
   pub none-met : (r : ℕ) (ns : List ℕ)
       → r < length (t .chords)
       → every (λ n. isIn n (poolOf t rests cs .inside)) ns ≡ true
@@ -122,7 +126,7 @@ pub record Quiet-at (t : Table) (rests : List ℕ) (cs : List Call) : Type 0 whe
       → ownOf (poolOf t rests cs) i ≡ suc n
       → isSync t (sentAt (poolOf t rests cs .sent) n .channel) ≡ true
       → eqb (senderAt (boardAfter t rests cs) i .reply) 0 ≡ isIn n (poolOf t rests cs .inside)
-  -- "the cents balance"
+  -- "Cents added are summed over the accepted adds, cents matched over the match reads, cents pending over the pool."
   pub cents : centsAdded t (poolOf t rests cs .sent)
       ≡ centsMatched (finalReads t rests cs) +ℤ centsOf t (sentAt (poolOf t rests cs .sent)) (poolOf t rests cs .inside)
 

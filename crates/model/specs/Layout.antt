@@ -161,7 +161,7 @@ keepsLayout t =
 abbrev pub allBytes : List ℕ → Bool
 allBytes s = every (λ b. ltb b 256) s
 
--- Demand 2: a table "survives being written and read", both ways.
+-- Demand 2: a table survives being written and read, both ways.
 pub record Tables-survive : Type 0 where
   pub back : (s : List ℕ) → allBytes s ≡ true → tableRefusal s ≡ 0 → tableBytes (tableOf s) ≡ s
   pub there : (t : Table) → keepsLayout t ≡ true → (tableRefusal (tableBytes t) ≡ 0) × (tableOf (tableBytes t) ≡ t)

@@ -4,6 +4,8 @@ pub mod Tables
 pub mod Layout
 pub mod Boards
 pub mod Effects
+pub mod Jobs
+pub mod Looks
 pub mod Steps
 pub mod Adds
 pub mod Sound

@@ -1,18 +1,18 @@
 -- Schedules, and the pool that plays the join calculus beside them (01, "The pool").
-use mathlib.Core.Bool.{Bool, true, false, _&&_, not}
-use mathlib.Core.List.{List, [], _∷_, _++_, map}
+use mathlib.Core.Bool.{Bool, false, true, not, _&&_}
+use mathlib.Core.List.{List, [], _∷_, map, _++_}
 use Prim.Native.Nat.{ℕ, zero, suc, _+_}
-use lib.IntN.{ℤ, pos, negsuc, _+ℤ_}
 use lib.Dec.{eqb, ltb}
-use lib.ListN.{length, getD, set, replicate}
-use Rattle.model.specs.Basics.{allOf, pick, isIn, every}
-use Rattle.model.specs.Tables.{Chord, Table, chordAt}
-use Rattle.model.specs.Boards.{Sent, noSent, Match, State, idle, working, blocked, Sender, Board, messageAt}
-use Rattle.model.specs.Boards.{emptyBoard}
-use Rattle.model.specs.Boards.{amount, centsOf}
-use Rattle.model.specs.Effects.{Said, Item, Refused, wordOf, valueOf, Effect, apply, Outcome, refused, does}
-use Rattle.model.specs.Steps.{alike, stepBy}
-use Rattle.model.specs.Adds.{addRefusal, added}
+use lib.IntN.{ℤ, pos, negsuc, _+ℤ_}
+use lib.ListN.{length, getD, replicate, set}
+use Rattle.model.specs.Basics.{every, isIn, allOf, pick}
+use Rattle.model.specs.Tables.{Table, Chord, chordAt}
+use Rattle.model.specs.Boards.{Sent, Board, State, idle, working, blocked, Match, centsOf, messageAt, noSent}
+use Rattle.model.specs.Boards.{amount}
+use Rattle.model.specs.Effects.{Said, Outcome, refused, Refused, does, apply, Item, valueOf, wordOf}
+use Rattle.model.specs.Looks.{alike}
+use Rattle.model.specs.Steps.{stepBy}
+use Rattle.model.specs.Adds.{added, addRefusal}
 
 -- Calls and their answers
 

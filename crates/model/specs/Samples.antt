@@ -1,16 +1,17 @@
 -- 01's "Edge items" marked (M), as one table of samples, and its printed run: bytes, calls, and what 01 says of them.
 -- That without chords nothing ever matches is about every schedule, and so a theorem of its own (proofs/NoChords).
 use mathlib.Core.Bool.{Bool, true}
-use mathlib.Core.List.{List, [], _∷_, _++_, map}
+use mathlib.Core.List.{List, map, [], _∷_, _++_}
 use Prim.Native.Nat.{ℕ, zero, suc, _+_}
-use lib.IntN.{ℤ, pos, negℤ}
-use lib.ListN.{take, replicate}
+use lib.Dec.{T}
+use lib.IntN.{pos, negℤ}
+use lib.ListN.{replicate, take}
 use Rattle.model.specs.Tables.{Table}
 use Rattle.model.specs.Layout.{tableRefusal, tableOf}
-use Rattle.model.specs.Boards.{Status, consumed, builtinBackoffs, emptyBoard}
-use Rattle.model.specs.Effects.{Said, Item, Looked, Claimed, Matched, Consumed, Woke, Freed, Signalled, Refused}
-use Rattle.model.specs.Effects.{Missed, Ended, Resumed, Lost, Reverted, Again, Told, Answered, Rested}
-use Rattle.model.specs.Pools.{Call, adds, steps, history, MatchRead, matchReads, quiet}
+use Rattle.model.specs.Boards.{emptyBoard, builtinBackoffs, Status, consumed}
+use Rattle.model.specs.Effects.{Said, Item, Missed, Ended, Refused, Looked, Claimed, Woke, Freed, Signalled}
+use Rattle.model.specs.Effects.{Resumed, Matched, Consumed, Lost, Reverted, Again, Told, Answered, Rested}
+use Rattle.model.specs.Pools.{Call, history, adds, steps, MatchRead, quiet, matchReads}
 use Rattle.model.specs.Demands.{boardAfter}
 
 -- a table's bytes and calls; the reader's number and what the calls are to answer
@@ -165,7 +166,7 @@ samples =
     (Item 0 ∷ Missed ∷ Ended ∷ Refused 13 ∷ Item 1 ∷ Looked 1 ∷ Missed ∷ Ended ∷ replicate 12 (Refused 13)) ∷
     -- "cents 999,999,999,999 taken, one more: 11"
     runAs tableP (send 0 0 7 999_999_999_999 ∷ send 1 0 7 1_000_000_000_000 ∷ []) (Item 0 ∷ Refused 11 ∷ []) ∷
-    -- "(-999,999,999,999 to 999,999,999,999)"
+    -- "cents (signed, -999,999,999,999 to 999,999,999,999)"
     runAs tableP (sendBack 0 0 7 999_999_999_999 ∷ sendBack 1 0 7 1_000_000_000_000 ∷ []) (Item 0 ∷ Refused 11 ∷ []) ∷
     -- "a rule naming tray 0 twice, one item: `looked`, `missed`, `ended`"
     runAs (repeating 1 2) oneMessage saidOne ∷

@@ -1,16 +1,14 @@
 -- Sound boards, clause by clause as 01's sentence has them ("The parts of a board").
-use mathlib.Core.Bool.{Bool, true, false, _&&_, _||_, not}
-use mathlib.Core.List.{List, [], _∷_}
-use Prim.Native.Nat.{ℕ, zero, suc}
-use lib.Dec.{eqb, ltb, leb}
-use lib.ListN.{length, getD}
-use Rattle.model.specs.Basics.{allOf, isIn, every}
-use Rattle.model.specs.Tables.{Table, chordAt, size, wakes}
-use Rattle.model.specs.Boards.{Status, pending, claimed, woken, consumed, Message, Match, Phase, look, claim}
-use Rattle.model.specs.Boards.{revert}
-use Rattle.model.specs.Boards.{consume, tell, wake, free, signal, pass-end, backoff, Job, State, idle, working}
-use Rattle.model.specs.Boards.{blocked}
-use Rattle.model.specs.Boards.{Sender, Board, channelOf, isIdle}
+use mathlib.Core.Bool.{not, Bool, true, _&&_, _||_}
+use mathlib.Core.List.{_∷_, [], List}
+use Prim.Native.Nat.{ℕ, suc}
+use lib.Dec.{leb, ltb, eqb}
+use lib.ListN.{length}
+use Rattle.model.specs.Basics.{allOf, every, isIn}
+use Rattle.model.specs.Tables.{Table, chordAt, wakes, size}
+use Rattle.model.specs.Boards.{Message, Status, pending, claimed, claim, woken, wake, consume, consumed, Board}
+use Rattle.model.specs.Boards.{Match, Job, channelOf, Phase, look, revert, tell, free, signal, pass-end}
+use Rattle.model.specs.Boards.{backoff, Sender, State, idle, working, blocked, isIdle}
 use Rattle.model.specs.Steps.{toTell}
 use Rattle.model.specs.Adds.{centsOk}
 

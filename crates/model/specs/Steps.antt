@@ -1,127 +1,25 @@
 -- Steps (01, "The steps"). Each test's outcome is an argument of a helper by clauses, so that a proof goes by the same
 -- clauses.
-use mathlib.Core.Bool.{Bool, true, false, _&&_, _||_, not}
-use mathlib.Core.List.{List, [], _∷_, _++_}
+use mathlib.Core.Bool.{true, Bool, false, _&&_, not}
+use mathlib.Core.List.{_++_, _∷_, [], List}
 use Prim.Native.Nat.{ℕ, zero, suc, _-_}
-use lib.Dec.{eqb, ltb, leb}
+use lib.Dec.{eqb, leb, ltb}
 use lib.ListN.{length, getD}
-use Rattle.model.specs.Basics.{allOf, pick, isIn, firstBy}
-use Rattle.model.specs.Tables.{Chord, Table, chordAt, size, channelAt, isSync, firstSync, wakes, naming}
-use Rattle.model.specs.Boards.{Status, pending, claimed, woken, consumed, Sent, Message, Match, Phase, look}
-use Rattle.model.specs.Boards.{claim, revert}
-use Rattle.model.specs.Boards.{consume, tell, wake, free, signal, pass-end, backoff, Job, State, idle, working}
-use Rattle.model.specs.Boards.{blocked}
-use Rattle.model.specs.Boards.{Sender, Board, noMessage, messageAt, senderAt, channelOf, backoffAt}
-use Rattle.model.specs.Boards.{isPending, isClaimed, isConsumed, isOpen}
-use Rattle.model.specs.Effects.{Said, Looked, Claimed, Lost, Reverted, Matched, Consumed, Told, Woke, Freed}
-use Rattle.model.specs.Effects.{Signalled}
-use Rattle.model.specs.Effects.{Answered, Missed, Again, Ended, Rested, Resumed, claims, frees, resumes}
-use Rattle.model.specs.Effects.{consumes, wakes-by}
-use Rattle.model.specs.Effects.{Change, none, turn, records, signals, messagesAfter, Effect, Outcome, refused}
-use Rattle.model.specs.Effects.{does}
-
--- records anew with one field, or two, altered
-abbrev pub inState : Sender → State → Bool → Sender
-inState d s g = record {
-  state = s;
-  signalled = g;
-  own = d .own;
-  waker = d .waker;
-  reply = d .reply;
-  matched = d .matched;
-}
-
-abbrev pub inJob : Sender → Job → Sender
-inJob d w = inState d (working w) (d .signalled)
-
-abbrev pub withChosen : Job → List ℕ → Phase → Job
-withChosen w c p = record {
-  subject = w .subject;
-  chord = w .chord;
-  phase = p;
-  chosen = c;
-  retry = w .retry;
-  retries = w .retries;
-}
-
-abbrev pub inPhase : Job → Phase → Job
-inPhase w p = withChosen w (w .chosen) p
-
-abbrev pub withRetry : Job → Job
-withRetry w = record {
-  subject = w .subject;
-  chord = w .chord;
-  phase = w .phase;
-  chosen = w .chosen;
-  retry = true;
-  retries = w .retries;
-}
-
--- a job at no chord: its pass has ended, or it backs off
-abbrev pub atNoChord : ℕ → Phase → Bool → ℕ → Job
-atNoChord h p retry k = record { subject = h; chord = 0; phase = p; chosen = []; retry = retry; retries = k }
-
-abbrev pub startAt : Bool → ℕ → ℕ → Bool → ℕ → Job
-startAt true h r retry k = record { subject = h; chord = r; phase = look 0; chosen = []; retry = retry; retries = k }
-startAt false h r retry k = atNoChord h pass-end retry k
-
--- "a pass over the rules naming its tray, in rule order", from a chord on, for subject h
-unfoldable pub passFrom : Table → ℕ → ℕ → ℕ → Bool → ℕ → Job
-passFrom t h channel from retry k =
-    startAt (ltb (naming t channel from) (length (t .chords))) h (naming t channel from) retry k
-
--- "Next rule."
-abbrev pub nextChord : Table → Board → Job → Bool → Job
-nextChord t b w retry = passFrom t (w .subject) (channelOf b (w .subject)) (suc (w .chord)) retry (w .retries)
-
--- "A job begins with a pass, each pass with the mark clear."
-abbrev pub newPass : Table → List Message → ℕ → ℕ → Job
-newPass t is h k = passFrom t h (getD is h noMessage .sent .channel) 0 false k
+use Rattle.model.specs.Basics.{pick}
+use Rattle.model.specs.Tables.{Table, size, wakes, isSync, firstSync}
+use Rattle.model.specs.Boards.{look, Board, Sender, Job, claim, Phase, revert, consume, claimed, wake}
+use Rattle.model.specs.Boards.{isPending, messageAt, channelOf, free, signal, Message, noMessage, consumed}
+use Rattle.model.specs.Boards.{tell, woken, backoff, backoffAt, pass-end, isOpen, working, State, blocked}
+use Rattle.model.specs.Boards.{Status, pending, idle, senderAt}
+use Rattle.model.specs.Effects.{Effect, Missed, none, Looked, Lost, claims, Claimed, turn, Matched, records}
+use Rattle.model.specs.Effects.{Reverted, frees, messagesAfter, consumes, Consumed, Told, signals, Woke}
+use Rattle.model.specs.Effects.{wakes-by, Freed, Signalled, Again, Ended, Rested, Resumed, resumes, Answered}
+use Rattle.model.specs.Effects.{Outcome, does, refused}
+use Rattle.model.specs.Jobs.{inJob, nextChord, withChosen, inPhase, withRetry, job-end, newPass, atNoChord}
+use Rattle.model.specs.Jobs.{inState, goesIdle}
+use Rattle.model.specs.Looks.{missedRetry, choice}
 
 -- Look
-
--- "with equal property numbers where wanted": whether a message like e fits beside one like s
-unfoldable pub alike : Chord → Sent → Sent → Bool
-alike r s e = not (r .equal) || eqb (e .property) (s .property)
-
-abbrev pub fits : Chord → ℕ → Sent → Message → Bool
-fits r channel s x = eqb (x .sent .channel) channel && alike r s (x .sent)
-
--- "pending item of its tray not yet chosen, with the hand's property number if the rule wants that"
-abbrev pub isFree : Chord → ℕ → Sent → List ℕ → ℕ → Message → Bool
-isFree r channel s chosen n x = allOf (fits r channel s x ∷ isPending (x .status) ∷ not (isIn n chosen) ∷ [])
-
--- the lowest number, plus 1, of those that pass; 0 for none
-abbrev pub lowest : (ℕ → Message → Bool) → ℕ → List Message → ℕ
-lowest f n [] = 0
-lowest f n (x ∷ xs) = elim (f n x) [ true ↦ suc n | false ↦ lowest f (suc n) xs ]
-
-abbrev pub someMessage : (Message → Bool) → List Message → Bool
-someMessage f [] = false
-someMessage f (x ∷ xs) = f x || someMessage f xs
-
--- "if the tray has a claimed item that would fit, chosen or not"
-unfoldable pub someClaimed : Chord → ℕ → Sent → List Message → Bool
-someClaimed r channel s is = someMessage (λ x. fits r channel s x && isClaimed (x .status)) is
-
--- the member that the subject fills: "the first member of its tray"
-abbrev pub subjectPlace : Table → Board → ℕ → ℕ → ℕ
-subjectPlace t b h r = firstBy (eqb (channelOf b h)) (chordAt t r .channels)
-
--- "The item in hand fills the first member of its tray, whatever its status .. Any other member takes the
--- lowest-numbered pending item": what a look takes for member k, its number plus 1, 0 for none
-unfoldable pub choice : Table → Board → Job → ℕ → ℕ
-choice t b w k =
-    pick (eqb (subjectPlace t b (w .subject) (w .chord)) k) (suc (w .subject))
-    (lowest
-    (isFree (chordAt t (w .chord)) (channelAt t (w .chord) k) (messageAt b (w .subject) .sent) (w .chosen)) 0
-    (b .messages))
-
--- "If there is none: `missed` .. the retry mark is set"
-abbrev pub missedRetry : Table → Board → Job → ℕ → Bool
-missedRetry t b w k =
-    w .retry || someClaimed (chordAt t (w .chord)) (channelAt t (w .chord) k) (messageAt b (w .subject) .sent)
-    (b .messages)
 
 abbrev pub lookedBy : Table → Board → Sender → Job → ℕ → ℕ → Effect
 lookedBy t b d w k zero =
@@ -180,40 +78,6 @@ unfoldable pub revert-step : Table → Board → Sender → Job → ℕ → ℕ 
 revert-step t b d w k m =
     let n = getD (w .chosen) k 0 in
     record { said = Reverted n; change = turn n frees; sender = inJob d (revertedTo t b w k m (eqb (suc k) m)) }
-
--- A job's end, on the messages as the step leaves them
-
-abbrev pub goesIdle : Sender → ℕ → Sender
-goesIdle d l = record {
-  state = idle;
-  signalled = false;
-  own = d .own;
-  waker = d .waker;
-  reply = l;
-  matched = d .matched;
-}
-
--- "Otherwise it goes idle with the match on its slip if it matched its own item, or else it blocks."
-abbrev pub matchedEnd : Sender → ℕ → Sender
-matchedEnd d zero = inState d blocked (d .signalled)
-matchedEnd d (suc m) = goesIdle d (suc m)
-
-abbrev pub wakerEnd : Table → List Message → Sender → ℕ → Bool → Sender
-wakerEnd t is d v true = inJob d (newPass t is v 0)
-wakerEnd t is d v false = matchedEnd d (d .matched)
-
--- "takes its waker in hand if it has one that is not consumed and was not in hand just now"
-abbrev pub syncEnd : Table → List Message → Sender → ℕ → ℕ → Sender
-syncEnd t is d h zero = matchedEnd d (d .matched)
-syncEnd t is d h (suc v) = wakerEnd t is d v (not (isConsumed (getD is v noMessage .status)) && not (eqb v h))
-
-abbrev pub endsBy : Table → List Message → Sender → ℕ → Bool → Sender
-endsBy t is d h false = goesIdle d 0
-endsBy t is d h true = syncEnd t is d h (d .waker)
-
--- "a desk with a leave item goes idle", for a job on subject h
-unfoldable pub job-end : Table → List Message → Sender → ℕ → Sender
-job-end t is d h = endsBy t is d h (isSync t (getD is (d .own - 1) noMessage .sent .channel))
 
 -- A recorded match: "`consumed N` for each member in order, .. then `told N` for each waiting item other than the
 -- hand, in order"

@@ -36,8 +36,8 @@ isSync t x = eqb (getD (t .kinds) x 0) 1
 unfoldable pub firstSync : Table → ℕ → ℕ
 firstSync t r = firstBy (isSync t) (chordAt t r .channels)
 
--- The last claim wakes and does not match: "matched K instead, if the item in hand is of a waiting tray or the rule
--- names none. Otherwise .. `woke N`".
+-- The last claim wakes and does not match: "`matched K` instead, if the item in hand is of a waiting tray or the
+-- rule names none." "Otherwise .. `woke N`".
 unfoldable pub wakes : Table → ℕ → ℕ → Bool
 wakes t r channel = not (isSync t channel) && ltb (firstSync t r) (size t r)
 
