@@ -8,7 +8,6 @@ use borrow.Author.Tests.{eq-eqb, eqb-true, eqb-false, not-true}
 use lib.Dec.{eqb}
 use lib.ListN.{length, getD, length-append, List·getD-append}
 use lib.Seq.{getD-append-seam}
-use native.Mathlib.Nat.{zero-add}
 use native.Mathlib.Omega.{arith}
 use Rattle.model.specs.Tables.{Chord, Table, chordAt, channelAt, size}
 use Rattle.model.specs.Boards.{Sent, Board, Job, messageAt, isPending, Message, noMessage, isClaimed}
@@ -52,9 +51,9 @@ choice-none t b w k e n l = go (eqb (subjectPlace t b (w .subject) (w .chord)) k
     go : (u : Bool) → eqb (subjectPlace t b (w .subject) (w .chord)) k ≡ u → opens t b w k n ≡ false
     go true q = let z : suc (w .subject) ≡ 0 = rw (q, choice) at e in absurd (omega arith)
     go false q =
-        rw zero-add at (lowest-none
-        (isFree (chordAt t (w .chord)) (channelAt t (w .chord) k) (messageAt b (w .subject) .sent) (w .chosen)) 0
-        (b .messages) (rw (q, choice) at e) n l)
+        lowest-none
+        (isFree (chordAt t (w .chord)) (channelAt t (w .chord) k) (messageAt b (w .subject) .sent) (w .chosen))
+        (b .messages) (rw (q, choice) at e) n l
 
 pub data Chosen (t : Table) (b : Board) (w : Job) (k n : ℕ) : Type 0 where
   the-subject : subjectPlace t b (w .subject) (w .chord) ≡ k → n ≡ w .subject → Chosen t b w k n

@@ -3,7 +3,7 @@ use mathlib.Core.Path.{_≡_, refl}
 use mathlib.Core.Logic.{_⊎_, _≢_, inl, inr}
 use mathlib.Core.Bool.{not, false, Bool, true}
 use Prim.Native.Nat.{_-_, ℕ, _≤_, _<_, zero, suc, _+_}
-use borrow.Author.Tests.{ltb-true, not-true, ltb-false}
+use borrow.Author.Tests.{lt-ltb, ltb-true, not-true, ltb-false}
 use lib.Dec.{ltb}
 use lib.ListN.{length}
 use native.Mathlib.Omega.{arith}
@@ -66,6 +66,11 @@ names-yes t channel from h =
 pub first-waits : (t : Table) (r : ℕ) → firstSync t r < size t r → isSync t (channelAt t r (firstSync t r)) ≡ true
 unfolding firstSync
 first-waits t r l = first-passes (isSync t) (chordAt t r .channels) l
+
+pub wakes-if : (t : Table) (r channel : ℕ) → isSync t channel ≡ false → firstSync t r < size t r
+    → wakes t r channel ≡ true
+unfolding wakes
+wakes-if t r channel s f = rw (s, lt-ltb (firstSync t r) (size t r) f)
 
 pub wakes-first : (t : Table) (r channel : ℕ) → wakes t r channel ≡ true
     → (firstSync t r < size t r) × (isSync t channel ≡ false)

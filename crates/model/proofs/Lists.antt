@@ -1,5 +1,5 @@
 -- Laws of the definitions' list functions: members, the first that passes, and the lowest that passes.
-use mathlib.Core.Path.{_≡_, refl, sym, _∙_}
+use mathlib.Core.Path.{_≡_, refl, sym, _∙_, subst}
 use mathlib.Core.Logic.{_⊎_, inl, inr, _≢_}
 use mathlib.Core.Bool.{true, false, Bool}
 use mathlib.Core.List.{List, [], _∷_, _++_}
@@ -7,7 +7,7 @@ use Prim.Native.Nat.{ℕ, _<_, suc, zero, _+_, _≤_}
 use borrow.Author.Tests.{eq-eqb, eqb-true}
 use lib.Dec.{eqb}
 use lib.ListN.{length, getD}
-use native.Mathlib.Nat.{not-suc-le-zero, le-of-suc-le-suc}
+use native.Mathlib.Nat.{not-suc-le-zero, le-of-suc-le-suc, zero-add}
 use native.Mathlib.Omega.{arith}
 use Rattle.model.specs.Basics.{isIn, every, firstBy}
 use Rattle.model.specs.Boards.{Message, noMessage}
@@ -80,10 +80,10 @@ first-in f (m ∷ ms) j h e = go (f m) refl j h e (first-in f ms)
     go false q (suc j) h e ih = rw (q, firstBy) (omega (arith, ih j (le-of-suc-le-suc h) e))
 
 -- the lowest that passes
-pub lowest-none : (f : ℕ → Message → Bool) (n : ℕ) (is : List Message) → lowest f n is ≡ 0 → (j : ℕ) → j < length is
+none-from : (f : ℕ → Message → Bool) (n : ℕ) (is : List Message) → lowest f n is ≡ 0 → (j : ℕ) → j < length is
     → f (n + j) (getD is j noMessage) ≡ false
-lowest-none f n [] e j h = absurd (not-suc-le-zero h)
-lowest-none f n (x ∷ xs) e j h = go (f n x) refl e j h (lowest-none f (suc n) xs)
+none-from f n [] e j h = absurd (not-suc-le-zero h)
+none-from f n (x ∷ xs) e j h = go (f n x) refl e j h (none-from f (suc n) xs)
   where
     go : (t : Bool) → f n x ≡ t → lowest f n (x ∷ xs) ≡ 0 → (j : ℕ) → j < suc (length xs)
         → (lowest f (suc n) xs ≡ 0 → (j : ℕ) → j < length xs → f (suc n + j) (getD xs j noMessage) ≡ false)
@@ -93,7 +93,12 @@ lowest-none f n (x ∷ xs) e j h = go (f n x) refl e j h (lowest-none f (suc n) 
     go false q e (suc j) h ih =
         let z : n + suc j ≡ suc n + j = omega arith in rw z (ih (rw (q, lowest) at e) j (le-of-suc-le-suc h))
 
-pub lowest-some : (f : ℕ → Message → Bool) (n : ℕ) (is : List Message) (k : ℕ) → lowest f n is ≡ suc k
+pub lowest-none : (f : ℕ → Message → Bool) (is : List Message) → lowest f 0 is ≡ 0 → (j : ℕ) → j < length is
+    → f j (getD is j noMessage) ≡ false
+lowest-none f is e j h =
+    subst (λ (n : ℕ). f n (getD is j noMessage) ≡ false) (zero-add j) (none-from f 0 is e j h)
+
+lowest-some : (f : ℕ → Message → Bool) (n : ℕ) (is : List Message) (k : ℕ) → lowest f n is ≡ suc k
     → (j : ℕ) × (k ≡ n + j) × (j < length is) × (f k (getD is j noMessage) ≡ true)
 lowest-some f n [] k e = absurd (omega arith)
 lowest-some f n (x ∷ xs) k e = go (f n x) refl e (lowest-some f (suc n) xs k)
