@@ -1,4 +1,5 @@
--- What the board owes its users, as types: the frame of a call, sound boards kept, quiet, and demand 3. Tables-survive stands in Layout.
+-- What the board owes its users, as types: the frame of a call, sound boards kept, quiet, and demand 3. That tables
+-- survive stands in Layout.
 use mathlib.Core.Path.{_≡_}
 use mathlib.Core.Logic.{_≢_}
 use mathlib.Core.Bool.{true, false}
