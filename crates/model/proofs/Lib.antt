@@ -4,6 +4,7 @@ pub mod Accepted
 pub mod AcceptedChords
 pub mod Written
 pub mod Survive
+pub mod TableLaws
 pub mod Pigeon
 pub mod Chords
 pub mod Words
