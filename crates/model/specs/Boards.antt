@@ -105,7 +105,7 @@ emptyBoard rests = record { messages = []; matches = []; senders = replicate 32 
 -- "as the rest table says at k (from 1; beyond 16, at 16)"
 unfoldable pub builtinBackoffs : List ℕ
 builtinBackoffs =
-    0 ∷ (1 ∷ (1 ∷ (2 ∷ (2 ∷ (4 ∷ (4 ∷ (8 ∷ (8 ∷ (16 ∷ (16 ∷ (16 ∷ (32 ∷ (32 ∷ (32 ∷ (32 ∷ [])))))))))))))))
+    0 ∷ 1 ∷ 1 ∷ 2 ∷ 2 ∷ 4 ∷ 4 ∷ 8 ∷ 8 ∷ 16 ∷ 16 ∷ 16 ∷ 32 ∷ 32 ∷ 32 ∷ 32 ∷ []
 
 unfoldable pub backoffAt : List ℕ → ℕ → ℕ
 backoffAt rests k = getD rests (k - 1) 0
