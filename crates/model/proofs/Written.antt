@@ -20,13 +20,13 @@ use Rattle.model.proofs.Lists.{every-append}
 use Rattle.model.proofs.Accepted.{Accepted, accepts}
 
 -- the six words of a header
-record Header (T R M : ℕ) (s : List ℕ) : Type 0 where
-  count-T : countT s ≡ T
-  count-R : countR s ≡ R
-  count-M : countM s ≡ M
-  kinds-from : word 3 s ≡ 12
-  chords-from : word 4 s ≡ chordsStart T
-  members-from : word 5 s ≡ membersStart T R
+pub record Header (T R M : ℕ) (s : List ℕ) : Type 0 where
+  pub count-T : countT s ≡ T
+  pub count-R : countR s ≡ R
+  pub count-M : countM s ≡ M
+  pub kinds-from : word 3 s ≡ 12
+  pub chords-from : word 4 s ≡ chordsStart T
+  pub members-from : word 5 s ≡ membersStart T R
 
 chord-kept : (T : ℕ) (c : Chord) → chordKeeps T c ≡ true
     → (leb 1 (length (c .channels)) ≡ true) × (leb (length (c .channels)) 8 ≡ true) × (membersOk T (c .channels) ≡ true)
@@ -36,7 +36,7 @@ chord-kept T c e =
     let q = both {t = leb (length (c .channels)) 8} (p .1) in
     (p .0, q .0, q .1)
 
-flag-small : (b : Bool) → leb (flag b) 1 ≡ true
+pub flag-small : (b : Bool) → leb (flag b) 1 ≡ true
 flag-small true = refl
 flag-small false = refl
 
@@ -49,7 +49,7 @@ length-written next [] = refl
 length-written next (c ∷ cs) = omega (arith, length-written (next + length (c .channels)) cs)
 
 module _ (rest : List ℕ) where
-  sum-written : (next : ℕ) (cs : List Chord)
+  pub sum-written : (next : ℕ) (cs : List Chord)
       → membersSum (length cs) (writtenChords next cs ++ rest) ≡ length (writtenMembers cs)
   sum-written next [] = refl
   sum-written next (c ∷ cs) =
@@ -80,13 +80,13 @@ members-keep T (c ∷ cs) e =
     every-append (λ m. ltb m T) (c .channels) (writtenMembers cs) (k .2) (members-keep T cs (p .1))
 
 module _ (ks : List ℕ) (cs : List Chord) where
-  abbrev t : Table
+  abbrev pub t : Table
   t = record { kinds = ks; chords = cs }
 
-  abbrev ms : List ℕ
+  abbrev pub ms : List ℕ
   ms = writtenMembers cs
 
-  header : Header (length ks) (length cs) (length ms) (tableBytes t)
+  pub header : Header (length ks) (length cs) (length ms) (tableBytes t)
   unfolding word tableBytes
   header = omega arith
 
@@ -94,18 +94,18 @@ module _ (ks : List ℕ) (cs : List Chord) where
   unfolding tableBytes
   after-header n = sym (drop-drop n 12 (tableBytes t))
 
-  kinds-written : take (length ks) (drop 12 (tableBytes t)) ≡ ks
+  pub kinds-written : take (length ks) (drop 12 (tableBytes t)) ≡ ks
   kinds-written = rw (after-header 0, take-append-seam)
 
-  chords-written : drop (chordsStart (length ks)) (tableBytes t) ≡ writtenChords 0 cs ++ ms
+  pub chords-written : drop (chordsStart (length ks)) (tableBytes t) ≡ writtenChords 0 cs ++ ms
   chords-written = rw (after-header, drop-append-seam)
 
-  members-written : drop (membersStart (length ks) (length cs)) (tableBytes t) ≡ ms
+  pub members-written : drop (membersStart (length ks) (length cs)) (tableBytes t) ≡ ms
   members-written =
       let e = length-written 0 cs in
       rw (after-header, ← drop-drop (4 * length cs) (length ks) _, drop-append-seam, ← e, drop-append-seam)
 
-  whole-written : length (tableBytes t) ≡ 12 + (length ks + (4 * length cs + length ms))
+  pub whole-written : length (tableBytes t) ≡ 12 + (length ks + (4 * length cs + length ms))
   unfolding tableBytes
   whole-written = simp (length-append, length-written) (omega arith)
 
@@ -122,7 +122,7 @@ module _ (ks : List ℕ) (cs : List Chord) where
       let h = header in
       search (leb-true, h .count-T, h .count-R, h .count-M, kinds-written, chords-written, members-written, arith)
 
-  reads-written : tableOf (tableBytes t) ≡ t
+  pub reads-written : tableOf (tableBytes t) ≡ t
   unfolding tableOf
   reads-written =
       rw (header .count-T, header .count-R, kinds-written, chords-written, members-written, read-written)

@@ -1,0 +1,67 @@
+-- `chords::next_naming` meets its contract: the next one from the start is the next one from here on.
+-- The measure is the number of chords left.
+use mathlib.Core.Path.{_≡_, sym, _∙_}
+use Prim.Native.Nat.{_-_}
+use native.Mathlib.Omega.{arith}
+use Rattle.model.specs.Layout.{tableOf}
+use Rattle.chords.specs.Naming.{nextNaming}
+use Rattle.chords.proofs.Naming.{next-here, next-on, next-end}
+use borrow.Author.Needs.{needs}
+use Rattle.chords.proofs.next_naming.Statement.{statement}
+use Rattle.chords.proofs.next_naming.Tie as tie
+
+abbrev Inv-loop : tie.InvT-loop
+Inv-loop table channel from n i₀ i = nextNaming (tableOf table) channel from ≡ nextNaming (tableOf table) channel i
+
+abbrev μ-loop : tie.MeasureT-loop
+μ-loop table channel from n i₀ i = n - i
+
+chords-len-requires : tie.Need-chords-len-requires Inv-loop μ-loop
+chords-len-requires c κs = search needs
+
+loop-holds : tie.Need-loop-holds Inv-loop μ-loop
+loop-holds c = search needs
+
+names-requires : tie.Need-names-requires Inv-loop μ-loop
+names-requires c κs = (c .before .before .before .before .pre, omega (arith, c .before .before .chords-len .ensures))
+
+returns : tie.Need-returns Inv-loop μ-loop
+returns c =
+    let p = c .before .before .before in
+    let l = p .before .chords-len .ensures in
+    let e = sym (c .before .names .ensures) ∙ c .if1 .taken in
+    sym (p .loop .inv ∙ next-here (tableOf _) _ (p .loop .i) (omega arith) e)
+
+add-i : tie.Need-add-i Inv-loop μ-loop
+add-i c = search needs
+
+loop-less : tie.Need-loop-less Inv-loop μ-loop
+loop-less c = search needs
+
+loop-again : tie.Need-loop-again Inv-loop μ-loop
+loop-again c =
+    let p = c .before .before .before in
+    let l = p .before .chords-len .ensures in
+    let e = sym (c .before .names .ensures) ∙ c .if1 .left in
+    p .loop .inv ∙ next-on (tableOf _) _ (p .loop .i) (omega arith) e
+
+returns-2 : tie.Need-returns-2 Inv-loop μ-loop
+returns-2 c =
+    let p = c .before in
+    let l = p .before .chords-len .ensures in
+    l ∙ sym (p .loop .inv ∙ next-end (tableOf _) _ (p .loop .i) (omega arith))
+
+pub next-naming-spec : {M : Type 1} → statement M
+next-naming-spec =
+    tie.close
+    (tie.spec
+    Inv-loop
+    μ-loop
+    chords-len-requires
+    loop-holds
+    names-requires
+    returns
+    add-i
+    loop-less
+    loop-again
+    returns-2)

@@ -1,0 +1,53 @@
+-- The value that stands for a table, seen as a table, is the table.
+-- Assumes nothing.
+use mathlib.Core.Path.{_≡_, refl, ap}
+use mathlib.Core.List.{List, [], _∷_, _++_, map}
+use Prim.Native.Nat.{ℕ, zero, suc, _<_, _≤_}
+use native.Mathlib.Omega.{arith}
+use lib.ListN.{length, getD, set, replicate, length-map, length-replicate}
+use lib.Seq.{sets, sets-eq}
+use Rattle.model.specs.Tables.{Chord, Table, noChord}
+use Rattle.model.specs.Layout.{tableRefusal, tableOf}
+use Rattle.model.proofs.AcceptedChords.{TableOk, table-ok}
+use Rattle.codec.specs.Views.{firsts, chordIn, tableIn, chordFor, tableFor, emptyChord, readOf}
+
+firsts-front : {A : Type 0} (d : A) (xs ys : List A) → firsts d (length xs) (xs ++ ys) ≡ xs
+firsts-front d [] ys = refl
+firsts-front d (x ∷ xs) ys = ap (λ l. x ∷ l) (firsts-front d xs ys)
+
+firsts-stored : {A : Type 0} (d : A) (xs ys : List A) → length xs ≤ length ys → firsts d (length xs) (sets ys 0 xs) ≡ xs
+firsts-stored d xs ys h = rw (sets-eq xs ys 0 (omega arith), firsts-front)
+
+map-set : {A B : Type 0} (f : A → B) (l : List A) (i : ℕ) (x : A) → map f (set l i x) ≡ set (map f l) i (f x)
+map-set f [] i x = refl
+map-set f (y ∷ ys) zero x = refl
+map-set f (y ∷ ys) (suc i) x = ap (λ l. f y ∷ l) (map-set f ys i x)
+
+map-sets : {A B : Type 0} (f : A → B) (l : List A) (i : ℕ) (xs : List A)
+    → map f (sets l i xs) ≡ sets (map f l) i (map f xs)
+map-sets f l i [] = refl
+map-sets f l i (x ∷ xs) = rw (map-sets f (set l i x) (suc i) xs, map-set)
+
+chord-seen : (c : Chord) → length (c .channels) ≤ 8 → chordIn (chordFor c) ≡ c
+unfolding chordIn chordFor
+chord-seen c h = rw (firsts-stored 0 (c .channels) (replicate 8 0) (rw (length-replicate) h))
+
+chords-seen : (cs : List Chord) → ((q : ℕ) → q < length cs → length (getD cs q noChord .channels) ≤ 8)
+    → map chordIn (map chordFor cs) ≡ cs
+chords-seen [] h = refl
+chords-seen (c ∷ cs) h = rw (chord-seen c (h 0 (omega arith)), chords-seen cs (λ q l. h (suc q) (omega arith)))
+
+pub table-seen : (t : Table) → TableOk t → tableIn (tableFor t) ≡ t
+unfolding tableIn tableFor
+table-seen t o =
+    let cs = t .chords in
+    let m = chords-seen cs (o .chord-few) in
+    let k = firsts-stored 0 (t .kinds) (replicate 16 0) (rw (length-replicate) (o .kinds-few)) in
+    let ys = map chordIn (replicate 32 emptyChord) in
+    let l : length cs ≤ length ys = rw (length-map, length-replicate) (o .chords-few) in
+    rw (k, map-sets chordIn, m, firsts-stored noChord cs ys l)
+
+-- what is read from accepted bytes is their table
+pub read-seen : (s : List ℕ) → tableRefusal s ≡ 0 → tableIn (readOf s .table) ≡ tableOf s
+unfolding readOf
+read-seen s e = rw e (table-seen (tableOf s) (table-ok s e))

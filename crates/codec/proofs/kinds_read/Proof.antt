@@ -1,0 +1,91 @@
+-- `codec::kinds_read` meets its contract: the kinds left, stored from here on, give all of them stored.
+-- The measure is the number of kinds left.
+use mathlib.Core.Path.{_≡_, sym, _∙_}
+use Prim.Native.Nat.{_≤_, _<_, _-_}
+use native.Mathlib.Omega.{arith}
+use lib.ListN.{drop, replicate}
+use lib.Seq.{sets}
+use Rattle.model.specs.Layout.{tableOf, countT}
+use Rattle.model.proofs.Accepted.{accepted}
+use Rattle.model.proofs.AcceptedChords.{length-kinds}
+use Rattle.table.proofs.Places.{kind-at}
+use Rattle.codec.proofs.Fills.{fill-next, fill-end}
+use borrow.Author.Needs.{needs}
+use Rattle.codec.proofs.kinds_read.Statement.{statement}
+use Rattle.codec.proofs.kinds_read.Tie as tie
+
+abbrev Inv-loop : tie.InvT-loop
+Inv-loop table t kinds₀ i₀ kinds i =
+    (i ≤ t) × (sets kinds i (drop i (tableOf table .kinds)) ≡ sets (replicate 16 0) 0 (tableOf table .kinds))
+
+abbrev μ-loop : tie.MeasureT-loop
+μ-loop table t kinds₀ i₀ kinds i = t - i
+
+below : (c : tie.In-loop Inv-loop μ-loop)
+    → c .before .loop .i < countT (c .before .before .before .before .args .table .now)
+below c =
+    let l = c .before .before in
+    let n = length-kinds _ (accepted _ (l .before .before .pre)) in
+    omega (arith, l .channels-len .ensures)
+
+channels-len-requires : tie.Need-channels-len-requires Inv-loop μ-loop
+channels-len-requires c κs = search needs
+
+cast-t : tie.Need-cast-t Inv-loop μ-loop
+cast-t c = search needs
+
+loop-holds : tie.Need-loop-holds Inv-loop μ-loop
+loop-holds c = search needs
+
+add-kinds : tie.Need-add-kinds Inv-loop μ-loop
+add-kinds c = search needs
+
+shared-slice-read-kinds : tie.Need-shared-slice-read-kinds Inv-loop μ-loop
+shared-slice-read-kinds c =
+    let a = accepted _ (c .before .before .before .before .before .pre) in
+    omega (arith, below (c .before))
+
+array-write-kinds : tie.Need-array-write-kinds Inv-loop μ-loop
+array-write-kinds c =
+    let a = accepted _ (c .before .before .before .before .before .pre) in
+    omega (arith, below (c .before))
+
+add-i : tie.Need-add-i Inv-loop μ-loop
+add-i c = search needs
+
+loop-less : tie.Need-loop-less Inv-loop μ-loop
+loop-less c = search needs
+
+loop-again : tie.Need-loop-again Inv-loop μ-loop
+loop-again c =
+    let p = c .before .before in
+    let t = p .before .before .before .args .table .now in
+    let i = p .loop .i in
+    let e = kind-at t i (below (c .before)) in
+    let f = fill-next (p .loop .kinds) (tableOf t .kinds) i i 0 (omega (arith, p .before .channels-len .ensures)) in
+    (search needs, rw (← e) (sym f ∙ p .loop .inv .1))
+
+returns : tie.Need-returns Inv-loop μ-loop
+returns c =
+    let p = c .before in
+    let t = p .before .before .before .args .table .now in
+    let i = p .loop .i in
+    let z = fill-end (p .loop .kinds) (tableOf t .kinds) i i (omega (arith, p .before .channels-len .ensures)) in
+    sym z ∙ p .loop .inv .1
+
+pub kinds-read-spec : {M : Type 1} → statement M
+kinds-read-spec =
+    tie.close
+    (tie.spec
+    Inv-loop
+    μ-loop
+    channels-len-requires
+    cast-t
+    loop-holds
+    add-kinds
+    shared-slice-read-kinds
+    array-write-kinds
+    add-i
+    loop-less
+    loop-again
+    returns)

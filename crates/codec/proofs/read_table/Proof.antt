@@ -1,0 +1,49 @@
+-- `codec::read_table` meets its contract: the number decides which table is read.
+-- Assumes nothing.
+use mathlib.Core.List.{List}
+use Prim.Native.Nat.{ℕ}
+use Rattle.model.specs.Layout.{tableRefusal, tableOf}
+use Rattle.codec.specs.declared.Read as DR
+use Rattle.codec.specs.Views.{tableIn, readOf}
+use Rattle.codec.proofs.Views.{read-seen}
+use mathlib.Core.Path.{_≡_, sym, _∙_}
+use borrow.Author.Tests.{ne-eqb}
+use borrow.Author.Needs.{needs}
+use Rattle.codec.proofs.read_table.Statement.{statement}
+use Rattle.codec.proofs.read_table.Tie as tie
+
+none : (c : tie.Else1) → tableRefusal (c .before .before .before .args .bytes .now) ≡ 0
+none c = sym (c .before .table-refusal .ensures) ∙ c .if1 .left
+
+-- what was read, seen as a table
+seen : (s : List ℕ) (r : DR.Read) → r ≡ readOf s
+    → (r ≡ readOf s) × (tableRefusal s ≡ 0 → tableIn (r .table) ≡ tableOf s)
+seen s r e = (e, λ z. rw e (read-seen s z))
+
+table-refusal-requires : tie.Need-table-refusal-requires
+table-refusal-requires c κs = search needs
+
+empty-table-requires : tie.Need-empty-table-requires
+empty-table-requires c κs = search needs
+
+returns : tie.Need-returns
+unfolding readOf
+returns c =
+    let t = c .before .before in
+    let r = t .table-refusal .ensures in
+    seen (t .before .before .args .bytes .now) _
+    (rw (ne-eqb (tableRefusal _) 0 (λ z. c .before .if1 .taken (r ∙ z)), r, c .empty-table .ensures))
+
+table-read-requires : tie.Need-table-read-requires
+table-read-requires c κs = none c
+
+returns-2 : tie.Need-returns-2
+unfolding readOf
+returns-2 c =
+    let s = c .before .before .before .before in
+    seen (s .args .bytes .now) _ (rw (none (c .before), c .table-read .ensures))
+
+pub read-table-spec : {M : Type 1} → statement M
+read-table-spec =
+    tie.close
+    (tie.spec table-refusal-requires empty-table-requires returns table-read-requires returns-2)

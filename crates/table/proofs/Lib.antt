@@ -1,0 +1,5 @@
+-- Laws of table bytes: walked from the front, judged by their header,
+-- and read by the places of their chords.
+pub mod Walks
+pub mod Headers
+pub mod Places

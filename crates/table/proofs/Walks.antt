@@ -1,0 +1,56 @@
+-- Laws of bytes walked from the front: what is left from i on, and a chord's four bytes at a place.
+-- Assumes nothing.
+use mathlib.Core.Path.{_≡_}
+use mathlib.Core.Bool.{Bool, true, false, _&&_}
+use mathlib.Core.List.{List}
+use Prim.Native.Nat.{ℕ, suc, _+_, _-_, _*_, _<_, _≤_}
+use native.Mathlib.Nat.{add-zero}
+use native.Mathlib.Numerals.{add-one}
+use native.Mathlib.Omega.{arith}
+use lib.Dec.{eqb, leb}
+use lib.ListN.{length, getD, take, drop, drop-of-length-le, length-drop}
+use lib.Seq.{drop-cons, drop-drop, getD-drop, take-all}
+use Rattle.model.specs.Basics.{every}
+use Rattle.model.specs.Layout.{chordOk, chordsOk, membersSum, word}
+
+-- every byte passes
+module _ (p : ℕ → Bool) (s : List ℕ) (i : ℕ) where
+  pub all-no : i < length s → p (getD s i 0) ≡ false → every p (drop i s) ≡ false
+  all-no h e = rw (drop-cons s i 0 h, e)
+
+  pub all-yes : i < length s → p (getD s i 0) ≡ true → every p (drop i s) ≡ every p (drop (i + 1) s)
+  all-yes h e = rw (drop-cons s i 0 h, add-one i, e)
+
+  pub all-end : length s ≤ i → every p (drop i s) ≡ true
+  all-end h = rw (drop-of-length-le s h)
+
+-- a word, and a chord's bytes, at a place
+word-from : (s : List ℕ) (at : ℕ) → word 0 (drop at s) ≡ getD s at 0 + 256 * getD s (at + 1) 0
+unfolding word
+word-from s at = rw (getD-drop, getD-drop, add-zero at)
+
+pub chord-from : (s : List ℕ) (at next : ℕ) → chordOk next (drop at s)
+    ≡ (eqb (getD s at 0 + 256 * getD s (at + 1) 0) next
+    && (leb 1 (getD s (at + 2) 0) && (leb (getD s (at + 2) 0) 8 && leb (getD s (at + 3) 0) 1)))
+unfolding chordOk
+chord-from s at next = rw (word-from s at, getD-drop at s 2 0, getD-drop at s 3 0)
+
+module _ (s : List ℕ) (i n : ℕ) (h : i < n) where
+  four : drop 4 (drop (4 * i) s) ≡ drop (4 * (i + 1)) s
+  four = let e : 4 * i + 4 ≡ 4 * (i + 1) = omega arith in rw (drop-drop, e)
+
+  pub chords-at : (next : ℕ) → chordsOk (n - i) next (drop (4 * i) s)
+      ≡ (chordOk next (drop (4 * i) s) && chordsOk (n - (i + 1)) (next + getD s (4 * i + 2) 0) (drop (4 * (i + 1)) s))
+  chords-at next =
+      let e : n - i ≡ suc (n - (i + 1)) = omega arith in
+      rw (e, four, getD-drop (4 * i) s 2 0)
+
+  pub sum-at : membersSum (n - i) (drop (4 * i) s)
+      ≡ getD s (4 * i + 2) 0 + membersSum (n - (i + 1)) (drop (4 * (i + 1)) s)
+  sum-at =
+      let e : n - i ≡ suc (n - (i + 1)) = omega arith in
+      rw (e, four, getD-drop (4 * i) s 2 0)
+
+-- a part to the end is what is left
+pub to-end : (s : List ℕ) (a : ℕ) → take (length s - a) (drop a s) ≡ drop a s
+to-end s a = take-all (length s - a) (drop a s) (simp length-drop (omega arith))

@@ -1,0 +1,58 @@
+-- `writer::put_entry` meets its contract: a word and two bytes stored in turn are the entry stored.
+-- Assumes nothing.
+use mathlib.Core.Bool.{Bool, true, false}
+use mir.Val.{boolByte}
+use Rattle.model.specs.Layout.{flag}
+use mathlib.Core.Path.{_≡_, refl}
+use Prim.Native.Nat.{suc, _+_}
+use native.Mathlib.Omega.{arith}
+use lib.ListN.{length-set}
+use borrow.Author.Needs.{needs}
+use Rattle.writer.proofs.put_entry.Statement.{statement}
+use Rattle.writer.proofs.put_entry.Tie as tie
+
+-- a bool as a byte
+byte-flag : (b : Bool) → boolByte b ≡ flag b
+byte-flag true = refl
+byte-flag false = refl
+
+put-two-requires : tie.Need-put-two-requires
+put-two-requires c κs = search needs
+
+add-out : tie.Need-add-out
+add-out c = search needs
+
+slice-write-out : tie.Need-slice-write-out
+slice-write-out c = search needs
+
+cast-out : tie.Need-cast-out
+cast-out c = search needs
+
+add-out-2 : tie.Need-add-out-2
+add-out-2 c = search needs
+
+slice-write-out-2 : tie.Need-slice-write-out-2
+slice-write-out-2 c = rw length-set (search needs)
+
+same-length : tie.Need-same-length
+same-length c = search needs
+
+returns : tie.Need-returns
+returns c =
+    let a = c .before .before .before .before .before .args in
+    let z : a .at + 2 ≡ suc (suc (a .at)) = omega arith in
+    let y : a .at + 3 ≡ suc (suc (suc (a .at))) = omega arith in
+    rw (c .before .before .put-two .ensures, z, y, byte-flag (a .equal))
+
+pub put-entry-spec : {M : Type 1} → statement M
+put-entry-spec =
+    tie.close
+    (tie.spec
+    put-two-requires
+    add-out
+    slice-write-out
+    cast-out
+    add-out-2
+    slice-write-out-2
+    same-length
+    returns)
