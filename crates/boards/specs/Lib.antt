@@ -1,0 +1,2 @@
+-- The declared board with its lent columns as the model's board.
+pub mod Boards

@@ -1,0 +1,3 @@
+-- Laws of messages by columns, and of the walks over them.
+pub mod Messages
+pub mod Walks

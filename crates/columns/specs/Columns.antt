@@ -1,0 +1,73 @@
+-- The lent messages, a list for each field, as the model's messages (01: "The host lends the list of items").
+use mathlib.Core.List.{List, [], _∷_}
+use Prim.Native.Nat.{ℕ, zero, suc, _≤_}
+use lib.IntN.{ℤ, pos}
+use lib.ListN.{getD, length}
+use Rattle.model.specs.Boards.{Status, pending, claimed, woken, consumed, Message, Match, Sender, Board}
+
+pub record Columns : Type 0 where
+  pub channels : List ℕ
+  pub properties : List ℕ
+  pub cents : List ℤ
+  pub statuses : List ℕ
+  pub matched : List ℕ
+  pub wakers : List ℕ
+
+-- a byte over 3 is no status: a board with one is not sound
+abbrev pub statusOf : ℕ → Status
+statusOf zero = pending
+statusOf (suc zero) = claimed
+statusOf (suc (suc zero)) = woken
+statusOf (suc (suc (suc n))) = consumed
+
+unfoldable pub messageIn : Columns → ℕ → Message
+messageIn c n = record {
+  sent = record {
+    channel = getD (c .channels) n 0;
+    property = getD (c .properties) n 0;
+    cents = getD (c .cents) n (pos 0);
+  };
+  status = statusOf (getD (c .statuses) n 0);
+  match = getD (c .matched) n 0;
+  waker = getD (c .wakers) n 0;
+}
+
+-- n messages from number i on
+abbrev pub messagesFrom : Columns → ℕ → ℕ → List Message
+messagesFrom c i zero = []
+messagesFrom c i (suc n) = messageIn c i ∷ messagesFrom c (suc i) n
+
+-- what a look does not read: three columns and the rest of the board
+pub record Unread : Type 0 where
+  pub cents : List ℤ
+  pub matched : List ℕ
+  pub wakers : List ℕ
+  pub matches : List Match
+  pub senders : List Sender
+  pub backoffs : List ℕ
+
+abbrev pub columnsBy : List ℕ → List ℕ → List ℕ → Unread → Columns
+columnsBy channels properties statuses o = record {
+  channels = channels;
+  properties = properties;
+  cents = o .cents;
+  statuses = statuses;
+  matched = o .matched;
+  wakers = o .wakers;
+}
+
+-- a board of n messages, by the columns that a look reads and what it does not read
+abbrev pub boardBy : List ℕ → List ℕ → List ℕ → ℕ → Unread → Board
+boardBy channels properties statuses n o = record {
+  messages = messagesFrom (columnsBy channels properties statuses o) 0 n;
+  matches = o .matches;
+  senders = o .senders;
+  backoffs = o .backoffs;
+}
+
+-- columns long enough for n messages
+pub record Lent (n : ℕ) (channels properties statuses : List ℕ) : Type 0 where
+  pub few : n ≤ 1024
+  pub channels-all : n ≤ length channels
+  pub properties-all : n ≤ length properties
+  pub statuses-all : n ≤ length statuses

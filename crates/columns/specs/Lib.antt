@@ -1,0 +1,3 @@
+-- The lent columns as the model's messages.
+pub mod Columns
+pub mod MatchColumns

@@ -1,0 +1,2 @@
+pub mod Reverting
+pub mod PassEnds

@@ -1,0 +1,59 @@
+-- `ends::pass_end_step` meets its contract, by whether the job is tried again.
+-- Assumes nothing.
+use mathlib.Core.Path.{_∙_}
+use Rattle.model.specs.Layout.{tableOf}
+use Rattle.state.specs.Views.{jobIn, senderIn}
+use Rattle.ends.proofs.PassEnds.{pass-by, again-is}
+use borrow.Author.Needs.{needs}
+use Rattle.ends.proofs.pass_end_step.Statement.{statement}
+use Rattle.ends.proofs.pass_end_step.Tie as tie
+
+more-requires : tie.Need-more-requires
+more-requires c κs = search needs
+
+rests-at-requires : tie.Need-rests-at-requires
+rests-at-requires c κs = search needs
+
+rests-then-requires : tie.Need-rests-then-requires
+rests-then-requires c κs = search needs
+
+works-requires : tie.Need-works-requires
+works-requires c κs = search needs
+
+returns : tie.Need-returns
+returns c =
+    let q = c .before in
+    let r = q .before in
+    let m = r .before in
+    let i = m .before in
+    let a = i .before .before .before .before .args in
+    let t = tableOf (a .table .now) in
+    let d = a .d in
+    λ b eb ec eo es ew eg. rw (c .works .ensures)
+    (again-is t b d (q .rests-then .result) _ _ eb (m .more .ensures .0) (r .rests-at .ensures)
+    (q .rests-then .ensures b ec)
+    ∙ pass-by t b (senderIn t d) (jobIn t (d .job)) (a .opened) _ eo (i .if1 .taken))
+
+job-end-requires : tie.Need-job-end-requires
+job-end-requires c κs = search needs
+
+returns-2 : tie.Need-returns-2
+returns-2 c =
+    let i = c .before in
+    let a = i .before .before .before .before .args in
+    let t = tableOf (a .table .now) in
+    let d = a .d in
+    λ b eb ec eo es ew eg. rw (c .job-end .ensures (b .messages) es ew eg)
+    (pass-by t b (senderIn t d) (jobIn t (d .job)) (a .opened) _ eo (i .if1 .left))
+
+pub pass-end-step-spec : {M : Type 1} → statement M
+pass-end-step-spec =
+    tie.close
+    (tie.spec
+    more-requires
+    rests-at-requires
+    rests-then-requires
+    works-requires
+    returns
+    job-end-requires
+    returns-2)

@@ -1,0 +1,2 @@
+-- Laws of claims.
+pub mod Claims

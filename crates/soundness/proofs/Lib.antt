@@ -1,0 +1,5 @@
+-- Laws of the tests of lent columns.
+pub mod Each
+pub mod Cents
+pub mod Messages
+pub mod Matches

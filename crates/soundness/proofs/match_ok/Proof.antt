@@ -1,0 +1,51 @@
+-- `soundness::match_ok` meets its contract: the part that is tested starts with the match's numbers.
+-- Assumes nothing.
+use native.Mathlib.Omega.{arith}
+use lib.ListN.{length-drop}
+use Rattle.table.proofs.Walks.{to-end}
+use Rattle.soundness.proofs.Matches.{size-few}
+use borrow.Author.Needs.{needs}
+use Rattle.soundness.proofs.match_ok.Statement.{statement}
+use Rattle.soundness.proofs.match_ok.Tie as tie
+
+chord-len-requires : tie.Need-chord-len-requires
+chord-len-requires c κs = search needs
+
+cast-n : tie.Need-cast-n
+cast-n c = search needs
+
+mul-numbers-below : tie.Need-mul-numbers-below
+mul-numbers-below c = search needs
+
+sub-numbers-below : tie.Need-sub-numbers-below
+sub-numbers-below c = search needs
+
+part-numbers-below-start : tie.Need-part-numbers-below-start
+part-numbers-below-start c = search needs
+
+part-numbers-below-end : tie.Need-part-numbers-below-end
+part-numbers-below-end c = search needs
+
+numbers-below-requires : tie.Need-numbers-below-requires
+numbers-below-requires c κs =
+    let s = c .before .before .before .before in
+    let a = s .args in
+    let k = size-few (a .table .now) (s .pre .0 .0) (a .chord) (s .pre .0 .1) in
+    rw (to-end (a .messages .now) (a .at)) (simp length-drop (omega (arith, c .before .chord-len .ensures)))
+
+returns : tie.Need-returns
+returns c =
+    rw (← c .before .before .chord-len .ensures, ← to-end) (c .numbers-below .ensures)
+
+pub match-ok-spec : {M : Type 1} → statement M
+match-ok-spec =
+    tie.close
+    (tie.spec
+    chord-len-requires
+    cast-n
+    mul-numbers-below
+    sub-numbers-below
+    part-numbers-below-start
+    part-numbers-below-end
+    numbers-below-requires
+    returns)

@@ -1,0 +1,56 @@
+-- `soundness::numbers_below` meets its contract: the answer so far is that for the numbers up to here.
+-- The measure is the number of numbers left.
+use mathlib.Core.Path.{_≡_, sym}
+use Prim.Native.Nat.{_≤_, _-_}
+use native.Mathlib.Omega.{arith}
+use Rattle.soundness.specs.Tests.{eachBelow, below}
+use Rattle.soundness.proofs.Each.{each-none, each-one}
+use borrow.Author.Needs.{needs}
+use Rattle.soundness.proofs.numbers_below.Statement.{statement}
+use Rattle.soundness.proofs.numbers_below.Tie as tie
+
+abbrev Inv-loop : tie.InvT-loop
+Inv-loop s n m ok₀ i₀ ok i = (i ≤ n) × (ok ≡ eachBelow i (below m s))
+
+abbrev μ-loop : tie.MeasureT-loop
+μ-loop s n m ok₀ i₀ ok i = n - i
+
+loop-holds : tie.Need-loop-holds Inv-loop μ-loop
+loop-holds c = (search needs, sym (each-none _))
+
+mul-ok : tie.Need-mul-ok Inv-loop μ-loop
+mul-ok c = search needs
+
+shared-slice-read-ok : tie.Need-shared-slice-read-ok Inv-loop μ-loop
+shared-slice-read-ok c = search needs
+
+add-i : tie.Need-add-i Inv-loop μ-loop
+add-i c = search needs
+
+loop-less : tie.Need-loop-less Inv-loop μ-loop
+loop-less c = search needs
+
+loop-again : tie.Need-loop-again Inv-loop μ-loop
+loop-again c =
+    let p = c .before .before in
+    (search needs, rw (each-one _ (p .loop .i), p .loop .inv .1))
+
+returns : tie.Need-returns Inv-loop μ-loop
+returns c =
+    let p = c .before in
+    let z : p .loop .i ≡ p .before .args .n = omega arith in
+    rw (← z) (p .loop .inv .1)
+
+pub numbers-below-spec : {M : Type 1} → statement M
+numbers-below-spec =
+    tie.close
+    (tie.spec
+    Inv-loop
+    μ-loop
+    loop-holds
+    mul-ok
+    shared-slice-read-ok
+    add-i
+    loop-less
+    loop-again
+    returns)

@@ -1,0 +1,2 @@
+-- The tests of lent columns.
+pub mod Tests

@@ -1,0 +1,333 @@
+// Senders, their jobs, and what a step answers.
+ghost use mathlib.Core.Path.{_≡_};
+ghost use mathlib.Core.List.{List};
+ghost use Prim.Native.Nat.{_-_, _<_, _≤_};
+ghost use lib.ListN.{length, getD};
+ghost use Rattle.model.specs.Tables as MT;
+ghost use Rattle.model.specs.Boards.{Board, Message, noMessage, channelOf, isConsumed, builtinBackoffs, backoffAt};
+ghost use Rattle.model.specs.Jobs as MJ;
+ghost use Rattle.model.specs.Layout.{tableRefusal, tableOf};
+ghost use Rattle.model.specs.Steps as MS;
+ghost use Rattle.state.specs.Views.{jobIn, senderIn};
+ghost use Rattle.state.specs.Builders.{inJob, worksBy, inPhase, withRetry, goesIdle, staysBlocked, jobAt};
+
+// Where a job is. The first number is the place: the member that the next step is about, or the rests after the next
+// one. Revert has the number of claims made beside it, Consume the match plus 1.
+pub enum Phase {
+    Look(u8),
+    Claim(u8),
+    Revert(u8, u8),
+    Consume(u8, u16),
+    Tell(u8),
+    Wake,
+    Free(u8),
+    Signal,
+    PassEnd,
+    Backoff(u8),
+}
+
+pub enum State {
+    Idle,
+    Working,
+    Blocked,
+}
+
+// A sender's work on its subject, which is read only while the sender is at work.
+pub struct Job {
+    pub subject: u16,
+    pub chord: u8,
+    pub phase: Phase,
+    pub chosen: [u16; 8],
+    pub retry: bool,
+    pub retries: u8,
+}
+
+// Own message, waker, reply and the match made of the own message are numbers plus 1, 0 for none.
+pub struct Sender {
+    pub state: State,
+    pub signalled: bool,
+    pub own: u16,
+    pub waker: u16,
+    pub reply: u16,
+    pub matched: u16,
+    pub job: Job,
+}
+
+pub enum Said {
+    Item(u16),
+    Looked(u16),
+    Missed,
+    Claimed(u16),
+    Lost(u16),
+    Reverted(u16),
+    Matched(u16),
+    Consumed(u16),
+    Told(u16),
+    Woke(u16),
+    Freed(u16),
+    Signalled(u16),
+    Again,
+    Ended,
+    Rested,
+    Answered(u16),
+    Resumed,
+    Refused(u8),
+}
+
+// How one message turns. Consumes has the match plus 1, WakesBy the waker.
+pub enum Turn {
+    Claims,
+    Frees,
+    Consumes(u16),
+    WakesBy(u16),
+    Resumes,
+}
+
+// What a step does beside altering its sender: one message turns; a match of the sender's choice is recorded with its
+// last claim; a message's sender is signalled.
+pub enum Change {
+    None,
+    Turn(u16, Turn),
+    Record(u16),
+    Signal(u16),
+}
+
+pub struct Effect {
+    pub said: Said,
+    pub change: Change,
+    pub sender: Sender,
+}
+
+// The sender at work on a job.
+pub fn in_job(d: Sender, job: Job) -> Sender
+    ensures { λ r. ⌜ r ≡ inJob d job ⌝ }
+{
+    Sender {
+        state: State::Working,
+        signalled: d.signalled,
+        own: d.own,
+        waker: d.waker,
+        reply: d.reply,
+        matched: d.matched,
+        job: job,
+    }
+}
+
+// A step that leaves the sender at work on a job.
+pub fn works(d: Sender, job: Job, said: Said, change: Change) -> Effect
+    ensures { λ r. ⌜ r ≡ worksBy d job said change ⌝ }
+{
+    Effect {
+        said: said,
+        change: change,
+        sender: Sender {
+            state: State::Working,
+            signalled: d.signalled,
+            own: d.own,
+            waker: d.waker,
+            reply: d.reply,
+            matched: d.matched,
+            job: job,
+        },
+    }
+}
+
+// The job in another phase.
+pub fn in_phase(j: Job, phase: Phase) -> Job
+    ensures { λ r. ⌜ r ≡ inPhase j phase ⌝ }
+{
+    let chosen = j.chosen;
+    Job {
+        subject: j.subject,
+        chord: j.chord,
+        phase: phase,
+        chosen: chosen,
+        retry: j.retry,
+        retries: j.retries,
+    }
+}
+
+// The job in another phase, to be tried again.
+pub fn with_retry(j: Job, phase: Phase) -> Job
+    ensures { λ r. ⌜ r ≡ withRetry j phase ⌝ }
+{
+    let chosen = j.chosen;
+    Job {
+        subject: j.subject,
+        chord: j.chord,
+        phase: phase,
+        chosen: chosen,
+        retry: true,
+        retries: j.retries,
+    }
+}
+
+// The sender idle, with a reply.
+pub fn goes_idle(d: Sender, reply: u16) -> Sender
+    ensures { λ r. ⌜ r ≡ goesIdle d reply ⌝ }
+{
+    let job = d.job;
+    Sender {
+        state: State::Idle,
+        signalled: false,
+        own: d.own,
+        waker: d.waker,
+        reply: reply,
+        matched: d.matched,
+        job: job,
+    }
+}
+
+// The sender blocked, signalled or not.
+pub fn stays_blocked(d: Sender, signalled: bool) -> Sender
+    ensures { λ r. ⌜ r ≡ staysBlocked d signalled ⌝ }
+{
+    let job = d.job;
+    Sender {
+        state: State::Blocked,
+        signalled: signalled,
+        own: d.own,
+        waker: d.waker,
+        reply: d.reply,
+        matched: d.matched,
+        job: job,
+    }
+}
+
+// A job of a subject at a chord, or past the chords, with nothing chosen.
+fn job_at(subject: u16, chord: u8, phase: Phase, retry: bool, retries: u8) -> Job
+    ensures { λ r. ⌜ r ≡ jobAt subject chord phase retry retries ⌝ }
+{
+    Job {
+        subject: subject,
+        chord: chord,
+        phase: phase,
+        chosen: [0; 8],
+        retry: retry,
+        retries: retries,
+    }
+}
+
+// A pass over the chords that name the subject's channel, from a chord on.
+pub fn pass_from(table: &[u8], subject: u16, channel: u8, from: u8, retry: bool, retries: u8) -> Job
+    requires { ⌜ tableRefusal (now table) ≡ 0 ⌝ }
+    ensures { λ r. ⌜ jobIn (tableOf (now (table .entry))) r
+        ≡ MJ.passFrom (tableOf (now (table .entry))) subject channel from retry retries ⌝ }
+{
+    let chord = chords::next_naming(table, channel, from);
+    if chord < table::chords_len(table) {
+        return job_at(subject, chord, Phase::Look(0), retry, retries);
+    }
+    job_at(subject, 0, Phase::PassEnd, retry, retries)
+}
+
+// The job's pass from its next chord on.
+pub fn next_chord(table: &[u8], j: Job, channel: u8, retry: bool) -> Job
+    requires { ⌜ (tableRefusal (now table) ≡ 0) × (j .chord < length (tableOf (now table) .chords)) ⌝ }
+    ensures { λ r. ⌜ ((b : Board) → channelOf b (j .subject) ≡ channel → jobIn (tableOf (now (table .entry))) r
+        ≡ MJ.nextChord (tableOf (now (table .entry))) b (jobIn (tableOf (now (table .entry))) j) retry) ⌝ }
+{
+    pass_from(table, j.subject, channel, j.chord + 1, retry, j.retries)
+}
+
+// A new pass, over all chords that name the subject's channel.
+pub fn new_pass(table: &[u8], subject: u16, channel: u8, retries: u8) -> Job
+    requires { ⌜ tableRefusal (now table) ≡ 0 ⌝ }
+    ensures { λ r. ⌜ ((is : List Message) → getD is subject noMessage .sent .channel ≡ channel
+        → jobIn (tableOf (now (table .entry))) r ≡ MJ.newPass (tableOf (now (table .entry))) is subject retries) ⌝ }
+{
+    pass_from(table, subject, channel, 0, false, retries)
+}
+
+// Rests to be spent and then a new pass, or that pass at once.
+pub fn rests_then(table: &[u8], subject: u16, channel: u8, retries: u8, rests: u8) -> Job
+    requires { ⌜ tableRefusal (now table) ≡ 0 ⌝ }
+    ensures { λ r. ⌜ ((b : Board) → channelOf b subject ≡ channel
+        → jobIn (tableOf (now (table .entry))) r
+        ≡ MS.restsThen (tableOf (now (table .entry))) b subject retries rests) ⌝ }
+{
+    if rests == 0 {
+        return new_pass(table, subject, channel, retries);
+    }
+    job_at(subject, 0, Phase::Backoff(rests - 1), false, retries)
+}
+
+// The end of a job that goes on to no waker: idle with the own message's match as reply, or blocked without a match.
+fn matched_end(d: Sender) -> Sender
+    ensures { λ r. ⌜ ((t : MT.Table) → senderIn t r ≡ MJ.matchedEnd (senderIn t d) (d .matched)) ⌝ }
+{
+    let m = d.matched;
+    if m == 0 {
+        return stays_blocked(d, d.signalled);
+    }
+    goes_idle(d, m)
+}
+
+// The end of a job where the own message's channel is synchronous: on to the waker, unless that is consumed or was the
+// subject.
+fn sync_end(table: &[u8], d: Sender, subject: u16, channel: u8, consumed: bool) -> Sender
+    requires { ⌜ tableRefusal (now table) ≡ 0 ⌝ }
+    ensures { λ r. ⌜ ((is : List Message) → getD is (d .waker - 1) noMessage .sent .channel ≡ channel
+        → isConsumed (getD is (d .waker - 1) noMessage .status) ≡ consumed
+        → senderIn (tableOf (now (table .entry))) r ≡ MJ.syncEnd (tableOf (now (table .entry))) is
+        (senderIn (tableOf (now (table .entry))) d) subject (d .waker)) ⌝ }
+{
+    let waker = d.waker;
+    if waker == 0 {
+        return matched_end(d);
+    }
+    let v = waker - 1;
+    if !consumed & (v != subject) {
+        let pass = new_pass(table, v, channel, 0);
+        return in_job(d, pass);
+    }
+    matched_end(d)
+}
+
+// The end of a job, by what was read: whether the own message's channel is synchronous, the waker's channel, and whether
+// the waker is consumed.
+pub fn job_end(
+    table: &[u8],
+    d: Sender,
+    subject: u16,
+    sync: bool,
+    channel: u8,
+    consumed: bool,
+) -> Sender
+    requires { ⌜ tableRefusal (now table) ≡ 0 ⌝ }
+    ensures { λ r. ⌜ ((is : List Message)
+        → MT.isSync (tableOf (now (table .entry))) (getD is (d .own - 1) noMessage .sent .channel) ≡ sync
+        → getD is (d .waker - 1) noMessage .sent .channel ≡ channel
+        → isConsumed (getD is (d .waker - 1) noMessage .status) ≡ consumed
+        → senderIn (tableOf (now (table .entry))) r ≡ MJ.job-end (tableOf (now (table .entry))) is
+        (senderIn (tableOf (now (table .entry))) d) subject) ⌝ }
+{
+    if sync {
+        return sync_end(table, d, subject, channel, consumed);
+    }
+    goes_idle(d, 0)
+}
+
+// A count of retries goes to 16.
+const MOST: u8 = 16;
+
+// The count of retries with one more.
+pub fn more(k: u8) -> u8
+    ensures { λ r. ⌜ (r ≡ MS.more k) × (1 ≤ r) × (r ≤ 16) ⌝ }
+{
+    if MOST <= k {
+        return MOST;
+    }
+    k + 1
+}
+
+// The rests by the count of retries, from 1 on.
+const RESTS: [u8; 16] = [0, 1, 1, 2, 2, 4, 4, 8, 8, 16, 16, 16, 32, 32, 32, 32];
+
+// The rests at a count of retries.
+pub fn rests_at(k: u8) -> u8
+    requires { ⌜ (1 ≤ k) × (k ≤ 16) ⌝ }
+    ensures { λ r. ⌜ r ≡ backoffAt builtinBackoffs k ⌝ }
+{
+    RESTS[(k - 1) as usize]
+}
