@@ -1,5 +1,4 @@
 -- A table survives being written and read, both ways, in the words of the contracts of `read_table` and `write_table`.
--- Assumes nothing.
 use mathlib.Core.Path.{_≡_, sym, _∙_}
 use mathlib.Core.Bool.{true}
 use mathlib.Core.List.{List}
