@@ -1,5 +1,4 @@
 -- Laws of the next chord that names a channel, and of the wake test, as the code finds them.
--- Assumes nothing.
 use mathlib.Core.Path.{_≡_}
 use mathlib.Core.Bool.{Bool, true, false}
 use Prim.Native.Nat.{ℕ, suc, _+_, _-_, _<_, _≤_}

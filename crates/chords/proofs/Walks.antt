@@ -1,5 +1,4 @@
 -- Laws of channels walked from the front: what is left from i on.
--- Assumes nothing.
 use mathlib.Core.Path.{_≡_, sym}
 use mathlib.Core.Bool.{Bool, true, false}
 use mathlib.Core.List.{List, _∷_}

@@ -1,5 +1,4 @@
 -- Laws of a test of each number below n: a turn, two tests in one, what it says of a number, and lists by their places.
--- Assumes nothing.
 use mathlib.Core.Path.{_≡_, refl, sym, _∙_}
 use mathlib.Core.Logic.{_⊎_, inl, inr, _≢_}
 use mathlib.Core.Bool.{Bool, true, false, _&&_}

@@ -1,6 +1,5 @@
 -- The matches tested a column at a time are the matches tested one at a time, and numbers that are all below a count
 -- are so for each match.
--- Assumes nothing.
 use mathlib.Core.Path.{_≡_, refl, sym, _∙_}
 use mathlib.Core.Bool.{Bool, true, false, _&&_}
 use mathlib.Core.List.{List}

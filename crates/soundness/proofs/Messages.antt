@@ -1,5 +1,4 @@
 -- The messages tested a column at a time are the messages tested one at a time.
--- Assumes nothing.
 use mathlib.Core.Path.{_≡_, refl, sym, _∙_}
 use mathlib.Core.Bool.{Bool, true, false, _&&_, _||_, not}
 use Prim.Native.Nat.{ℕ, zero, suc, _≤_}

@@ -1,5 +1,4 @@
 -- Laws of a job's end, by the tests that the code makes.
--- Assumes nothing.
 use mathlib.Core.Path.{_≡_, refl}
 use mathlib.Core.Bool.{Bool, _&&_, not}
 use mathlib.Core.List.{List}

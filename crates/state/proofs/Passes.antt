@@ -1,5 +1,4 @@
 -- Laws of a job's passes: one that finds a chord, one that finds none, and one that rests first.
--- Assumes nothing.
 use mathlib.Core.Path.{_≡_, refl}
 use mathlib.Core.Bool.{Bool, true, false}
 use Prim.Native.Nat.{ℕ, zero, suc, _-_, _<_, _≤_}

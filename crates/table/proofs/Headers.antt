@@ -1,5 +1,4 @@
 -- The reader's first tests as facts, and the kinds' test as the loop makes it.
--- Assumes nothing.
 use mathlib.Core.Path.{_≡_, refl}
 use mathlib.Core.Bool.{true}
 use mathlib.Core.List.{List, [], _∷_}

@@ -1,5 +1,4 @@
 -- Places in accepted bytes: a chord's entry lies within them; and which chords are not refused.
--- Assumes nothing.
 use mathlib.Core.Path.{_≡_, refl}
 use mathlib.Core.List.{List}
 use Prim.Native.Nat.{ℕ, zero, suc, _+_, _*_, _<_, _≤_}

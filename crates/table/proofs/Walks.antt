@@ -1,5 +1,4 @@
 -- Laws of bytes walked from the front: what is left from i on, and a chord's four bytes at a place.
--- Assumes nothing.
 use mathlib.Core.Path.{_≡_}
 use mathlib.Core.Bool.{Bool, true, false, _&&_}
 use mathlib.Core.List.{List}

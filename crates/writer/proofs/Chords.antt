@@ -1,5 +1,4 @@
 -- A value's lists as the model's: their lengths, and the chords walked from the front.
--- Assumes nothing.
 use mathlib.Core.Path.{_≡_, refl, ap, _∙_}
 use mathlib.Core.Bool.{true, false, _&&_}
 use mathlib.Core.List.{List, [], _∷_, map}

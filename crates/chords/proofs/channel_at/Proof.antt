@@ -1,5 +1,4 @@
 -- `chords::channel_at` meets its contract: the part's byte is the chord's channel.
--- Assumes nothing.
 use borrow.Author.Needs.{needs}
 use Rattle.chords.proofs.channel_at.Statement.{statement}
 use Rattle.chords.proofs.channel_at.Tie as tie

@@ -1,5 +1,4 @@
 -- `chords::is_sync` meets its contract: the byte read is the channel's kind.
--- Assumes nothing.
 use Prim.Native.Nat.{_<_}
 use native.Mathlib.Omega.{arith}
 use Rattle.model.specs.Tables.{isSync}

@@ -1,5 +1,4 @@
 -- `chords::names` meets its contract: the part that is searched holds the chord's channels.
--- Assumes nothing.
 use borrow.Author.Needs.{needs}
 use Rattle.chords.proofs.names.Statement.{statement}
 use Rattle.chords.proofs.names.Tie as tie

@@ -1,5 +1,4 @@
 -- `chords::wakes` meets its contract: the test is the definition's, over what was read.
--- Assumes nothing.
 use Rattle.model.specs.Tables.{wakes}
 use borrow.Author.Needs.{needs}
 use Rattle.chords.proofs.wakes.Statement.{statement}

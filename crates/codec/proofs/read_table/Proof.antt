@@ -1,5 +1,4 @@
 -- `codec::read_table` meets its contract: the number decides which table is read.
--- Assumes nothing.
 use mathlib.Core.List.{List}
 use Prim.Native.Nat.{ℕ}
 use Rattle.model.specs.Layout.{tableRefusal, tableOf}

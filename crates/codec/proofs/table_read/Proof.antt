@@ -1,5 +1,4 @@
 -- `codec::table_read` meets its contract: field by field.
--- Assumes nothing.
 use Rattle.codec.specs.Views.{tableFor}
 use borrow.Author.Needs.{needs}
 use Rattle.codec.proofs.table_read.Statement.{statement}

@@ -1,5 +1,4 @@
 -- `ends::backoff_step` meets its contract.
--- Assumes nothing.
 use Rattle.model.specs.Steps.{backoff-step}
 use borrow.Author.Needs.{needs}
 use Rattle.ends.proofs.backoff_step.Statement.{statement}

@@ -1,5 +1,4 @@
 -- `ends::pass_end_step` meets its contract, by whether the job is tried again.
--- Assumes nothing.
 use mathlib.Core.Path.{_∙_}
 use Rattle.model.specs.Layout.{tableOf}
 use Rattle.state.specs.Views.{jobIn, senderIn}

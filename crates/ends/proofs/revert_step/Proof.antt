@@ -1,5 +1,4 @@
 -- `ends::revert_step` meets its contract, for the last claim and for another. A chord has at most 8 channels.
--- Assumes nothing.
 use Prim.Native.Nat.{_+_, _<_}
 use native.Mathlib.Omega.{arith}
 use borrow.Author.Tests.{eq-eqb, ne-eqb}

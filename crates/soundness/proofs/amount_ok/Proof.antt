@@ -1,5 +1,4 @@
 -- `soundness::amount_ok` meets its contract: the two comparisons are the model's test.
--- Assumes nothing.
 use lib.IntN.{pos}
 use lib.ListN.{getD}
 use mir.ValLaws.{toZ-ofZ}

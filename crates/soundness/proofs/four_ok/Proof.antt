@@ -1,5 +1,4 @@
 -- `soundness::four_ok` meets its contract: four answers.
--- Assumes nothing.
 use borrow.Author.Needs.{needs}
 use Rattle.soundness.proofs.four_ok.Statement.{statement}
 use Rattle.soundness.proofs.four_ok.Tie as tie

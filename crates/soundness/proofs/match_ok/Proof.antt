@@ -1,5 +1,4 @@
 -- `soundness::match_ok` meets its contract: the part that is tested starts with the match's numbers.
--- Assumes nothing.
 use native.Mathlib.Omega.{arith}
 use lib.ListN.{length-drop}
 use Rattle.table.proofs.Walks.{to-end}

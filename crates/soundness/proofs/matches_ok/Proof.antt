@@ -1,6 +1,5 @@
 -- `soundness::matches_ok` meets its contract: a chord that is not in the table is a no, numbers that are all below the
 -- count are a yes, and the rest is tested a match at a time.
--- Assumes nothing.
 use mathlib.Core.Path.{_≡_, sym, _∙_}
 use mathlib.Core.Bool.{_&&_}
 use native.Mathlib.Omega.{arith}

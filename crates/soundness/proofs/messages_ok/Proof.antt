@@ -1,5 +1,4 @@
 -- `soundness::messages_ok` meets its contract: the five columns' answers are the messages' answer.
--- Assumes nothing.
 use mathlib.Core.Path.{_≡_}
 use native.Mathlib.Omega.{arith}
 use Rattle.model.specs.Layout.{tableOf}

@@ -1,5 +1,4 @@
 -- `state::job_end` meets its contract, for an own message of either kind.
--- Assumes nothing.
 use mathlib.Core.Path.{_∙_}
 use Rattle.model.specs.Layout.{tableOf}
 use Rattle.state.specs.Views.{senderIn}

@@ -1,5 +1,4 @@
 -- `state::matched_end` meets its contract, with a match and without.
--- Assumes nothing.
 use Rattle.state.specs.Views.{senderIn}
 use Rattle.state.proofs.JobEnds.{matched-none, matched-some}
 use borrow.Author.Needs.{needs}

@@ -1,5 +1,4 @@
 -- `state::more` meets its contract, on either side of 16.
--- Assumes nothing.
 use native.Mathlib.Numerals.{add-one}
 use native.Mathlib.Omega.{arith}
 use borrow.Author.Tests.{le-leb, lt-leb}

@@ -1,5 +1,4 @@
 -- `state::new_pass` meets its contract: the pass is from the first chord on.
--- Assumes nothing.
 use borrow.Author.Needs.{needs}
 use Rattle.state.proofs.new_pass.Statement.{statement}
 use Rattle.state.proofs.new_pass.Tie as tie

@@ -1,5 +1,4 @@
 -- `state::next_chord` meets its contract: the chord after the job's is at most the 32nd.
--- Assumes nothing.
 use native.Mathlib.Numerals.{add-one}
 use Rattle.model.proofs.AcceptedChords.{table-ok}
 use borrow.Author.Needs.{needs}

@@ -1,5 +1,4 @@
 -- `state::pass_from` meets its contract, whether a chord is found or not.
--- Assumes nothing.
 use native.Mathlib.Omega.{arith}
 use Rattle.model.specs.Layout.{tableOf}
 use Rattle.state.proofs.Passes.{pass-yes, pass-no}

@@ -1,5 +1,4 @@
 -- `state::rests_at` meets its contract: the bytes are the model's table.
--- Assumes nothing.
 use Rattle.model.specs.Boards.{builtinBackoffs, backoffAt}
 use borrow.Author.Needs.{needs}
 use Rattle.state.proofs.rests_at.Statement.{statement}

@@ -1,5 +1,4 @@
 -- `state::rests_then` meets its contract, with rests and without.
--- Assumes nothing.
 use mathlib.Core.Path.{_∙_}
 use Rattle.model.specs.Layout.{tableOf}
 use Rattle.state.proofs.Passes.{rests-none, rests-some}

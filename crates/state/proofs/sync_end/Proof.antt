@@ -1,5 +1,4 @@
 -- `state::sync_end` meets its contract, by the waker: none, taken, or left.
--- Assumes nothing.
 use mathlib.Core.Path.{_∙_}
 use Rattle.model.specs.Layout.{tableOf}
 use Rattle.state.specs.Views.{senderIn}

@@ -1,5 +1,4 @@
 -- `table::chord_channels` meets its contract: a chord that is not refused has its members as the part.
--- Assumes nothing.
 use mathlib.Core.Path.{_≡_, sym, _∙_}
 use Prim.Native.Nat.{_<_}
 use native.Mathlib.Omega.{arith}

@@ -1,5 +1,4 @@
 -- `table::chord_len` meets its contract: the byte read is the size.
--- Assumes nothing.
 use mathlib.Core.Path.{sym, _∙_}
 use Rattle.model.proofs.TableLaws.{size-is}
 use borrow.Author.Needs.{needs}

@@ -1,5 +1,4 @@
 -- `table::chord_ok` meets its contract: the tests of the four bytes are those of the bytes from the place on.
--- Assumes nothing.
 use Rattle.table.proofs.Walks.{chord-from}
 use borrow.Author.Needs.{needs}
 use Rattle.table.proofs.chord_ok.Statement.{statement}

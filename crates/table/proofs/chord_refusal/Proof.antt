@@ -1,5 +1,4 @@
 -- `table::chord_refusal` meets its contract: the reader's number, or the test of the chord where there is none.
--- Assumes nothing.
 use mathlib.Core.Path.{_≡_, sym, _∙_}
 use native.Mathlib.Omega.{arith}
 use borrow.Author.Tests.{lt-ltb, le-ltb}

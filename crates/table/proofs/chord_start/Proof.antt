@@ -1,5 +1,4 @@
 -- `table::chord_start` meets its contract: the two bytes read are the chord's first member.
--- Assumes nothing.
 use native.Mathlib.Omega.{arith}
 use Rattle.model.specs.Layout.{word}
 use Rattle.table.proofs.Places.{counts-in}

@@ -1,5 +1,4 @@
 -- `table::chords_found` meets its contract: the part that is tested starts at the chords' entries.
--- Assumes nothing.
 use Rattle.table.proofs.Walks.{to-end}
 use borrow.Author.Needs.{needs}
 use Rattle.table.proofs.chords_found.Statement.{statement}

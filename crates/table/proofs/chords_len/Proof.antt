@@ -1,5 +1,4 @@
 -- `table::chords_len` meets its contract: the word read is the length of the table's list.
--- Assumes nothing.
 use mathlib.Core.Path.{sym, _∙_}
 use native.Mathlib.Omega.{arith}
 use Rattle.model.proofs.Accepted.{accepted}

@@ -1,5 +1,4 @@
 -- `table::counts_ok` meets its contract: the tests are the definition's, over the words read.
--- Assumes nothing.
 use Rattle.model.specs.Layout.{countsOk}
 use borrow.Author.Needs.{needs}
 use Rattle.table.proofs.counts_ok.Statement.{statement}

@@ -1,5 +1,4 @@
 -- `table::entry_byte` meets its contract: the place read lies within the chord's entry.
--- Assumes nothing.
 use native.Mathlib.Omega.{arith}
 use lib.Seq.{getD-drop}
 use Rattle.table.proofs.Places.{counts-in, entry-in}

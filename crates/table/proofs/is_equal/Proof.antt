@@ -1,5 +1,4 @@
 -- `table::is_equal` meets its contract: the byte read is the entry's last.
--- Assumes nothing.
 use Rattle.model.proofs.TableLaws.{equal-is}
 use borrow.Author.Needs.{needs}
 use Rattle.table.proofs.is_equal.Statement.{statement}

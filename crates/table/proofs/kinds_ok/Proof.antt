@@ -1,5 +1,4 @@
 -- `table::kinds_ok` meets its contract: the part that is tested holds the kinds.
--- Assumes nothing.
 use mathlib.Core.Path.{_≡_, _∙_}
 use Prim.Native.Nat.{_+_, _-_}
 use native.Mathlib.Omega.{arith}

@@ -1,5 +1,4 @@
 -- `table::members` meets its contract: the part lies within the table and holds the chord's channels.
--- Assumes nothing.
 use mathlib.Core.Path.{_≡_}
 use Prim.Native.Nat.{_≤_, _+_, _-_}
 use native.Mathlib.Omega.{arith}

@@ -1,5 +1,4 @@
 -- `table::members_ok` meets its contract: the part that is tested holds the members.
--- Assumes nothing.
 use Rattle.model.specs.Layout.{membersOk}
 use Rattle.table.proofs.Walks.{to-end}
 use borrow.Author.Needs.{needs}

@@ -1,5 +1,4 @@
 -- `table::offsets_ok` meets its contract: the tests are the definition's, over the words read.
--- Assumes nothing.
 use Rattle.model.specs.Layout.{offsetsOk}
 use borrow.Author.Needs.{needs}
 use Rattle.table.proofs.offsets_ok.Statement.{statement}

@@ -1,5 +1,4 @@
 -- `table::word_at` meets its contract: the two bytes joined are the word.
--- Assumes nothing.
 use Rattle.model.specs.Layout.{word}
 use borrow.Author.Needs.{needs}
 use Rattle.table.proofs.word_at.Statement.{statement}

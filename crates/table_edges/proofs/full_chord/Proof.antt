@@ -1,5 +1,4 @@
 -- `table_edges::full_chord` is safe and ends: a place for each channel.
--- Assumes nothing.
 use Prim.Native.Nat.{_≤_, _-_}
 use borrow.Author.Needs.{needs}
 use Rattle.table_edges.proofs.full_chord.Statement.{statement}

@@ -1,5 +1,4 @@
 -- `table_edges::is_same` is safe and ends: eight counts are compared.
--- Assumes nothing.
 use Prim.Native.Nat.{_≤_, _-_}
 use borrow.Author.Needs.{needs}
 use Rattle.table_edges.proofs.is_same.Statement.{statement}

@@ -1,5 +1,4 @@
 -- `table_edges::say_cuts` is safe and ends: each beginning is judged.
--- Assumes nothing.
 use Prim.Native.Nat.{_≤_, _-_, _+_}
 use borrow.Author.Needs.{needs}
 use Rattle.table_edges.proofs.say_cuts.Statement.{statement}

@@ -1,5 +1,4 @@
 -- `table_edges::say_damage` is safe and ends: each byte is tallied.
--- Assumes nothing.
 use Prim.Native.Nat.{_≤_, _-_}
 use borrow.Author.Needs.{needs}
 use Rattle.table_edges.proofs.say_damage.Statement.{statement}

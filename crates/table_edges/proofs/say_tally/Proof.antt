@@ -1,5 +1,4 @@
 -- `table_edges::say_tally` is safe and ends: eight counts are printed.
--- Assumes nothing.
 use Prim.Native.Nat.{_≤_, _-_}
 use borrow.Author.Needs.{needs}
 use Rattle.table_edges.proofs.say_tally.Statement.{statement}

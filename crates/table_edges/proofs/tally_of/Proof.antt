@@ -1,5 +1,4 @@
 -- `table_edges::tally_of` is safe and ends: each value of a byte is tried.
--- Assumes nothing.
 use Prim.Native.Nat.{_≤_, _-_}
 use borrow.Author.Needs.{needs}
 use Rattle.table_edges.proofs.tally_of.Statement.{statement}

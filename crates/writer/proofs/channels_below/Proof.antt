@@ -1,5 +1,4 @@
 -- `writer::channels_below` meets its contract: the part that is tested holds the chord's channels.
--- Assumes nothing.
 use Rattle.writer.proofs.Chords.{channels-part}
 use mathlib.Core.Path.{_≡_, sym}
 use Prim.Native.Nat.{_≤_}

@@ -1,5 +1,4 @@
 -- `writer::kinds_known` meets its contract: the part that is tested holds the kinds.
--- Assumes nothing.
 use Rattle.writer.proofs.Chords.{kinds-part}
 use mathlib.Core.Path.{_≡_, sym, _∙_}
 use Prim.Native.Nat.{_≤_}

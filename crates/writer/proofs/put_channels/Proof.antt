@@ -1,5 +1,4 @@
 -- `writer::put_channels` meets its contract: the part that is stored holds the chord's channels.
--- Assumes nothing.
 use mathlib.Core.Path.{_≡_, sym}
 use Prim.Native.Nat.{_≤_}
 use native.Mathlib.Omega.{arith}

@@ -1,5 +1,4 @@
 -- `writer::put_entry` meets its contract: a word and two bytes stored in turn are the entry stored.
--- Assumes nothing.
 use mathlib.Core.Bool.{Bool, true, false}
 use mir.Val.{boolByte}
 use Rattle.model.specs.Layout.{flag}

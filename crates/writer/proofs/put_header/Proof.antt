@@ -1,5 +1,4 @@
 -- `writer::put_header` meets its contract: six words stored in turn are the header stored.
--- Assumes nothing.
 use borrow.Author.Needs.{needs}
 use Rattle.writer.proofs.put_header.Statement.{statement}
 use Rattle.writer.proofs.put_header.Tie as tie

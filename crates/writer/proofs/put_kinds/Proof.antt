@@ -1,5 +1,4 @@
 -- `writer::put_kinds` meets its contract: the part that is stored holds the kinds.
--- Assumes nothing.
 use mathlib.Core.Path.{_≡_, sym}
 use Prim.Native.Nat.{_≤_}
 use native.Mathlib.Omega.{arith}

@@ -1,5 +1,4 @@
 -- `writer::put_table` meets its contract: the four sections stored in turn are the table's bytes.
--- Assumes nothing.
 use mathlib.Core.Path.{sym}
 use native.Mathlib.Omega.{arith}
 use Rattle.codec.specs.Views.{tableIn}

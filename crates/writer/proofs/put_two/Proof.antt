@@ -1,5 +1,4 @@
 -- `writer::put_two` meets its contract: two stores are the number's two bytes stored.
--- Assumes nothing.
 use native.Mathlib.Numerals.{add-one}
 use native.Mathlib.Omega.{arith}
 use lib.ListN.{length-set}
