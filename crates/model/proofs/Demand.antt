@@ -22,6 +22,7 @@ use Rattle.model.specs.Demands.{Demand-3}
 use Rattle.model.proofs.Tests.{never}
 use Rattle.model.proofs.Lists.{every-nth}
 use Rattle.model.proofs.AcceptedChords.{TableOk, table-ok}
+use Rattle.model.proofs.Written.{ms, t}
 use Rattle.model.proofs.Words.{answered-said}
 use Rattle.model.proofs.Passage.{same}
 use Rattle.model.proofs.Local.{Waits, StateOk}
@@ -31,7 +32,7 @@ use Rattle.model.proofs.Invariant.{Inv}
 use Rattle.model.proofs.Quiet.{consumed-matched, pending-unmatched, none-obliged, not-matched, not-signalled}
 use Rattle.model.proofs.Quiet.{none-consumes, none-tell, pending-or}
 use Rattle.model.proofs.Cents.{matched-reads, cents-same}
-use Rattle.model.proofs.PoolRun.{PoolOk, as-sent, count, meets-full, sentOf}
+use Rattle.model.proofs.PoolMeets.{PoolOk, as-sent, count, meets-full, sentOf}
 use Rattle.model.proofs.Schedule.{Reached, reached}
 use Rattle.model.proofs.Sound.{is-sound}
 

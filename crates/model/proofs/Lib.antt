@@ -38,6 +38,7 @@ pub mod Adds
 pub mod Quiet
 pub mod PoolLaws
 pub mod Cents
+pub mod PoolMeets
 pub mod PoolRun
 pub mod Schedule
 pub mod SoundFacts

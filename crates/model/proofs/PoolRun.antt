@@ -1,104 +1,43 @@
 -- The pool follows the board: what the pool holds after each call, and that every match is one that it allows. The
 -- pool is fed the match reads of the last board of the schedule, to which every board on the way grows.
-use mathlib.Core.Path.{_≡_, ap, _∙_, sym, subst, refl, subst⁻¹}
+use mathlib.Core.Path.{_≡_, ap, refl, subst⁻¹, _∙_, sym}
 use mathlib.Core.Logic.{_⊎_, _≢_, inr, inl}
-use mathlib.Core.Bool.{true, false, Bool, _||_}
-use mathlib.Core.List.{map, List, _++_, _∷_, [], map-append}
+use mathlib.Core.Bool.{false, true, Bool, _||_}
+use mathlib.Core.List.{_++_, _∷_, [], List, map, map-append}
 use Prim.Native.Nat.{ℕ, _<_, suc}
 use borrow.Author.Tests.{eq-eqb, lt-ltb, eqb-true}
 use lib.Dec.{eqb}
 use lib.IntN.{_+ℤ_, ℤ, +ℤ-assoc}
-use lib.ListN.{length, length-map, getD, List·getD-map, set, length-set}
+use lib.ListN.{length, getD, List·getD-map, length-map, set, length-set}
 use lib.Seq.{getD-set-same, getD-set-other}
 use native.Mathlib.Omega.{arith}
 use Rattle.model.specs.Basics.{isIn, every}
-use Rattle.model.specs.Tables.{Table, chordAt}
-use Rattle.model.specs.Boards.{Board, Sent, messageAt, senderAt, centsOf, noSent, noMessage, Message, Match}
-use Rattle.model.specs.Boards.{noMatch, matchAt, Sender, amount}
+use Rattle.model.specs.Tables.{Table}
+use Rattle.model.specs.Boards.{Board, Match, senderAt, noMatch, centsOf, matchAt, Sent, Message, Sender, amount}
 use Rattle.model.specs.Effects.{Effect, apply, records, matchesAfter, Change, none, turn, signals, wordOf}
 use Rattle.model.specs.Effects.{valueOf}
-use Rattle.model.specs.Looks.{alike}
 use Rattle.model.specs.Adds.{added, newMessage}
 use Rattle.model.specs.Sound.{owns}
-use Rattle.model.specs.Pools.{Pool, ownOf, distinct, centsAdded, sentAt, meets, channelsMeet, matchReads}
-use Rattle.model.specs.Pools.{noRead, readMatch, fair, without, leaves, MatchRead, enters}
-use Rattle.model.proofs.Tests.{and, both, never, same?, either, or-right}
-use Rattle.model.proofs.Lists.{nth-every, every-nth, nth-isIn}
+use Rattle.model.specs.Pools.{Pool, centsAdded, matchReads, noRead, readMatch, sentAt, fair, without, leaves}
+use Rattle.model.specs.Pools.{MatchRead, enters}
+use Rattle.model.proofs.Tests.{never, same?, and, either, or-right}
+use Rattle.model.proofs.Lists.{nth-isIn, nth-every}
+use Rattle.model.proofs.Written.{t, ms}
 use Rattle.model.proofs.Words.{isRecord}
 use Rattle.model.proofs.Frame.{matches-kept, messages-count, sents-after, records-count, records-last}
 use Rattle.model.proofs.Grows.{Grows}
 use Rattle.model.proofs.Passage.{grows, step-passage}
-use Rattle.model.proofs.Local.{Full, Selection}
-use Rattle.model.proofs.Choice.{alike-via}
+use Rattle.model.proofs.Local.{Full}
 use Rattle.model.proofs.Notes.{notes-after}
 use Rattle.model.proofs.Matches.{Unmatched}
 use Rattle.model.proofs.Owners.{Owning, keeps-own, new-own}
-use Rattle.model.proofs.Obligation.{Meets, unmatched-before}
+use Rattle.model.proofs.Obligation.{unmatched-before}
 use Rattle.model.proofs.Invariant.{Inv, StepOwes, step-call, CallOwes}
-use Rattle.model.proofs.PoolLaws.{one-distinct, channels-true, true-channels, distinct-one, sameZ-refl}
-use Rattle.model.proofs.PoolLaws.{in-snoc, in-without, without-in, without-distinct, snoc-distinct}
+use Rattle.model.proofs.PoolLaws.{sameZ-refl, one-distinct, in-snoc, in-without, without-in, without-distinct}
+use Rattle.model.proofs.PoolLaws.{snoc-distinct}
 use Rattle.model.proofs.Cents.{centsIn, cents-same, some-out, cents-in-snoc, added-snoc, cents-snoc}
+use Rattle.model.proofs.PoolMeets.{PoolOk, count, sentOf, as-sent, full-meets}
 use Rattle.model.proofs.Adds as A
-
-abbrev pub sentOf : Board → ℕ → Sent
-sentOf b n = messageAt b n .sent
-
-pub record PoolOk (t : Table) (last b : Board) (p : Pool) : Type 0 where
-  pub sents : p .sent ≡ map (λ x. x .sent) (b .messages)
-  pub own-count : length (p .own) ≡ 32
-  pub owns : (i : ℕ) → senderAt b i .own ≡ ownOf p i
-  pub inside-is : (n : ℕ) → isIn n (p .inside) ≡ true → (n < length (b .messages)) × Unmatched b n
-  pub is-inside : (n : ℕ) → n < length (b .messages) → Unmatched b n → isIn n (p .inside) ≡ true
-  pub number : p .matches ≡ length (b .matches)
-  pub good : p .good ≡ true
-  pub once-in : distinct (p .inside) ≡ true
-  pub total : centsAdded t (p .sent) ≡ centsIn t (sentOf last) (b .matches) +ℤ centsOf t (sentOf last) (p .inside)
-
-module _ (t : Table) (last b : Board) (p : Pool) (ok : PoolOk t last b p) where
-  pub count : length (p .sent) ≡ length (b .messages)
-  count = ap length (ok .sents) ∙ length-map (b .messages) (λ x. x .sent)
-
-  pub as-sent : (n : ℕ) → sentOf b n ≡ sentAt (p .sent) n
-  as-sent n =
-      sym (ap (λ (xs : List Sent). getD xs n noSent) (ok .sents)
-      ∙ List·getD-map (λ x. x .sent) (b .messages) n noMessage)
-
-  -- a full selection meets its chord, as the pool tests it
-  pub full-meets : (h r : ℕ) (c : List ℕ) → Full t b h r c → meets (chordAt t r) (sentAt (p .sent)) c ≡ true
-  unfolding meets
-  full-meets h r c f =
-      and (one-distinct c (s .one))
-      (and (channels-true (sentAt (p .sent)) (chordAt t r .channels) c (f .all) (λ j l.
-      sym (ap (λ (x : Sent). x .channel) (as-sent (getD c j 0))) ∙ s .kinds j l))
-      (nth-every _ c 0 (λ j l. alike-via (chordAt t r) (sentOf b h) _ _ (like 0 (first j l)) (like j l))))
-    where
-      s : Selection t b h r c
-      s = f .selection
-
-      first : (j : ℕ) → j < length c → 0 < length c
-      first j l = omega arith
-
-      like : (j : ℕ) → j < length c → alike (chordAt t r) (sentOf b h) (sentAt (p .sent) (getD c j 0)) ≡ true
-      like j l = subst (λ (x : Sent). alike (chordAt t r) (sentOf b h) x ≡ true) (as-sent (getD c j 0)) (s .props j l)
-
-  -- and back
-  pub meets-full : (r : ℕ) (ns : List ℕ) → r < length (t .chords)
-      → ((j : ℕ) → j < length ns → getD ns j 0 < length (b .messages))
-      → meets (chordAt t r) (sentAt (p .sent)) ns ≡ true → Meets t b r ns
-  unfolding meets
-  meets-full r ns l ins e =
-      let x = both {t = distinct ns} e in
-      let y = both {t = channelsMeet (sentAt (p .sent)) (chordAt t r .channels) ns} (x .1) in
-      let z = true-channels (sentAt (p .sent)) (chordAt t r .channels) ns (y .0) in
-      record {
-        chord-in = l;
-        inside = ins;
-        all = z .0;
-        kinds = λ j q. ap (λ (x : Sent). x .channel) (as-sent (getD ns j 0)) ∙ z .1 j q;
-        props = λ i j q s. rw (as-sent (getD ns i 0), as-sent (getD ns j 0))
-            (alike-via (chordAt t r) _ _ _ (every-nth _ ns 0 (y .1) i q) (every-nth _ ns 0 (y .1) j s));
-        one = distinct-one ns (x .0);
-      }
 
 -- matches after a step
 matches-still : (b : Board) (i : ℕ) (e : Effect) → isRecord (e .change) ≡ false → apply b i e .matches ≡ b .matches

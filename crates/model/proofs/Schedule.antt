@@ -18,6 +18,7 @@ use Rattle.model.specs.Pools.{matchReads, afterAll, playedAll, history}
 use Rattle.model.specs.Demands.{boardAfter, poolAfter, finalReads}
 use Rattle.model.proofs.Tests.{never}
 use Rattle.model.proofs.AcceptedChords.{TableOk}
+use Rattle.model.proofs.Written.{t}
 use Rattle.model.proofs.Words.{step-speaks, OutcomeSpeaks}
 use Rattle.model.proofs.Grows.{apart, Grows, grows-refl, grows-trans}
 use Rattle.model.proofs.Passage.{waker-on-board, grows, step-passage}
@@ -25,7 +26,8 @@ use Rattle.model.proofs.Local.{SenderOk}
 use Rattle.model.proofs.Holding.{Holds}
 use Rattle.model.proofs.Invariant.{Inv, call-keeps, step-call}
 use Rattle.model.proofs.StepBy.{step-owes, OutcomeOwes}
-use Rattle.model.proofs.PoolRun.{PoolOk, pool-entered, step-pool}
+use Rattle.model.proofs.PoolMeets.{PoolOk}
+use Rattle.model.proofs.PoolRun.{pool-entered, step-pool}
 use Rattle.model.proofs.Adds as A
 
 -- the empty board, and the empty pool beside it

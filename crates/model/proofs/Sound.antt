@@ -11,9 +11,10 @@ use Rattle.model.specs.Boards.{senderAt}
 use Rattle.model.specs.Sound.{sound}
 use Rattle.model.proofs.Tests.{never}
 use Rattle.model.proofs.Lists.{nth-isIn}
+use Rattle.model.proofs.Written.{t}
 use Rattle.model.proofs.Local.{Selection, Full, Placed, StateOk, SenderOk}
 use Rattle.model.proofs.Invariant.{Inv}
-use Rattle.model.proofs.PoolRun.{count}
+use Rattle.model.proofs.PoolMeets.{count}
 use Rattle.model.proofs.SoundFacts.{MessageFacts, MatchFacts, AtChord, AllChosen, Below, PlaceOk, StateFacts}
 use Rattle.model.proofs.SoundFacts.{SenderFacts, facts-sound}
 

@@ -18,9 +18,10 @@ use Rattle.model.specs.Adds.{added, addRefusal, newMessage}
 use Rattle.model.specs.Pools.{answerTo, steps, stepAnswer, adds, addAnswer, Call}
 use Rattle.model.specs.Demands.{Same-but-signal, Step-frame, Add-frame, Frame}
 use Rattle.model.proofs.Tests.{never}
+use Rattle.model.proofs.Written.{t, ms}
 use Rattle.model.proofs.Words.{step-speaks, OutcomeSpeaks}
 use Rattle.model.proofs.Frame.{senders-each, like, sents-after, messages-count, unaltered}
-use Rattle.model.proofs.PoolRun.{as-sent, count}
+use Rattle.model.proofs.PoolMeets.{as-sent, count}
 
 -- the message that a change turns, 0 for none, and the matches that it records
 touched : Change → ℕ
