@@ -1,0 +1,91 @@
+use mathlib.Core.Path.{_≡_, subst}
+use Prim.Native.Nat.{ℕ, _≤_, _-_}
+use borrow.Author.Needs.{needs}
+use lib.ListN.{length}
+use lib.Seq.{paste, paste-zero, paste-suc}
+use native.Mathlib.Numerals.{add-one}
+use native.Mathlib.Omega.{arith}
+use Rattle.applies.proofs.put_chosen.Statement.{statement}
+use Rattle.applies.proofs.put_chosen.Tie as tie
+
+abbrev Inv-loop : tie.InvT-loop
+Inv-loop messages₀ at chosen i₀ messages i =
+    (i ≤ 8) × (messages ≡ paste messages₀ at chosen i) × (length messages ≡ length messages₀)
+
+abbrev μ-loop : tie.MeasureT-loop
+μ-loop messages₀ at chosen i₀ messages i = 8 - i
+
+-- src/lib.rt:131:5
+loop-holds : tie.Need-loop-holds Inv-loop μ-loop
+loop-holds c = (search needs, paste-zero (c .args .messages .now) (c .args .at) (c .args .t3), search needs)
+
+-- src/lib.rt:132:28
+mul-messages : tie.Need-mul-messages Inv-loop μ-loop
+mul-messages c = search needs
+
+-- src/lib.rt:132:28
+array-read-messages : tie.Need-array-read-messages Inv-loop μ-loop
+array-read-messages c = search needs
+
+-- src/lib.rt:132:18
+add-messages : tie.Need-add-messages Inv-loop μ-loop
+add-messages c = search needs
+
+-- src/lib.rt:132:9
+mul-messages-2 : tie.Need-mul-messages-2 Inv-loop μ-loop
+mul-messages-2 c = search needs
+
+-- src/lib.rt:132:9
+slice-write-messages : tie.Need-slice-write-messages Inv-loop μ-loop
+slice-write-messages c = search needs
+
+-- src/lib.rt:133:9
+add-i : tie.Need-add-i Inv-loop μ-loop
+add-i c = search needs
+
+-- src/lib.rt:131:5
+loop-less : tie.Need-loop-less Inv-loop μ-loop
+loop-less c = search needs
+
+-- src/lib.rt:131:5
+loop-again : tie.Need-loop-again Inv-loop μ-loop
+loop-again c =
+    let p = c .before in
+    let s = p .before in
+    let a = s .args in
+    let eight : length (a .t3) ≡ 8 = s .good .1 .1 .0 .1 .0 .1 in (
+      search needs,
+      rw (p .loop .inv .1, add-one (p .loop .i))
+          (paste-suc (a .messages .now) (a .at) (a .t3) (p .loop .i) 0 (omega arith) (omega (arith, eight))),
+      search needs,
+    )
+
+-- src/lib.rt:126:1
+same-length : tie.Need-same-length Inv-loop μ-loop
+same-length c = search needs
+
+-- src/lib.rt:126:1
+returns : tie.Need-returns Inv-loop μ-loop
+returns c =
+    let p = c .before in
+    let a = p .before .args in
+    let e : p .loop .i ≡ 8 = omega arith in
+    subst (λ (n : ℕ). p .loop .messages ≡ paste (a .messages .now) (a .at) (a .t3) n) e (p .loop .inv .1)
+
+pub put-chosen-spec : {M : Type 1} → statement M
+put-chosen-spec =
+    tie.close
+    (tie.spec
+    Inv-loop
+    μ-loop
+    loop-holds
+    mul-messages
+    array-read-messages
+    add-messages
+    mul-messages-2
+    slice-write-messages
+    add-i
+    loop-less
+    loop-again
+    same-length
+    returns)

@@ -1,0 +1,2 @@
+-- What an effect writes.
+pub mod Writes

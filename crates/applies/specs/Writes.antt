@@ -1,0 +1,94 @@
+-- What a step's effect writes: to a message's columns, to the match columns, to the senders.
+use mathlib.Core.Bool.{Bool, true, false, _&&_, _||_, not}
+use mathlib.Core.List.{List}
+use Prim.Native.Nat.{ℕ, _+_, _<_, _≤_}
+use lib.IntN.{ℤ}
+use lib.Dec.{eqb}
+use Rattle.model.specs.Tables.{Table, size}
+use Rattle.columns.specs.Columns.{Columns}
+use Rattle.columns.specs.MatchColumns.{MatchColumns}
+use Rattle.state.specs.declared.State as DS
+use Rattle.state.specs.declared.State.the-variants as S
+use Rattle.state.specs.declared.Turn as DU
+use Rattle.state.specs.declared.Turn.the-variants as U
+use Rattle.state.specs.declared.Change as DG
+use Rattle.state.specs.declared.Change.the-variants as G
+use Rattle.state.specs.declared.Sender as DD
+use Rattle.boards.specs.declared.Board as DB
+
+abbrev pub columnsOf : List ℕ → List ℕ → List ℤ → List ℕ → List ℕ → List ℕ → Columns
+columnsOf channels properties cents statuses matched wakers = record {
+  channels = channels;
+  properties = properties;
+  cents = cents;
+  statuses = statuses;
+  matched = matched;
+  wakers = wakers;
+}
+
+abbrev pub matchesOf : List ℕ → List ℕ → MatchColumns
+matchesOf chords messages = record { chords = chords; messages = messages }
+
+-- eight numbers hold a match of any chord
+abbrev pub ChordsFit : Table → Type 0
+ChordsFit t = (r : ℕ) → size t r ≤ 8
+
+-- the bytes that a turn writes: the status, the match plus 1, the waker plus 1
+abbrev pub statusBy : DU.Turn → ℕ
+statusBy U.Claims = 1
+statusBy U.Frees = 0
+statusBy (U.Consumes m) = 3
+statusBy (U.WakesBy h) = 2
+statusBy U.Resumes = 0
+
+abbrev pub matchBy : DU.Turn → ℕ → ℕ
+matchBy U.Claims m = m
+matchBy U.Frees m = m
+matchBy (U.Consumes k) m = k
+matchBy (U.WakesBy h) m = m
+matchBy U.Resumes m = m
+
+abbrev pub wakerBy : DU.Turn → ℕ → ℕ
+wakerBy U.Claims w = w
+wakerBy U.Frees w = w
+wakerBy (U.Consumes k) w = w
+wakerBy (U.WakesBy h) w = h + 1
+wakerBy U.Resumes w = w
+
+-- a waker is a message
+abbrev pub WakerFits : DU.Turn → Type 0
+WakerFits U.Claims = Unit {0}
+WakerFits U.Frees = Unit {0}
+WakerFits (U.Consumes k) = Unit {0}
+WakerFits (U.WakesBy h) = h < 1024
+WakerFits U.Resumes = Unit {0}
+
+-- the numbers of a change are in range, on a board of so many messages and matches
+abbrev pub Sure : ℕ → ℕ → DG.Change → Type 0
+Sure messages matches G.None = Unit {0}
+Sure messages matches (G.Turn n u) = (n < messages) × WakerFits u
+Sure messages matches (G.Record n) = (n < messages) × (matches < 1024)
+Sure messages matches (G.Signal n) = n < 1024
+
+abbrev pub idleIs : DS.State → Bool
+idleIs S.Idle = true
+idleIs S.Working = false
+idleIs S.Blocked = false
+
+-- the sender with its signal set, if it is not idle and message n is its own
+abbrev pub signalledBy : ℕ → DD.Sender → DD.Sender
+signalledBy n d = record {
+  state = d .state;
+  signalled = d .signalled || (not (idleIs (d .state)) && eqb (d .own) (n + 1));
+  own = d .own;
+  waker = d .waker;
+  reply = d .reply;
+  matched = d .matched;
+  job = d .job;
+}
+
+abbrev pub boardWith : DB.Board → List DD.Sender → DB.Board
+boardWith b ds = record { messages = b .messages; matches = b .matches; senders = ds }
+
+abbrev pub boardMatched : DB.Board → DB.Board
+boardMatched b = record { messages = b .messages; matches = b .matches + 1; senders = b .senders }

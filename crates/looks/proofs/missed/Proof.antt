@@ -1,0 +1,73 @@
+-- `looks::missed` meets its contract.
+use mathlib.Core.Path.{sym}
+use Rattle.model.specs.Layout.{tableOf}
+use Rattle.model.specs.Tables.{chordAt}
+use Rattle.model.specs.Boards.{messageAt}
+use Rattle.columns.specs.Columns.{columnsBy, boardBy}
+use Rattle.columns.proofs.Messages.{nth-channel}
+use Rattle.looks.proofs.Looking.{nth-property, missed-is}
+use borrow.Author.Needs.{needs}
+use Rattle.looks.proofs.missed.Statement.{statement}
+use Rattle.looks.proofs.missed.Tie as tie
+
+cast-at : tie.Need-cast-at
+cast-at c = search needs
+
+shared-slice-read-channel : tie.Need-shared-slice-read-channel
+shared-slice-read-channel c = search needs
+
+mul-property : tie.Need-mul-property
+mul-property c = search needs
+
+shared-slice-read-property : tie.Need-shared-slice-read-property
+shared-slice-read-property c = search needs
+
+channel-at-requires : tie.Need-channel-at-requires
+channel-at-requires c κs = search needs
+
+is-equal-requires : tie.Need-is-equal-requires
+is-equal-requires c κs = search needs
+
+some-claimed-requires : tie.Need-some-claimed-requires
+some-claimed-requires c κs = search needs
+
+next-chord-requires : tie.Need-next-chord-requires
+next-chord-requires c κs = search needs
+
+works-requires : tie.Need-works-requires
+works-requires c κs = search needs
+
+returns : tie.Need-returns
+returns c =
+    let q = c .before in
+    let f = q .before .before in
+    let g = f .before in
+    let x = g .before in
+    let s = x .before .before .before .before .before .before .before .before .before in
+    let a = s .args in
+    let t = tableOf (a .table .now) in
+    let j = a .d .job in
+    λ o.
+    let m = columnsBy (a .channels .now) (a .properties .now) (a .statuses .now) o in
+    let b = boardBy (a .channels .now) (a .properties .now) (a .statuses .now) (a .n) o in
+    rw (c .works .ensures)
+    (missed-is t b (a .d) (a .k) (q .next-chord .result) (x .channel-at .result) (f .some-claimed .result)
+    (x .channel-at .ensures)
+    (f .some-claimed .ensures o (chordAt t (j .chord)) (messageAt b (j .subject) .sent) (sym (g .is-equal .ensures))
+    (nth-property m (a .n) (j .subject) (s .pre .1 .0 .1)))
+    (q .next-chord .ensures b (nth-channel m (a .n) (j .subject) (s .pre .1 .0 .1))))
+
+pub missed-spec : {M : Type 1} → statement M
+missed-spec =
+    tie.close
+    (tie.spec
+    cast-at
+    shared-slice-read-channel
+    mul-property
+    shared-slice-read-property
+    channel-at-requires
+    is-equal-requires
+    some-claimed-requires
+    next-chord-requires
+    works-requires
+    returns)

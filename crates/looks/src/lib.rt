@@ -1,0 +1,160 @@
+// The step of a sender that looks for a message for a member of its chord.
+ghost use mathlib.Core.Path.{_≡_};
+ghost use mathlib.Core.List.{[], _∷_, _++_};
+ghost use Prim.Native.Nat.{suc, _<_, _≤_};
+ghost use lib.ListN.{length};
+ghost use Rattle.model.specs.Tables as MT;
+ghost use Rattle.model.specs.Boards as MB;
+ghost use Rattle.model.specs.Jobs as MJ;
+ghost use Rattle.model.specs.Layout.{tableRefusal, tableOf};
+ghost use Rattle.model.specs.Looks as ML;
+ghost use Rattle.model.specs.Steps as MS;
+ghost use Rattle.columns.specs.Columns.{Unread, boardBy, Lent};
+ghost use Rattle.state.specs.declared.Phase.the-variants as P;
+ghost use Rattle.state.specs.Views.{phaseIn, chosenBy, jobIn, senderIn, effectIn};
+use state::Change;
+use state::Effect;
+use state::Job;
+use state::Phase;
+use state::Said;
+use state::Sender;
+
+// The message that a look takes for the k-th member: the subject in its own place, or else the lowest that is free; its
+// number plus 1, 0 for none.
+fn choice(
+    table: &[u8],
+    chord: u8,
+    k: u8,
+    subject: u16,
+    n: u16,
+    channels: &[u8],
+    properties: &[u32],
+    statuses: &[u8],
+    chosen: &[u16],
+) -> u16
+    requires { ⌜ (tableRefusal (now table) ≡ 0) × (chord < length (tableOf (now table) .chords)) ⌝ }
+    requires { ⌜ (k < MT.size (tableOf (now table)) chord) × (subject < n) ⌝ }
+    requires { ⌜ Lent n (now channels) (now properties) (now statuses) ⌝ }
+    ensures { λ r. ⌜ ((o : Unread) (w : MB.Job) → w .subject ≡ subject → w .chord ≡ chord
+        → w .chosen ≡ now (chosen .entry) → r ≡ ML.choice (tableOf (now (table .entry)))
+        (boardBy (now (channels .entry)) (now (properties .entry)) (now (statuses .entry)) n o) w k) ⌝ }
+{
+    let at = subject as usize;
+    let channel = channels[at];
+    let property = properties[at];
+    if chords::first_of(table, chord, channel) == k {
+        return subject + 1;
+    }
+    let wanted = chords::channel_at(table, chord, k);
+    let equal = table::is_equal(table, chord);
+    columns::lowest(
+        channels,
+        properties,
+        statuses,
+        n,
+        wanted,
+        equal,
+        property,
+        chosen,
+    )
+}
+
+// A look that takes none: the next chord, and the job is to be tried again if a claimed message would fit.
+fn missed(
+    table: &[u8],
+    d: Sender,
+    k: u8,
+    n: u16,
+    channels: &[u8],
+    properties: &[u32],
+    statuses: &[u8],
+) -> Effect
+    requires { ⌜ (tableRefusal (now table) ≡ 0) × (d .job .chord < length (tableOf (now table) .chords)) ⌝ }
+    requires { ⌜ (k < MT.size (tableOf (now table)) (d .job .chord)) × (d .job .subject < n) ⌝ }
+    requires { ⌜ Lent n (now channels) (now properties) (now statuses) ⌝ }
+    ensures { λ r. ⌜ ((o : Unread) → effectIn (tableOf (now (table .entry))) r
+        ≡ MS.lookedBy (tableOf (now (table .entry)))
+        (boardBy (now (channels .entry)) (now (properties .entry)) (now (statuses .entry)) n o)
+        (senderIn (tableOf (now (table .entry))) d) (jobIn (tableOf (now (table .entry))) (d .job)) k 0) ⌝ }
+{
+    let j = d.job;
+    let at = j.subject as usize;
+    let channel = channels[at];
+    let property = properties[at];
+    let wanted = chords::channel_at(table, j.chord, k);
+    let equal = table::is_equal(table, j.chord);
+    let claimed = columns::some_claimed(channels, properties, statuses, n, wanted, equal, property);
+    let next = state::next_chord(table, j, channel, j.retry | claimed);
+    state::works(d, next, Said::Missed, Change::None)
+}
+
+// The job with message m chosen for the k-th member, in another phase.
+fn chose(j: Job, k: u8, m: u16, phase: Phase) -> Job
+    requires { ⌜ (k < 8) × (j .phase ≡ P.Look k) ⌝ }
+    ensures { λ r. ⌜ ((t : MT.Table) → chosenBy phase (MT.size t (j .chord)) ≡ suc k → jobIn t r
+        ≡ MJ.withChosen (jobIn t j) (jobIn t j .chosen ++ (m ∷ [])) (phaseIn phase)) ⌝ }
+{
+    let mut chosen = j.chosen;
+    chosen[k as usize] = m;
+    Job {
+        subject: j.subject,
+        chord: j.chord,
+        phase: phase,
+        chosen: chosen,
+        retry: j.retry,
+        retries: j.retries,
+    }
+}
+
+// A look that takes message m for the k-th of size members: after the last, the claims.
+fn found(d: Sender, size: u8, k: u8, m: u16) -> Effect
+    requires { ⌜ (k < size) × (size ≤ 8) × (d .job .phase ≡ P.Look k) ⌝ }
+    ensures { λ r. ⌜ ((t : MT.Table) (b : MB.Board) → MT.size t (d .job .chord) ≡ size → effectIn t r
+        ≡ MS.lookedBy t b (senderIn t d) (jobIn t (d .job)) k (suc m)) ⌝ }
+{
+    let j = d.job;
+    if k + 1 == size {
+        let last = chose(j, k, m, Phase::Claim(0));
+        return state::works(d, last, Said::Looked(m), Change::None);
+    }
+    let next = chose(j, k, m, Phase::Look(k + 1));
+    state::works(d, next, Said::Looked(m), Change::None)
+}
+
+// Looks for a message for the k-th member of the job's chord.
+pub fn look_step(
+    table: &[u8],
+    d: Sender,
+    k: u8,
+    n: u16,
+    channels: &[u8],
+    properties: &[u32],
+    statuses: &[u8],
+) -> Effect
+    requires { ⌜ (tableRefusal (now table) ≡ 0) × (d .job .chord < length (tableOf (now table) .chords)) ⌝ }
+    requires { ⌜ (d .job .phase ≡ P.Look k) × (k < MT.size (tableOf (now table)) (d .job .chord)) ⌝ }
+    requires { ⌜ (d .job .subject < n) × Lent n (now channels) (now properties) (now statuses) ⌝ }
+    ensures { λ r. ⌜ ((o : Unread) → effectIn (tableOf (now (table .entry))) r
+        ≡ MS.look-step (tableOf (now (table .entry)))
+        (boardBy (now (channels .entry)) (now (properties .entry)) (now (statuses .entry)) n o)
+        (senderIn (tableOf (now (table .entry))) d) (jobIn (tableOf (now (table .entry))) (d .job)) k) ⌝ }
+{
+    let j = d.job;
+    let chosen = j.chosen;
+    let taken = choice(
+        table,
+        j.chord,
+        k,
+        j.subject,
+        n,
+        channels,
+        properties,
+        statuses,
+        &chosen[..k as usize],
+    );
+    if taken == 0 {
+        return missed(table, d, k, n, channels, properties, statuses);
+    }
+    let size = table::chord_len(table, j.chord);
+    found(d, size, k, taken - 1)
+}
