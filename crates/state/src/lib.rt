@@ -308,6 +308,16 @@ pub fn job_end(
     goes_idle(d, 0)
 }
 
+// One less, and 0 for 0: the number of what is kept plus 1.
+pub fn less(x: u16) -> u16
+    ensures { λ r. ⌜ r ≡ x - 1 ⌝ }
+{
+    if x == 0 {
+        return 0;
+    }
+    x - 1
+}
+
 // A count of retries goes to 16.
 const MOST: u8 = 16;
 

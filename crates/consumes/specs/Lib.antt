@@ -1,0 +1,2 @@
+-- What the steps of a recorded match rely on.
+pub mod Holds
