@@ -8,8 +8,8 @@ use lib.Seq.{paste}
 use Rattle.model.specs.Tables.{Table}
 use Rattle.model.specs.Boards.{noMessage}
 use Rattle.model.specs.Effects.{turned, apply, messagesAfter, matchesAfter, sendersAfter}
-use Rattle.columns.specs.Columns.{Columns, messagesFrom}
-use Rattle.columns.specs.MatchColumns.{MatchColumns}
+use Rattle.columns.specs.Columns.{Columns, messagesFrom, columnsOf}
+use Rattle.columns.specs.MatchColumns.{MatchColumns, matchesOf}
 use Rattle.state.specs.declared.Turn as DU
 use Rattle.state.specs.declared.Turn.the-variants as U
 use Rattle.state.specs.declared.Change.the-variants as G
@@ -17,11 +17,11 @@ use Rattle.state.specs.declared.Effect as DE
 use Rattle.state.specs.Views.{turnIn, effectIn}
 use Rattle.boards.specs.declared.Board as DB
 use Rattle.boards.specs.Boards.{boardIn}
-use Rattle.applies.specs.Writes.{columnsOf, matchesOf, ChordsFit, statusBy, matchBy, wakerBy, signalledBy}
+use Rattle.boards.proofs.SenderLaws.{set-sender}
+use Rattle.applies.specs.Writes.{ChordsFit, statusBy, matchBy, wakerBy, signalledBy}
 use Rattle.applies.specs.Writes.{boardWith, boardMatched}
 use Rattle.applies.proofs.TurnLaws.{turn-is}
 use Rattle.applies.proofs.MatchLaws.{match-added}
-use Rattle.applies.proofs.SenderLaws.{set-sender}
 use Rattle.applies.proofs.SignalLaws.{signalled-all}
 
 -- w is the board with the stepping sender written

@@ -1,7 +1,6 @@
 -- Laws of what an effect writes.
 pub mod TurnLaws
 pub mod MatchLaws
-pub mod SenderLaws
 pub mod SignalLaws
 pub mod SureLaws
 pub mod ApplyLaws

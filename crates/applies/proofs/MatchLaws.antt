@@ -9,8 +9,8 @@ use lib.Seq.{paste, take-at, drop-at, take-take, take-append-le, length-take-le,
 use lib.Seq.{getD-set-same, getD-set-other}
 use Rattle.model.specs.Tables.{Table, size}
 use Rattle.model.specs.Boards.{Match}
-use Rattle.columns.specs.MatchColumns.{MatchColumns, matchIn, matchesFrom}
-use Rattle.applies.specs.Writes.{ChordsFit, matchesOf}
+use Rattle.columns.specs.MatchColumns.{MatchColumns, matchIn, matchesFrom, matchesOf}
+use Rattle.applies.specs.Writes.{ChordsFit}
 
 pub length-matches : (t : Table) (m : MatchColumns) (k n : ℕ) → length (matchesFrom t m k n) ≡ n
 length-matches t m k zero = refl

@@ -1,33 +1,16 @@
 -- What a step's effect writes: to a message's columns, to the match columns, to the senders.
-use mathlib.Core.Bool.{Bool, true, false, _&&_, _||_, not}
+use mathlib.Core.Bool.{_&&_, _||_, not}
 use mathlib.Core.List.{List}
 use Prim.Native.Nat.{ℕ, _+_, _<_, _≤_}
-use lib.IntN.{ℤ}
 use lib.Dec.{eqb}
 use Rattle.model.specs.Tables.{Table, size}
-use Rattle.columns.specs.Columns.{Columns}
-use Rattle.columns.specs.MatchColumns.{MatchColumns}
-use Rattle.state.specs.declared.State as DS
-use Rattle.state.specs.declared.State.the-variants as S
 use Rattle.state.specs.declared.Turn as DU
 use Rattle.state.specs.declared.Turn.the-variants as U
 use Rattle.state.specs.declared.Change as DG
 use Rattle.state.specs.declared.Change.the-variants as G
 use Rattle.state.specs.declared.Sender as DD
+use Rattle.state.specs.Views.{idleIs}
 use Rattle.boards.specs.declared.Board as DB
-
-abbrev pub columnsOf : List ℕ → List ℕ → List ℤ → List ℕ → List ℕ → List ℕ → Columns
-columnsOf channels properties cents statuses matched wakers = record {
-  channels = channels;
-  properties = properties;
-  cents = cents;
-  statuses = statuses;
-  matched = matched;
-  wakers = wakers;
-}
-
-abbrev pub matchesOf : List ℕ → List ℕ → MatchColumns
-matchesOf chords messages = record { chords = chords; messages = messages }
 
 -- eight numbers hold a match of any chord
 abbrev pub ChordsFit : Table → Type 0
@@ -69,11 +52,6 @@ Sure messages matches G.None = Unit {0}
 Sure messages matches (G.Turn n u) = (n < messages) × WakerFits u
 Sure messages matches (G.Record n) = (n < messages) × (matches < 1024)
 Sure messages matches (G.Signal n) = n < 1024
-
-abbrev pub idleIs : DS.State → Bool
-idleIs S.Idle = true
-idleIs S.Working = false
-idleIs S.Blocked = false
 
 -- the sender with its signal set, if it is not idle and message n is its own
 abbrev pub signalledBy : ℕ → DD.Sender → DD.Sender

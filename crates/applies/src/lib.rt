@@ -8,12 +8,12 @@ ghost use lib.Seq.{paste};
 ghost use Rattle.model.specs.Tables.{Table};
 ghost use Rattle.model.specs.Boards as MB;
 ghost use Rattle.model.specs.Effects as ME;
-ghost use Rattle.columns.specs.Columns.{Columns};
-ghost use Rattle.columns.specs.MatchColumns.{MatchColumns};
-ghost use Rattle.state.specs.Views.{senderIn, effectIn};
+ghost use Rattle.columns.specs.Columns.{Columns, columnsOf};
+ghost use Rattle.columns.specs.MatchColumns.{MatchColumns, matchesOf};
+ghost use Rattle.state.specs.Views.{senderIn, effectIn, idleIs};
 ghost use Rattle.boards.specs.Boards.{boardIn};
-ghost use Rattle.applies.specs.Writes.{columnsOf, matchesOf, ChordsFit, statusBy, matchBy, wakerBy, WakerFits};
-ghost use Rattle.applies.specs.Writes.{Sure, idleIs, signalledBy, boardWith, boardMatched};
+ghost use Rattle.applies.specs.Writes.{ChordsFit, statusBy, matchBy, wakerBy, WakerFits};
+ghost use Rattle.applies.specs.Writes.{Sure, signalledBy, boardWith, boardMatched};
 use boards::Board;
 use state::Change;
 use state::Effect;
@@ -77,24 +77,13 @@ pub fn turn_message(n: u16, u: Turn, statuses: &mut [u8], matched: &mut [u16], w
     wakers[k] = w;
 }
 
-// Whether a sender is idle.
-pub fn is_idle(s: State) -> bool
-    ensures { λ r. ⌜ r ≡ idleIs s ⌝ }
-{
-    match s {
-        State::Idle => true,
-        State::Working => false,
-        State::Blocked => false,
-    }
-}
-
 // The sender with its signal set, if it is not idle and message n is its own.
 pub fn signalled(d: Sender, n: u16) -> Sender
     requires { ⌜ n < 1024 ⌝ }
     ensures { λ r. ⌜ r ≡ signalledBy n d ⌝ }
 {
     let s = d.state;
-    let idle = is_idle(s);
+    let idle = state::is_idle(s);
     let mine = d.own == n + 1;
     let mut e = d;
     e.signalled = d.signalled | (!idle & mine);

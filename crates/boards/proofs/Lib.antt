@@ -1,0 +1,2 @@
+-- One sender of a board.
+pub mod SenderLaws

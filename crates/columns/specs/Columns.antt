@@ -37,6 +37,16 @@ abbrev pub messagesFrom : Columns → ℕ → ℕ → List Message
 messagesFrom c i zero = []
 messagesFrom c i (suc n) = messageIn c i ∷ messagesFrom c (suc i) n
 
+abbrev pub columnsOf : List ℕ → List ℕ → List ℤ → List ℕ → List ℕ → List ℕ → Columns
+columnsOf channels properties cents statuses matched wakers = record {
+  channels = channels;
+  properties = properties;
+  cents = cents;
+  statuses = statuses;
+  matched = matched;
+  wakers = wakers;
+}
+
 -- what a look does not read: three columns and the rest of the board
 pub record Unread : Type 0 where
   pub cents : List ℤ
@@ -47,14 +57,8 @@ pub record Unread : Type 0 where
   pub backoffs : List ℕ
 
 abbrev pub columnsBy : List ℕ → List ℕ → List ℕ → Unread → Columns
-columnsBy channels properties statuses o = record {
-  channels = channels;
-  properties = properties;
-  cents = o .cents;
-  statuses = statuses;
-  matched = o .matched;
-  wakers = o .wakers;
-}
+columnsBy channels properties statuses o =
+    columnsOf channels properties (o .cents) statuses (o .matched) (o .wakers)
 
 -- a board of n messages, by the columns that a look reads and what it does not read
 abbrev pub boardBy : List ℕ → List ℕ → List ℕ → ℕ → Unread → Board

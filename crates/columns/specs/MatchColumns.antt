@@ -10,6 +10,9 @@ pub record MatchColumns : Type 0 where
   pub chords : List ℕ
   pub messages : List ℕ
 
+abbrev pub matchesOf : List ℕ → List ℕ → MatchColumns
+matchesOf chords messages = record { chords = chords; messages = messages }
+
 unfoldable pub matchIn : Table → MatchColumns → ℕ → Match
 matchIn t m k = record {
   chord = getD (m .chords) k 0;

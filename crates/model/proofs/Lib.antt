@@ -1,5 +1,6 @@
 pub mod Tests
 pub mod Lists
+pub mod CentsTest
 pub mod Accepted
 pub mod AcceptedChords
 pub mod Written

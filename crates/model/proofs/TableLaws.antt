@@ -37,6 +37,9 @@ module _ (s : List ℕ) (q : ℕ) (e : tableRefusal s ≡ 0) (h : q < length (ta
   pub size-is : size (tableOf s) q ≡ partSize s q
   size-is = rw (← entry-is) (size-of s (accepted s e) q below-count)
 
+  pub size-few : size (tableOf s) q ≤ 8
+  size-few = rw size-is (entry-says .few)
+
   pub equal-is : chordAt (tableOf s) q .equal ≡ eqb (getD (chordEntry s q) 3 0) 1
   unfolding tableOf
   equal-is = rw (← entry-is) (equal-from (countR s) (chordBytes s) (memberBytes s) q below-count)

@@ -1,5 +1,4 @@
 -- Laws of a blocked sender that is signalled, by the status of its own message.
--- Assumes nothing.
 use mathlib.Core.Path.{_≡_, refl}
 use mathlib.Core.Bool.{false}
 use Prim.Native.Nat.{ℕ, zero, suc, _-_, _<_, _≤_}

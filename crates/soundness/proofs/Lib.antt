@@ -1,5 +1,4 @@
 -- Laws of the tests of lent columns.
 pub mod Each
-pub mod Cents
 pub mod Messages
 pub mod Matches

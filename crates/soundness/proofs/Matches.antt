@@ -14,7 +14,7 @@ use Rattle.model.specs.Tables.{size}
 use Rattle.model.specs.Boards.{Board}
 use Rattle.model.specs.Layout.{tableRefusal, tableOf}
 use Rattle.model.specs.Sound.{matchOk, allBelow}
-use Rattle.model.proofs.TableLaws.{size-is, entry-says}
+use Rattle.model.proofs.TableLaws.{size-few}
 use Rattle.columns.specs.MatchColumns.{MatchColumns, matchIn, matchesFrom}
 use Rattle.soundness.specs.Tests.{eachBelow, below, numbersOk}
 use Rattle.soundness.proofs.Each.{each-at, at-each, each-and, each-same, each-of, each-made}
@@ -26,9 +26,6 @@ front-is count ns k true h = each-of (λ x. ltb x count) ns 0 k (h refl)
 front-is count ns k false h = refl
 
 module _ (s : List ℕ) (accepts : tableRefusal s ≡ 0) where
-  pub size-few : (q : ℕ) → q < length (tableOf s .chords) → size (tableOf s) q ≤ 8
-  size-few q h = rw (size-is s q accepts h) (entry-says s q accepts h .few)
-
   module _ (m : MatchColumns) (n : ℕ) (long : 8 * n ≤ length (m .messages)) where
     match-is : (b : Board) (i : ℕ) → i < n → matchOk (tableOf s) b (matchIn (tableOf s) m i)
         ≡ (below (length (tableOf s .chords)) (m .chords) i
@@ -38,7 +35,7 @@ module _ (s : List ℕ) (accepts : tableRefusal s ≡ 0) where
         let q = getD (m .chords) i 0 in
         front-is (length (b .messages)) (drop (8 * i) (m .messages)) (size (tableOf s) q)
         (ltb q (length (tableOf s .chords)))
-        (λ e. let k = size-few q (ltb-true _ _ e) in simp length-drop (omega arith))
+        (λ e. let k = size-few s q accepts (ltb-true _ _ e) in simp length-drop (omega arith))
 
     pub matches-are : (b : Board) → every (matchOk (tableOf s) b) (matchesFrom (tableOf s) m 0 n)
         ≡ (eachBelow n (below (length (tableOf s .chords)) (m .chords))
@@ -57,6 +54,6 @@ module _ (s : List ℕ) (accepts : tableRefusal s ≡ 0) where
         one : (i : ℕ) → i < n → (j : ℕ) → j < size (tableOf s) (getD (m .chords) i 0)
             → below count (drop (8 * i) (m .messages)) j ≡ true
         one i h j l =
-            let k = size-few (getD (m .chords) i 0) (ltb-true _ _ (each-at _ n e i h)) in
+            let k = size-few s (getD (m .chords) i 0) accepts (ltb-true _ _ (each-at _ n e i h)) in
             rw (getD-drop (8 * i) (m .messages) j 0)
             (each-at (below count (m .messages)) (8 * n) f (8 * i + j) (omega arith))

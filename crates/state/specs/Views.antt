@@ -1,5 +1,6 @@
 -- Declared phases, jobs, senders and effects as the model's, and the builders' results.
 -- How many messages a job has chosen is read off its phase and chord, so that no count can disagree with them.
+use mathlib.Core.Bool.{Bool, true, false}
 use Prim.Native.Nat.{ℕ}
 use lib.ListN.{take}
 use Rattle.state.specs.declared.Phase as DP
@@ -62,6 +63,11 @@ abbrev pub stateIn : DS.State → Job → State
 stateIn S.Idle w = idle
 stateIn S.Working w = working w
 stateIn S.Blocked w = blocked
+
+abbrev pub idleIs : DS.State → Bool
+idleIs S.Idle = true
+idleIs S.Working = false
+idleIs S.Blocked = false
 
 abbrev pub senderIn : Table → DD.Sender → Sender
 senderIn t d = record {

@@ -8,7 +8,7 @@ ghost use Rattle.model.specs.Boards.{Board, Message, noMessage, channelOf, isCo
 ghost use Rattle.model.specs.Jobs as MJ;
 ghost use Rattle.model.specs.Layout.{tableRefusal, tableOf};
 ghost use Rattle.model.specs.Steps as MS;
-ghost use Rattle.state.specs.Views.{jobIn, senderIn};
+ghost use Rattle.state.specs.Views.{jobIn, senderIn, idleIs};
 ghost use Rattle.state.specs.Builders.{inJob, worksBy, inPhase, withRetry, goesIdle, staysBlocked, jobAt};
 
 // Where a job is. The first number is the place: the member that the next step is about, or the rests after the next
@@ -96,6 +96,17 @@ pub struct Effect {
     pub said: Said,
     pub change: Change,
     pub sender: Sender,
+}
+
+// Whether a sender is idle.
+pub fn is_idle(s: State) -> bool
+    ensures { λ r. ⌜ r ≡ idleIs s ⌝ }
+{
+    match s {
+        State::Idle => true,
+        State::Working => false,
+        State::Blocked => false,
+    }
 }
 
 // The sender at work on a job.

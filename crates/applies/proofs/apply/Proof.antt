@@ -5,14 +5,14 @@ use borrow.Author.Needs.{needs}
 use lib.IntN.{ℤ}
 use lib.ListN.{length, length-map}
 use native.Mathlib.Omega.{arith}
-use Rattle.columns.specs.Columns.{Columns}
-use Rattle.columns.specs.MatchColumns.{MatchColumns}
+use Rattle.columns.specs.Columns.{Columns, columnsOf}
+use Rattle.columns.specs.MatchColumns.{MatchColumns, matchesOf}
 use Rattle.state.specs.declared.Change as DG
 use Rattle.state.specs.declared.Turn.the-variants as U
 use Rattle.applies.proofs.ApplyLaws.{apply-none, apply-turn, apply-record, apply-signal}
 use Rattle.applies.proofs.apply.Statement.{statement}
 use Rattle.applies.proofs.apply.Tie as tie
-use Rattle.applies.specs.Writes.{columnsOf, matchesOf, Sure, WakerFits}
+use Rattle.applies.specs.Writes.{Sure, WakerFits}
 
 -- the columns at entry
 abbrev columns : tie.Start → List ℕ → List ℕ → List ℤ → Columns

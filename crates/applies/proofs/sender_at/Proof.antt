@@ -1,5 +1,5 @@
 use borrow.Author.Needs.{needs}
-use Rattle.applies.proofs.SenderLaws.{nth-sender}
+use Rattle.boards.proofs.SenderLaws.{nth-sender}
 use Rattle.applies.proofs.sender_at.Statement.{statement}
 use Rattle.applies.proofs.sender_at.Tie as tie
 

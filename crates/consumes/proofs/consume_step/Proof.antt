@@ -1,6 +1,5 @@
 -- `consumes::consume_step` meets its contract: the end is on the messages as the step leaves them.
 -- A chord has at most 8 channels.
--- Assumes nothing.
 use mathlib.Core.Path.{refl, _∙_}
 use Prim.Native.Nat.{_-_, _<_}
 use native.Mathlib.Omega.{arith}

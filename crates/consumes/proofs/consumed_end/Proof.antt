@@ -1,5 +1,4 @@
 -- `consumes::consumed_end` meets its contract, with some to be told and with none.
--- Assumes nothing.
 use mathlib.Core.Path.{sym, _∙_}
 use Rattle.model.specs.Layout.{tableOf}
 use Rattle.state.specs.declared.Phase.the-variants as P

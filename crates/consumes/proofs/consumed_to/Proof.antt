@@ -1,5 +1,4 @@
 -- `consumes::consumed_to` meets its contract, for the last message and for another. A chord has at most 8 channels.
--- Assumes nothing.
 use mathlib.Core.Path.{_≡_}
 use Prim.Native.Nat.{suc, _+_, _≤_}
 use native.Mathlib.Numerals.{add-one}

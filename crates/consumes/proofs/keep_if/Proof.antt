@@ -1,5 +1,4 @@
 -- `consumes::keep_if` meets its contract, for a message kept and for one left out.
--- Assumes nothing.
 use native.Mathlib.Omega.{arith}
 use lib.ListN.{take}
 use Rattle.consumes.proofs.Telling.{keep-yes, keep-no}

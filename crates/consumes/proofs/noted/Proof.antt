@@ -1,5 +1,4 @@
 -- `consumes::noted` meets its contract, for the own message and for another.
--- Assumes nothing.
 use Prim.Native.Nat.{_+_}
 use borrow.Author.Tests.{eq-eqb, ne-eqb}
 use borrow.Author.Needs.{needs}

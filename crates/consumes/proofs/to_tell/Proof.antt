@@ -1,6 +1,5 @@
 -- `consumes::to_tell` meets its contract. Each turn moves one message from what is left to what was found, if it is to
 -- be told.
--- Assumes nothing.
 use mathlib.Core.Path.{_≡_, refl, sym, _∙_}
 use mathlib.Core.Bool.{_&&_, not}
 use mathlib.Core.List.{List, _++_}

@@ -1,5 +1,4 @@
 -- `consumes::told_to` meets its contract, for the last that is told and for another.
--- Assumes nothing.
 use mathlib.Core.Path.{sym, _∙_}
 use Prim.Native.Nat.{suc}
 use native.Mathlib.Numerals.{add-one}

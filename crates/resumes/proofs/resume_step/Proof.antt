@@ -1,5 +1,4 @@
 -- `resumes::resume_step` meets its contract, by the status.
--- Assumes nothing.
 use native.Mathlib.Omega.{arith}
 use Rattle.model.specs.Layout.{tableOf}
 use Rattle.resumes.proofs.Resuming.{stays-is, resumes-is, answers-is}

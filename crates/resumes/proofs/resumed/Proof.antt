@@ -1,5 +1,4 @@
 -- `resumes::resumed` meets its contract.
--- Assumes nothing.
 use borrow.Author.Needs.{needs}
 use Rattle.resumes.proofs.resumed.Statement.{statement}
 use Rattle.resumes.proofs.resumed.Tie as tie

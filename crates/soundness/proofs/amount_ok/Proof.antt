@@ -3,8 +3,8 @@ use lib.IntN.{pos}
 use lib.ListN.{getD}
 use mir.ValLaws.{toZ-ofZ}
 use mir.Syntax.{w64}
-use Rattle.soundness.proofs.Cents.{cents-within}
 use borrow.Author.Needs.{needs}
+use Rattle.model.proofs.CentsTest.{cents-within}
 use Rattle.soundness.proofs.amount_ok.Statement.{statement}
 use Rattle.soundness.proofs.amount_ok.Tie as tie
 

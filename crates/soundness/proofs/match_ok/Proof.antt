@@ -2,7 +2,7 @@
 use native.Mathlib.Omega.{arith}
 use lib.ListN.{length-drop}
 use Rattle.table.proofs.Walks.{to-end}
-use Rattle.soundness.proofs.Matches.{size-few}
+use Rattle.model.proofs.TableLaws.{size-few}
 use borrow.Author.Needs.{needs}
 use Rattle.soundness.proofs.match_ok.Statement.{statement}
 use Rattle.soundness.proofs.match_ok.Tie as tie
@@ -29,7 +29,7 @@ numbers-below-requires : tie.Need-numbers-below-requires
 numbers-below-requires c κs =
     let s = c .before .before .before .before in
     let a = s .args in
-    let k = size-few (a .table .now) (s .pre .0 .0) (a .chord) (s .pre .0 .1) in
+    let k = size-few (a .table .now) (a .chord) (s .pre .0 .0) (s .pre .0 .1) in
     rw (to-end (a .messages .now) (a .at)) (simp length-drop (omega (arith, c .before .chord-len .ensures)))
 
 returns : tie.Need-returns

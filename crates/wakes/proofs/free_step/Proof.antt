@@ -1,5 +1,4 @@
 -- `wakes::free_step` meets its contract. A chord has at most 8 channels.
--- Assumes nothing.
 use mathlib.Core.Path.{_≡_}
 use Prim.Native.Nat.{_<_, _≤_}
 use native.Mathlib.Omega.{arith}

@@ -1,5 +1,4 @@
 -- `wakes::freeing` meets its contract, with a message left and with none.
--- Assumes nothing.
 use mathlib.Core.Path.{refl}
 use Prim.Native.Nat.{_+_}
 use native.Mathlib.Omega.{arith}

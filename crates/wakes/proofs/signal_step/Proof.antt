@@ -1,5 +1,4 @@
 -- `wakes::signal_step` meets its contract.
--- Assumes nothing.
 use Rattle.model.specs.Layout.{tableOf}
 use Rattle.wakes.proofs.Waking.{signals-is}
 use borrow.Author.Needs.{needs}

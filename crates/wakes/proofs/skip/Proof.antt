@@ -1,5 +1,4 @@
 -- `wakes::skip` meets its contract, below the place and from it on.
--- Assumes nothing.
 use native.Mathlib.Omega.{arith}
 use Rattle.wakes.proofs.Waking.{skip-low, skip-high}
 use borrow.Author.Needs.{needs}

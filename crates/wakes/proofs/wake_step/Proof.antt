@@ -1,5 +1,4 @@
 -- `wakes::wake_step` meets its contract. A chord has at most 8 channels.
--- Assumes nothing.
 use mathlib.Core.Path.{_≡_}
 use lib.ListN.{length, length-map}
 use Rattle.model.specs.Layout.{tableOf}

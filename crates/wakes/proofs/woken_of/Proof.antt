@@ -1,5 +1,4 @@
 -- `wakes::woken_of` meets its contract. A chord has at most 8 channels.
--- Assumes nothing.
 use Prim.Native.Nat.{_<_}
 use native.Mathlib.Omega.{arith}
 use Rattle.model.specs.Tables.{size}

@@ -1,0 +1,69 @@
+-- The message and its sender, written, are the model's board after an add.
+use mathlib.Core.Path.{_≡_, refl, ap, sym, _∙_}
+use mathlib.Core.List.{List, [], _∷_, _++_, map}
+use Prim.Native.Nat.{ℕ, zero, suc, _+_, _<_}
+use native.Mathlib.Numerals.{add-one}
+use lib.IntN.{ℤ}
+use lib.ListN.{getD, set}
+use lib.Seq.{getD-append-seam}
+use Rattle.model.specs.Tables.{Table}
+use Rattle.model.specs.Boards.{Message, Sent, noMessage}
+use Rattle.model.specs.Adds.{newMessage, newSender, added, addRefusal}
+use Rattle.model.proofs.Adds.{add-accepted}
+use Rattle.columns.specs.Columns.{Columns, messagesFrom, columnsOf}
+use Rattle.columns.specs.MatchColumns.{MatchColumns}
+use Rattle.columns.proofs.Messages.{length-messages}
+use Rattle.state.specs.declared.Sender as DD
+use Rattle.state.specs.Views.{senderIn}
+use Rattle.boards.specs.declared.Board as DB
+use Rattle.boards.specs.Boards.{boardIn}
+use Rattle.boards.proofs.SenderLaws.{set-sender}
+use Rattle.adds.proofs.MessageLaws.{Room, message-added}
+
+-- the board with sender i and one message more
+abbrev pub withMessage : DB.Board → ℕ → DD.Sender → DB.Board
+withMessage b i d = record { messages = b .messages + 1; matches = b .matches; senders = set (b .senders) i d }
+
+module _ (t : Table) (b : DB.Board) (i : ℕ) (x : Sent) (d : DD.Sender) (c : Columns) (m : MatchColumns)
+    (room : Room c (b .messages)) where
+  abbrev n : ℕ
+  n = b .messages
+
+  abbrev is : List Message
+  is = messagesFrom c 0 n ++ (newMessage x ∷ [])
+
+  -- the new message is message n
+  channel-is : getD is n noMessage .sent .channel ≡ x .channel
+  channel-is =
+      ap (λ (k : ℕ). getD is k noMessage .sent .channel) (sym (length-messages c 0 n))
+      ∙ ap (λ (y : Message). y .sent .channel) (getD-append-seam (messagesFrom c 0 n) (newMessage x) [] noMessage)
+
+  pub added-is : (ch pr : List ℕ) (ce : List ℤ) (st ma wa : List ℕ)
+      → ((ms : List Message) → getD ms n noMessage .sent .channel ≡ x .channel → senderIn t d ≡ newSender t ms n)
+      → ch ≡ set (c .channels) n (x .channel) → pr ≡ set (c .properties) n (x .property)
+      → ce ≡ set (c .cents) n (x .cents) → st ≡ set (c .statuses) n 0 → ma ≡ set (c .matched) n 0
+      → wa ≡ set (c .wakers) n 0
+      → boardIn t (withMessage b i d) (columnsOf ch pr ce st ma wa) m ≡ added t (boardIn t b c m) i x
+  unfolding added
+  added-is ch pr ce st ma wa f e1 e2 e3 e4 e5 e6 = rw (
+    e1,
+    e2,
+    e3,
+    e4,
+    e5,
+    e6,
+    add-one n,
+    message-added c n x room,
+    set-sender t (b .senders) i d,
+    f is channel-is,
+    length-messages c 0 n,
+  )
+
+-- what an add that is not refused has
+pub accepted-in : (t : Table) (b : DB.Board) (i : ℕ) (x : Sent)
+    → ((c : Columns) (m : MatchColumns) → addRefusal t (boardIn t b c m) i x ≡ 0) → (i < 32) × (b .messages < 1024)
+accepted-in t b i x e =
+    let c = columnsOf [] [] [] [] [] [] in
+    let m : MatchColumns = record { chords = []; messages = [] } in
+    let p = add-accepted t (boardIn t b c m) i x (e c m) in
+    (p .0, rw (length-messages c 0 (b .messages)) at (p .4))

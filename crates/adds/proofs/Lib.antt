@@ -1,0 +1,4 @@
+-- Laws of an add.
+pub mod RefusalLaws
+pub mod MessageLaws
+pub mod AddLaws

@@ -1,0 +1,70 @@
+-- A message written past the last of n is one message more; those before it are as they were.
+use mathlib.Core.Path.{_≡_, refl, ap, _∙_}
+use mathlib.Core.List.{List, [], _∷_, _++_}
+use Prim.Native.Nat.{ℕ, zero, suc, _+_, _<_}
+use native.Mathlib.Omega.{arith}
+use lib.ListN.{length, set}
+use lib.Seq.{getD-set-same, getD-set-other}
+use Rattle.model.specs.Boards.{Message, Sent}
+use Rattle.model.specs.Adds.{newMessage}
+use Rattle.columns.specs.Columns.{Columns, messageIn, messagesFrom}
+
+messages-same : (c c′ : Columns) (i n : ℕ) → ((j : ℕ) → j < i + n → messageIn c′ j ≡ messageIn c j)
+    → messagesFrom c′ i n ≡ messagesFrom c i n
+messages-same c c′ i zero f = refl
+messages-same c c′ i (suc n) f = cc (f i (omega arith), messages-same c c′ (suc i) n (λ j l. f j (omega arith)))
+
+messages-snoc : (c : Columns) (i n k : ℕ) → i + n ≡ k
+    → messagesFrom c i (suc n) ≡ messagesFrom c i n ++ (messageIn c k ∷ [])
+messages-snoc c i zero k e = let z : i ≡ k = omega arith in rw z
+messages-snoc c i (suc n) k e =
+    ap (λ (r : List Message). messageIn c i ∷ r) (messages-snoc c (suc i) n k (omega arith))
+
+-- columns long enough for message n
+pub record Room (c : Columns) (n : ℕ) : Type 0 where
+  pub channels : n < length (c .channels)
+  pub properties : n < length (c .properties)
+  pub cents : n < length (c .cents)
+  pub statuses : n < length (c .statuses)
+  pub matched : n < length (c .matched)
+  pub wakers : n < length (c .wakers)
+
+-- the columns with message n written
+abbrev pub written : Columns → ℕ → Sent → Columns
+written c n x = record {
+  channels = set (c .channels) n (x .channel);
+  properties = set (c .properties) n (x .property);
+  cents = set (c .cents) n (x .cents);
+  statuses = set (c .statuses) n 0;
+  matched = set (c .matched) n 0;
+  wakers = set (c .wakers) n 0;
+}
+
+module _ (c : Columns) (n : ℕ) (x : Sent) where
+  earlier : (j : ℕ) → j < n → messageIn (written c n x) j ≡ messageIn c j
+  unfolding messageIn
+  earlier j h = rw (
+    getD-set-other (c .channels) n j (x .channel) 0 (λ z. omega arith),
+    getD-set-other (c .properties) n j (x .property) 0 (λ z. omega arith),
+    getD-set-other (c .cents) n j (x .cents) _ (λ z. omega arith),
+    getD-set-other (c .statuses) n j 0 0 (λ z. omega arith),
+    getD-set-other (c .matched) n j 0 0 (λ z. omega arith),
+    getD-set-other (c .wakers) n j 0 0 (λ z. omega arith),
+  )
+
+  at-end : Room c n → messageIn (written c n x) n ≡ newMessage x
+  unfolding messageIn
+  at-end h = rw (
+    getD-set-same (c .channels) n (x .channel) 0 (h .channels),
+    getD-set-same (c .properties) n (x .property) 0 (h .properties),
+    getD-set-same (c .cents) n (x .cents) _ (h .cents),
+    getD-set-same (c .statuses) n 0 0 (h .statuses),
+    getD-set-same (c .matched) n 0 0 (h .matched),
+    getD-set-same (c .wakers) n 0 0 (h .wakers),
+  )
+
+  pub message-added : Room c n
+      → messagesFrom (written c n x) 0 (suc n) ≡ messagesFrom c 0 n ++ (newMessage x ∷ [])
+  message-added h =
+      messages-snoc (written c n x) 0 n n (omega arith)
+      ∙ rw (messages-same c (written c n x) 0 n (λ j l. earlier j (omega arith)), at-end h)

@@ -1,0 +1,5 @@
+-- Laws of the test of senders.
+pub mod Walks
+pub mod Places
+pub mod Alone
+pub mod Lent

@@ -1,0 +1,79 @@
+-- `senders::chosen_below` meets its contract: the answer for the first len is the answer for those left.
+-- The measure is the number of those left.
+use mathlib.Core.Path.{_≡_, sym, _∙_}
+use Prim.Native.Nat.{_≤_, _-_}
+use native.Mathlib.Omega.{arith}
+use borrow.Author.Tests.{lt-ltb, le-ltb}
+use lib.Dec.{ltb}
+use lib.ListN.{length, take, drop}
+use Rattle.model.specs.Sound.{allBelow}
+use Rattle.senders.proofs.Walks.{left-whole, every-no, every-yes, every-end}
+use borrow.Author.Needs.{needs}
+use Rattle.senders.proofs.chosen_below.Statement.{statement}
+use Rattle.senders.proofs.chosen_below.Tie as tie
+
+abbrev Inv-loop : tie.InvT-loop
+Inv-loop len n chosen i₀ i = (i ≤ len) × (allBelow n (take len chosen) ≡ allBelow n (take (len - i) (drop i chosen)))
+
+abbrev μ-loop : tie.MeasureT-loop
+μ-loop len n chosen i₀ i = len - i
+
+loop-holds : tie.Need-loop-holds Inv-loop μ-loop
+loop-holds c = (search needs, rw (left-whole (c .args .t1) (c .args .len)))
+
+cast-if1 : tie.Need-cast-if1 Inv-loop μ-loop
+cast-if1 c = search needs
+
+mul-if1 : tie.Need-mul-if1 Inv-loop μ-loop
+mul-if1 c = search needs
+
+array-read-if1 : tie.Need-array-read-if1 Inv-loop μ-loop
+array-read-if1 c = search needs
+
+returns : tie.Need-returns Inv-loop μ-loop
+returns c =
+    let p = c .before .before in
+    let s = p .before in
+    let a = s .args in
+    let l : length (a .t1) ≡ 8 = s .good .0 .1 .0 .1 in
+    sym (p .loop .inv .1
+    ∙ every-no (a .t1) (λ x. ltb x (a .n)) 0 (p .loop .i) (a .len) (omega arith) (omega arith)
+    (le-ltb _ _ (c .if1 .taken)))
+
+add-i : tie.Need-add-i Inv-loop μ-loop
+add-i c = search needs
+
+loop-less : tie.Need-loop-less Inv-loop μ-loop
+loop-less c = search needs
+
+loop-again : tie.Need-loop-again Inv-loop μ-loop
+loop-again c =
+    let p = c .before .before in
+    let s = p .before in
+    let a = s .args in
+    let l : length (a .t1) ≡ 8 = s .good .0 .1 .0 .1 in
+    let e = every-yes (a .t1) (λ x. ltb x (a .n)) 0 (p .loop .i) (a .len) (omega arith) (omega arith)
+    (lt-ltb _ _ (c .if1 .left)) in
+    (search needs, p .loop .inv .1 ∙ e)
+
+returns-2 : tie.Need-returns-2 Inv-loop μ-loop
+returns-2 c =
+    let p = c .before in
+    let a = p .before .args in
+    sym (p .loop .inv .1 ∙ every-end (a .t1) (λ x. ltb x (a .n)) (p .loop .i) (a .len) (omega arith))
+
+pub chosen-below-spec : {M : Type 1} → statement M
+chosen-below-spec =
+    tie.close
+    (tie.spec
+    Inv-loop
+    μ-loop
+    loop-holds
+    cast-if1
+    mul-if1
+    array-read-if1
+    returns
+    add-i
+    loop-less
+    loop-again
+    returns-2)

@@ -1,0 +1,2 @@
+-- What the test of senders sees of a board.
+pub mod Seen

@@ -1,0 +1,42 @@
+-- What the test of senders sees of a board: its counts and its messages' channels. And the parts of that test.
+use mathlib.Core.Path.{_≡_}
+use mathlib.Core.Bool.{Bool, true, false, _&&_, not}
+use mathlib.Core.List.{List}
+use Prim.Native.Nat.{ℕ, _<_, _≤_}
+use lib.Dec.{eqb, ltb}
+use lib.ListN.{length, getD}
+use Rattle.model.specs.Basics.{pick, isIn}
+use Rattle.model.specs.Tables.{Table, chordAt, isSync}
+use Rattle.model.specs.Boards.{Board, Sender, channelOf, isIdle}
+use Rattle.model.specs.Sound.{owns}
+
+-- a board of n messages in these channels and of so many matches
+pub record Seen (b : Board) (n matches : ℕ) (channels : List ℕ) : Type 0 where
+  pub count : length (b .messages) ≡ n
+  pub matches-count : length (b .matches) ≡ matches
+  pub channel : (i : ℕ) → i < n → channelOf b i ≡ getD channels i 0
+
+-- the channels of n messages, all in the table
+pub record Known (t : Table) (n : ℕ) (channels : List ℕ) : Type 0 where
+  pub all : n ≤ length channels
+  pub known : (i : ℕ) → i < n → getD channels i 0 < length (t .kinds)
+
+-- the channel of message v of n; 0 for none
+unfoldable pub channelIn : List ℕ → ℕ → ℕ → ℕ
+channelIn channels n v = pick (ltb v n) (getD channels v 0) 0
+
+-- a chord of the table that names the channel
+unfoldable pub inChord : Table → ℕ → ℕ → Bool
+inChord t chord channel = ltb chord (length (t .chords)) && isIn channel (chordAt t chord .channels)
+
+-- message v of a match of the subject is to be told of it
+abbrev pub isTold : Table → List ℕ → ℕ → ℕ → ℕ → Bool
+isTold t channels n subject v = isSync t (channelIn channels n v) && not (eqb v subject)
+
+abbrev pub bit : Bool → ℕ
+bit true = 1
+bit false = 0
+
+-- neither sender is idle, and both have the same own message
+abbrev pub shared : Sender → Sender → Bool
+shared d e = not (isIdle (d .state)) && owns (d .own) e
