@@ -1,24 +1,14 @@
 -- A message written past the last of n is one message more; those before it are as they were.
-use mathlib.Core.Path.{_≡_, refl, ap, _∙_}
-use mathlib.Core.List.{List, [], _∷_, _++_}
-use Prim.Native.Nat.{ℕ, zero, suc, _+_, _<_}
+use mathlib.Core.Path.{_≡_}
+use mathlib.Core.List.{[], _∷_, _++_}
+use Prim.Native.Nat.{ℕ, suc, _<_}
 use native.Mathlib.Omega.{arith}
 use lib.ListN.{length, set}
 use lib.Seq.{getD-set-same, getD-set-other}
-use Rattle.model.specs.Boards.{Message, Sent}
+use Rattle.model.specs.Boards.{Sent}
 use Rattle.model.specs.Adds.{newMessage}
 use Rattle.columns.specs.Columns.{Columns, messageIn, messagesFrom}
-
-messages-same : (c c′ : Columns) (i n : ℕ) → ((j : ℕ) → j < i + n → messageIn c′ j ≡ messageIn c j)
-    → messagesFrom c′ i n ≡ messagesFrom c i n
-messages-same c c′ i zero f = refl
-messages-same c c′ i (suc n) f = cc (f i (omega arith), messages-same c c′ (suc i) n (λ j l. f j (omega arith)))
-
-messages-snoc : (c : Columns) (i n k : ℕ) → i + n ≡ k
-    → messagesFrom c i (suc n) ≡ messagesFrom c i n ++ (messageIn c k ∷ [])
-messages-snoc c i zero k e = let z : i ≡ k = omega arith in rw z
-messages-snoc c i (suc n) k e =
-    ap (λ (r : List Message). messageIn c i ∷ r) (messages-snoc c (suc i) n k (omega arith))
+use Rattle.columns.proofs.ListFrom.{added-from}
 
 -- columns long enough for message n
 pub record Room (c : Columns) (n : ℕ) : Type 0 where
@@ -65,6 +55,4 @@ module _ (c : Columns) (n : ℕ) (x : Sent) where
 
   pub message-added : Room c n
       → messagesFrom (written c n x) 0 (suc n) ≡ messagesFrom c 0 n ++ (newMessage x ∷ [])
-  message-added h =
-      messages-snoc (written c n x) 0 n n (omega arith)
-      ∙ rw (messages-same c (written c n x) 0 n (λ j l. earlier j (omega arith)), at-end h)
+  message-added h = added-from (messageIn c) (messageIn (written c n x)) n (newMessage x) earlier (at-end h)

@@ -8,13 +8,9 @@ use lib.ListN.{length, take, drop, getD, set}
 use lib.Seq.{paste, take-at, drop-at, take-take, take-append-le, length-take-le, take-nil}
 use lib.Seq.{getD-set-same, getD-set-other}
 use Rattle.model.specs.Tables.{Table, size}
-use Rattle.model.specs.Boards.{Match}
+use Rattle.columns.proofs.ListFrom.{added-from}
 use Rattle.columns.specs.MatchColumns.{MatchColumns, matchIn, matchesFrom, matchesOf}
 use Rattle.applies.specs.Writes.{ChordsFit}
-
-pub length-matches : (t : Table) (m : MatchColumns) (k n : ℕ) → length (matchesFrom t m k n) ≡ n
-length-matches t m k zero = refl
-length-matches t m k (suc n) = ap suc (length-matches t m (suc k) n)
 
 -- a part of a list is read off the front that holds it
 take-drop : (a s : ℕ) (l : List ℕ) → take s (drop a l) ≡ drop a (take (a + s) l)
@@ -42,17 +38,6 @@ module _ (d : List ℕ) (at : ℕ) (s : List ℕ) (n : ℕ) (h : at ≤ length d
       ∙ take-append-le k (take n s) (drop (at + n) d) (omega (arith, length-take-le n s l))
       ∙ take-take k n s g
 
-module _ (t : Table) (m : MatchColumns) where
-  matches-same : (m′ : MatchColumns) (i n : ℕ) → ((j : ℕ) → j < i + n → matchIn t m′ j ≡ matchIn t m j)
-      → matchesFrom t m′ i n ≡ matchesFrom t m i n
-  matches-same m′ i zero f = refl
-  matches-same m′ i (suc n) f = cc (f i (omega arith), matches-same m′ (suc i) n (λ j l. f j (omega arith)))
-
-  matches-snoc : (i n k : ℕ) → i + n ≡ k → matchesFrom t m i (suc n) ≡ matchesFrom t m i n ++ (matchIn t m k ∷ [])
-  matches-snoc i zero k e = let z : i ≡ k = omega arith in rw z
-  matches-snoc i (suc n) k e =
-      ap (λ (r : List Match). matchIn t m i ∷ r) (matches-snoc (suc i) n k (omega arith))
-
 module _ (t : Table) (m : MatchColumns) (k chord : ℕ) (chosen : List ℕ) (few : ChordsFit t)
     (eight : length chosen ≡ 8) (hc : k < length (m .chords)) (hm : 8 * k + 8 ≤ length (m .messages)) where
   abbrev pub recorded : MatchColumns
@@ -75,6 +60,4 @@ module _ (t : Table) (m : MatchColumns) (k chord : ℕ) (chosen : List ℕ) (few
 
   pub match-added : matchesFrom t recorded 0 (suc k)
       ≡ matchesFrom t m 0 k ++ (record { chord = chord; messages = take (size t chord) chosen } ∷ [])
-  match-added =
-      matches-snoc t recorded 0 k k (omega arith)
-      ∙ rw (matches-same t m recorded 0 k (λ j l. before j (omega arith)), at-end)
+  match-added = added-from (matchIn t m) (matchIn t recorded) k _ before at-end

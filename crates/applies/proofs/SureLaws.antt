@@ -5,7 +5,8 @@ use lib.ListN.{length}
 use Rattle.model.specs.Tables.{Table}
 use Rattle.model.proofs.SoundFrame.{TurnIn, InRange}
 use Rattle.columns.specs.Columns.{Columns, messagesFrom}
-use Rattle.columns.specs.MatchColumns.{MatchColumns}
+use Rattle.columns.specs.MatchColumns.{MatchColumns, matchIn}
+use Rattle.columns.proofs.ListFrom.{length-from}
 use Rattle.columns.proofs.Messages.{length-messages}
 use Rattle.state.specs.declared.Turn as DU
 use Rattle.state.specs.declared.Turn.the-variants as U
@@ -16,7 +17,6 @@ use Rattle.state.specs.Views.{turnIn, changeIn}
 use Rattle.boards.specs.declared.Board as DB
 use Rattle.boards.specs.Boards.{boardIn}
 use Rattle.applies.specs.Writes.{WakerFits, Sure}
-use Rattle.applies.proofs.MatchLaws.{length-matches}
 
 module _ (t : Table) (b : DB.Board) (c : Columns) (m : MatchColumns) (few : b .messages ≤ 1024) where
   under : (n : ℕ) → n < length (messagesFrom c 0 (b .messages)) → n < b .messages
@@ -33,5 +33,5 @@ module _ (t : Table) (b : DB.Board) (c : Columns) (m : MatchColumns) (few : b .m
       → Sure (b .messages) (b .matches) g
   in-range-sure j G.None r = tt
   in-range-sure j (G.Turn n u) r = (under n (r .0), waker-fits u (r .1))
-  in-range-sure j (G.Record n) r = (under n (r .0), omega (arith, r .1, length-matches t m 0 (b .matches)))
+  in-range-sure j (G.Record n) r = (under n (r .0), omega (arith, r .1, length-from (matchIn t m) 0 (b .matches)))
   in-range-sure j (G.Signal n) r = omega (arith, under n r)

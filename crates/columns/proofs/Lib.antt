@@ -1,3 +1,4 @@
 -- Laws of messages by columns, and of the walks over them.
+pub mod ListFrom
 pub mod Messages
 pub mod Walks

@@ -1,28 +1,22 @@
 -- Laws of messages by columns.
-use mathlib.Core.Path.{_≡_, refl, ap, sym, _∙_}
+use mathlib.Core.Path.{_≡_, refl, ap, sym}
 use mathlib.Core.List.{[], _∷_}
 use Prim.Native.Nat.{ℕ, zero, suc, _+_, _-_, _<_, _≤_}
 use mathlib.Core.Bool.{_&&_, not}
 use lib.Dec.{eqb, ltb, leb}
 use lib.ListN.{length, getD}
-use native.Mathlib.Numerals.{add-one}
 use native.Mathlib.Omega.{arith}
 use borrow.Author.Tests.{ne-eqb, le-ltb, le-leb}
 use Rattle.model.specs.Boards.{Message, noMessage, isPending, isClaimed, isConsumed, isOpen}
 use Rattle.columns.specs.Columns.{Columns, statusOf, messageIn, messagesFrom}
+use Rattle.columns.proofs.ListFrom.{length-from, nth-from, left-from, none-from}
 
 pub length-messages : (c : Columns) (i n : ℕ) → length (messagesFrom c i n) ≡ n
-length-messages c i zero = refl
-length-messages c i (suc n) = ap suc (length-messages c (suc i) n)
-
-nth-from : (c : Columns) (i n k : ℕ) → k < n → getD (messagesFrom c i n) k noMessage ≡ messageIn c (i + k)
-nth-from c i zero k h = absurd (omega arith)
-nth-from c i (suc n) zero h = ap (messageIn c) (omega arith)
-nth-from c i (suc n) (suc k) h = rw (nth-from c (suc i) n k (omega arith)) (ap (messageIn c) (omega arith))
+length-messages c = length-from (messageIn c)
 
 -- the k-th of n messages
 pub nth-message : (c : Columns) (n k : ℕ) → k < n → getD (messagesFrom c 0 n) k noMessage ≡ messageIn c k
-nth-message c n k h = let z : 0 + k ≡ k = omega arith in nth-from c 0 n k h ∙ ap (messageIn c) z
+nth-message c = nth-from (messageIn c) noMessage
 
 pub nth-channel : (c : Columns) (n k : ℕ) → k < n
     → getD (messagesFrom c 0 n) k noMessage .sent .channel ≡ getD (c .channels) k 0
@@ -32,14 +26,10 @@ nth-channel c n k h = ap (λ (x : Message). x .sent .channel) (nth-message c n k
 -- what is left of n messages from number i on
 pub left-step : (c : Columns) (i n : ℕ) → i < n
     → messagesFrom c i (n - i) ≡ messageIn c i ∷ messagesFrom c (i + 1) (n - (i + 1))
-left-step c i n h =
-    let e : n - i ≡ suc (n - (i + 1)) = omega arith in
-    rw (e, add-one i)
+left-step c = left-from (messageIn c)
 
 pub left-none : (c : Columns) (i n : ℕ) → n ≤ i → messagesFrom c i (n - i) ≡ []
-left-none c i n h =
-    let e : n - i ≡ 0 = omega arith in
-    rw e
+left-none c = none-from (messageIn c)
 
 -- the status that a byte stands for
 pub pending-is : (s : ℕ) → isPending (statusOf s) ≡ eqb s 0

@@ -32,10 +32,13 @@ messageIn c n = record {
   waker = getD (c .wakers) n 0;
 }
 
--- n messages from number i on
+-- n elements, from number i on
+abbrev pub listFrom : {A : Type 0} → (ℕ → A) → ℕ → ℕ → List A
+listFrom f i zero = []
+listFrom f i (suc n) = f i ∷ listFrom f (suc i) n
+
 abbrev pub messagesFrom : Columns → ℕ → ℕ → List Message
-messagesFrom c i zero = []
-messagesFrom c i (suc n) = messageIn c i ∷ messagesFrom c (suc i) n
+messagesFrom c i n = listFrom (messageIn c) i n
 
 abbrev pub columnsOf : List ℕ → List ℕ → List ℤ → List ℕ → List ℕ → List ℕ → Columns
 columnsOf channels properties cents statuses matched wakers = record {

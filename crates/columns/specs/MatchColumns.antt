@@ -1,10 +1,11 @@
 -- The lent matches, flat, as the model's matches: a chord a match, and eight message numbers a match, of which those
 -- past the chord's size may hold anything.
-use mathlib.Core.List.{List, [], _∷_}
-use Prim.Native.Nat.{ℕ, zero, suc, _*_}
+use mathlib.Core.List.{List}
+use Prim.Native.Nat.{ℕ, _*_}
 use lib.ListN.{getD, take, drop}
 use Rattle.model.specs.Tables.{Table, size}
 use Rattle.model.specs.Boards.{Match}
+use Rattle.columns.specs.Columns.{listFrom}
 
 pub record MatchColumns : Type 0 where
   pub chords : List ℕ
@@ -19,7 +20,5 @@ matchIn t m k = record {
   messages = take (size t (getD (m .chords) k 0)) (drop (8 * k) (m .messages));
 }
 
--- n matches from number k on
 abbrev pub matchesFrom : Table → MatchColumns → ℕ → ℕ → List Match
-matchesFrom t m k zero = []
-matchesFrom t m k (suc n) = matchIn t m k ∷ matchesFrom t m (suc k) n
+matchesFrom t m k n = listFrom (matchIn t m) k n

@@ -1,8 +1,8 @@
 -- What a board that was judged holds of its columns: a message, a match, and all that a read of the match takes for
 -- granted.
-use mathlib.Core.Path.{_≡_, refl, ap, sym, subst⁻¹, _∙_}
+use mathlib.Core.Path.{_≡_, ap, sym, subst⁻¹}
 use mathlib.Core.Bool.{true}
-use Prim.Native.Nat.{ℕ, zero, suc, _+_, _*_, _<_, _≤_}
+use Prim.Native.Nat.{ℕ, _+_, _*_, _<_, _≤_}
 use native.Mathlib.Omega.{arith}
 use lib.IntN.{ℤ, pos}
 use lib.ListN.{length, getD}
@@ -11,30 +11,19 @@ use Rattle.model.specs.Boards.{Message, Match, noMatch, messageAt, matchAt}
 use Rattle.model.specs.Adds.{centsOk}
 use Rattle.model.proofs.SoundFacts.{SoundBoard, MatchFacts}
 use Rattle.columns.specs.Columns.{Columns, messageIn}
-use Rattle.columns.specs.MatchColumns.{MatchColumns, matchIn, matchesFrom}
+use Rattle.columns.specs.MatchColumns.{MatchColumns, matchIn}
+use Rattle.columns.proofs.ListFrom.{length-from, nth-from}
 use Rattle.columns.proofs.Messages.{length-messages, nth-message}
 use Rattle.boards.specs.declared.Board as DB
 use Rattle.boards.specs.Boards.{boardIn}
 use Rattle.reads.specs.Reads.{Readable}
-
-length-matches : (t : Table) (m : MatchColumns) (i n : ℕ) → length (matchesFrom t m i n) ≡ n
-length-matches t m i zero = refl
-length-matches t m i (suc n) = ap suc (length-matches t m (suc i) n)
-
-nth-match : (t : Table) (m : MatchColumns) (i n k : ℕ) → k < n
-    → getD (matchesFrom t m i n) k noMatch ≡ matchIn t m (i + k)
-nth-match t m i zero k h = absurd (omega arith)
-nth-match t m i (suc n) zero h = ap (matchIn t m) (omega arith)
-nth-match t m i (suc n) (suc k) h = rw (nth-match t m (suc i) n k (omega arith)) (ap (matchIn t m) (omega arith))
 
 module _ (t : Table) (b : DB.Board) (c : Columns) (m : MatchColumns) where
   pub message-at : (n : ℕ) → n < b .messages → messageIn c n ≡ messageAt (boardIn t b c m) n
   message-at n h = sym (nth-message c (b .messages) n h)
 
   pub match-at : (k : ℕ) → k < b .matches → matchIn t m k ≡ matchAt (boardIn t b c m) k
-  match-at k h =
-      let z : 0 + k ≡ k = omega arith in
-      sym (nth-match t m 0 (b .matches) k h ∙ ap (matchIn t m) z)
+  match-at k h = sym (nth-from (matchIn t m) noMatch (b .matches) k h)
 
   pub cents-at : (n : ℕ) → n < b .messages → messageAt (boardIn t b c m) n .sent .cents ≡ getD (c .cents) n (pos 0)
   unfolding messageIn
@@ -53,4 +42,4 @@ module _ (t : Table) (b : DB.Board) (c : Columns) (m : MatchColumns) where
     where
       f : MatchFacts t (boardIn t b c m) (matchIn t m k)
       f = subst⁻¹ (λ (x : Match). MatchFacts t (boardIn t b c m) x) (match-at k h)
-          (s .match-at k (rw (length-matches t m 0 (b .matches)) h))
+          (s .match-at k (rw (length-from (matchIn t m) 0 (b .matches)) h))
