@@ -22,7 +22,6 @@ use Rattle.model.proofs.Matches.{Unmatched}
 use Rattle.model.proofs.Obligation.{Meets}
 use Rattle.model.proofs.PoolLaws.{one-distinct, channels-true, true-channels, distinct-one}
 use Rattle.model.proofs.Cents.{centsIn}
-use Rattle.model.proofs.Adds as A
 
 abbrev pub sentOf : Board → ℕ → Sent
 sentOf b n = messageAt b n .sent

@@ -1,7 +1,7 @@
 -- Table bytes (01, "Table bytes"): refusals 1 to 7 in their order, the table read and written, a chord's channels as a
 -- part.
 use mathlib.Core.Path.{_≡_}
-use mathlib.Core.Bool.{Bool, true, false, _&&_}
+use mathlib.Core.Bool.{Bool, true, _&&_}
 use mathlib.Core.List.{List, [], _∷_, _++_}
 use Prim.Native.Nat.{ℕ, zero, suc, _+_, _*_, _/_, _%_, _<_}
 use lib.Dec.{eqb, ltb, leb}

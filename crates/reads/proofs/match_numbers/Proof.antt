@@ -3,7 +3,7 @@ use mathlib.Core.Path.{_≡_}
 use Prim.Native.Nat.{_≤_, _+_, _-_, _*_}
 use lib.ListN.{getD}
 use native.Mathlib.Omega.{arith}
-use Rattle.columns.specs.MatchColumns.{matchIn, matchesOf}
+use Rattle.columns.specs.MatchColumns.{matchIn}
 use Rattle.model.proofs.TableLaws.{size-few}
 use borrow.Author.Needs.{needs}
 use Rattle.reads.proofs.match_numbers.Statement.{statement}
