@@ -1,0 +1,3 @@
+-- Laws of what every board call tests first.
+pub mod Parts
+pub mod Refusals

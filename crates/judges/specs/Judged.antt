@@ -1,0 +1,51 @@
+-- What every board call tests first, on any bytes and numbers (01, "Refused, by place": "every board call, first: 30,
+-- lent list not 1,024 records, or board not sound").
+use mathlib.Core.Path.{_≡_}
+use mathlib.Core.Bool.{Bool, _&&_}
+use mathlib.Core.List.{List, [], _∷_}
+use Prim.Native.Nat.{ℕ}
+use lib.Dec.{eqb, leb}
+use lib.ListN.{length, take}
+use Rattle.model.specs.Basics.{allOf, every, unless, firstOf}
+use Rattle.model.specs.Layout.{tableRefusal, tableOf}
+use Rattle.model.specs.Sound.{sound}
+use Rattle.columns.specs.Columns.{Columns}
+use Rattle.columns.specs.MatchColumns.{MatchColumns}
+use Rattle.boards.specs.Boards.{boardIn}
+use Rattle.boards.specs.declared.Board as DB
+
+-- "lent list not 1,024 records": each column of messages has 1,024, and the matches have 1,024 chords, with eight
+-- messages each
+unfoldable pub lentOk : Columns → MatchColumns → Bool
+lentOk c m =
+    allOf
+    (eqb (length (c .channels)) 1024 ∷
+    eqb (length (c .properties)) 1024 ∷
+    eqb (length (c .cents)) 1024 ∷
+    eqb (length (c .statuses)) 1024 ∷
+    eqb (length (c .matched)) 1024 ∷
+    eqb (length (c .wakers)) 1024 ∷
+    eqb (length (m .chords)) 1024 ∷
+    eqb (length (m .messages)) 8192 ∷ [])
+
+-- the first n bytes are statuses: a byte over 3 is none
+unfoldable pub statusesOk : ℕ → List ℕ → Bool
+statusesOk n s = every (λ x. leb x 3) (take n s)
+
+-- the reader's numbers for the table, then "30, lent list not 1,024 records, or board not sound"
+unfoldable pub boardRefusal : List ℕ → DB.Board → Columns → MatchColumns → ℕ
+boardRefusal s b c m =
+    firstOf (tableRefusal s)
+    (unless (lentOk c m) 30
+    (unless (statusesOk (b .messages) (c .statuses) && sound (tableOf s) (boardIn (tableOf s) b c m)) 30 0))
+
+-- the lengths of lent columns that are accepted
+pub record Lengths (c : Columns) (m : MatchColumns) : Type 0 where
+  pub channels-len : length (c .channels) ≡ 1024
+  pub properties-len : length (c .properties) ≡ 1024
+  pub cents-len : length (c .cents) ≡ 1024
+  pub statuses-len : length (c .statuses) ≡ 1024
+  pub matched-len : length (c .matched) ≡ 1024
+  pub wakers-len : length (c .wakers) ≡ 1024
+  pub chords-len : length (m .chords) ≡ 1024
+  pub messages-len : length (m .messages) ≡ 8192

@@ -1,0 +1,2 @@
+-- What every board call tests first.
+pub mod Judged

@@ -1,0 +1,3 @@
+pub mod MessageReads
+pub mod ReadyLaws
+pub mod StateSteps

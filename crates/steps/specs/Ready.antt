@@ -1,0 +1,42 @@
+-- What a sound board gives to a step of one sender, and what a step reads of its messages.
+use mathlib.Core.Path.{_≡_}
+use mathlib.Core.Bool.{Bool, true, false}
+use mathlib.Core.List.{List}
+use Prim.Native.Nat.{ℕ, _-_, _<_, _≤_}
+use lib.ListN.{length, getD}
+use Rattle.model.specs.Tables.{Table, isSync}
+use Rattle.model.specs.Boards.{messageAt, channelOf, isConsumed}
+use Rattle.model.proofs.SoundFacts.{SenderFacts}
+use Rattle.columns.specs.Columns.{Unread, boardBy, Lent}
+use Rattle.state.specs.declared.Sender as DD
+use Rattle.state.specs.declared.State as DS
+use Rattle.state.specs.declared.State.the-variants as S
+use Rattle.state.specs.Views.{senderIn}
+use Rattle.steps.specs.declared.Seen as DV
+
+-- the sender's facts on a board of n messages and count matches, by the columns; of the rest of the board only the
+-- number of matches is used
+pub record Ready (t : Table) (channels properties statuses : List ℕ) (n count : ℕ) (d : DD.Sender) : Type 0 where
+  pub others : Unread
+  pub counted : length (others .matches) ≡ count
+  pub few : count ≤ 1024
+  pub lent : Lent n channels properties statuses
+  pub known : (i : ℕ) → i < n → getD channels i 0 < length (t .kinds)
+  pub facts : SenderFacts t (boardBy channels properties statuses n others) (senderIn t d)
+
+-- what the end of a job reads, on every board with these columns
+pub record Saw (t : Table) (channels statuses : List ℕ) (n : ℕ) (d : DD.Sender) (v : DV.Seen)
+    (properties : List ℕ) (o : Unread) : Type 0 where
+  pub sync-is : isSync t (channelOf (boardBy channels properties statuses n o) (d .own - 1)) ≡ v .sync
+  pub channel-is : channelOf (boardBy channels properties statuses n o) (d .waker - 1) ≡ v .channel
+  pub consumed-is : isConsumed (messageAt (boardBy channels properties statuses n o) (d .waker - 1) .status)
+      ≡ v .consumed
+
+-- whether a sender may step: it is at work, or blocked with a signal
+abbrev pub stepsIn : DS.State → Bool → Bool
+stepsIn S.Idle signalled = false
+stepsIn S.Working signalled = true
+stepsIn S.Blocked signalled = signalled
+
+abbrev pub canStep : DD.Sender → Bool
+canStep d = stepsIn (d .state) (d .signalled)

@@ -1,0 +1,182 @@
+// One step of a sender that is at work, or blocked with a signal, as an effect.
+ghost use mathlib.Core.Path.{_≡_};
+ghost use mathlib.Core.Bool.{true, false};
+ghost use mathlib.Core.List.{List};
+ghost use Prim.Native.Nat.{ℕ, _<_, _≤_};
+ghost use lib.Dec.{eqb};
+ghost use lib.ListN.{length, getD};
+ghost use Rattle.model.specs.Tables as MT;
+ghost use Rattle.model.specs.Boards as MB;
+ghost use Rattle.model.specs.Boards.{builtinBackoffs};
+ghost use Rattle.model.specs.Effects.{does, refused};
+ghost use Rattle.model.specs.Layout.{tableRefusal, tableOf};
+ghost use Rattle.model.specs.Steps as MS;
+ghost use Rattle.columns.specs.Columns.{Unread, boardBy};
+ghost use Rattle.state.specs.declared.State.the-variants as S;
+ghost use Rattle.state.specs.Views.{phaseIn, jobIn, senderIn, effectIn};
+ghost use Rattle.steps.specs.Ready.{Ready, Saw, canStep};
+use state::Change;
+use state::Effect;
+use state::Phase;
+use state::Said;
+use state::Sender;
+use state::State;
+
+// What the end of a job reads: whether the own message's channel is synchronous, the waker's channel, and whether the
+// waker is consumed.
+struct Seen {
+    sync: bool,
+    channel: u8,
+    consumed: bool,
+}
+
+// Reads the own message and the waker, or the first message where there is none.
+fn sees(table: &[u8], d: Sender, n: u16, channels: &[u8], statuses: &[u8]) -> Seen
+    requires { ⌜ (tableRefusal (now table) ≡ 0) × (1 ≤ n) × (d .own ≤ n) × (d .waker ≤ n) ⌝ }
+    requires { ⌜ (n ≤ length (now channels)) × (n ≤ length (now statuses)) ⌝ }
+    requires { ⌜ ((i : ℕ) → i < n → getD (now channels) i 0 < length (tableOf (now table) .kinds)) ⌝ }
+    ensures { λ r. ⌜ ((properties : List ℕ) (o : Unread) → Saw (tableOf (now (table .entry)))
+        (now (channels .entry)) (now (statuses .entry)) n d r properties o) ⌝ }
+{
+    let own = state::less(d.own) as usize;
+    let waker = state::less(d.waker) as usize;
+    let sync = chords::is_sync(table, channels[own]);
+    Seen {
+        sync: sync,
+        channel: channels[waker],
+        consumed: 3 <= statuses[waker],
+    }
+}
+
+// Whether the k-th chosen message is pending.
+fn is_pending(d: Sender, k: u8, statuses: &[u8]) -> bool
+    requires { ⌜ (k < 8) × (getD (d .job .chosen) k 0 < length (now statuses)) ⌝ }
+    ensures { λ r. ⌜ r ≡ eqb (getD (now (statuses .entry)) (getD (d .job .chosen) k 0) 0) 0 ⌝ }
+{
+    let j = d.job;
+    let m = j.chosen[k as usize];
+    statuses[m as usize] == 0
+}
+
+// The effect of a step of a sender at work, by its job's phase.
+pub fn job_step(
+    table: &[u8],
+    d: Sender,
+    n: u16,
+    count: u16,
+    channels: &[u8],
+    properties: &[u32],
+    statuses: &[u8],
+) -> Effect
+    requires { ⌜ (tableRefusal (now table) ≡ 0) × (d .state ≡ S.Working) ⌝ }
+    requires { ⌜ Ready (tableOf (now table)) (now channels) (now properties) (now statuses) n count d ⌝ }
+    ensures { λ r. ⌜ ((o : Unread) → length (o .matches) ≡ count → o .backoffs ≡ builtinBackoffs
+        → effectIn (tableOf (now (table .entry))) r ≡ MS.job-step (tableOf (now (table .entry)))
+        (boardBy (now (channels .entry)) (now (properties .entry)) (now (statuses .entry)) n o)
+        (senderIn (tableOf (now (table .entry))) d) (jobIn (tableOf (now (table .entry))) (d .job))
+        (phaseIn (d .job .phase))) ⌝ }
+{
+    let j = d.job;
+    let at = j.subject as usize;
+    let channel = channels[at];
+    let opened = statuses[at] < 2;
+    let v = sees(table, d, n, channels, statuses);
+    let phase = j.phase;
+    match phase {
+        Phase::Look(k) => looks::look_step(table, d, k, n, channels, properties, statuses),
+        Phase::Claim(k) => {
+            claims::claim_step(table, d, k, channel, count, is_pending(d, k, statuses))
+        }
+        Phase::Revert(k, m) => ends::revert_step(table, d, k, m, channel),
+        Phase::Consume(k, m) => {
+            consumes::consume_step(table, d, k, m, n, channels, v.sync, v.channel, v.consumed)
+        }
+        Phase::Tell(k) => {
+            consumes::tell_step(table, d, k, n, channels, v.sync, v.channel, v.consumed)
+        }
+        Phase::Wake => wakes::wake_step(table, d),
+        Phase::Free(k) => wakes::free_step(table, d, k),
+        Phase::Signal => wakes::signal_step(table, d, v.sync, v.channel, v.consumed),
+        Phase::PassEnd => {
+            ends::pass_end_step(table, d, channel, opened, v.sync, v.channel, v.consumed)
+        }
+        Phase::Backoff(rests) => ends::backoff_step(table, d, rests, channel),
+    }
+}
+
+// The effect of a step of a blocked sender with a signal, by its own message.
+pub fn blocked_step(
+    table: &[u8],
+    d: Sender,
+    n: u16,
+    channels: &[u8],
+    statuses: &[u8],
+    matched: &[u16],
+    wakers: &[u16],
+) -> Effect
+    requires { ⌜ (tableRefusal (now table) ≡ 0) × (1 ≤ d .own) × (d .own ≤ n) ⌝ }
+    requires { ⌜ (n ≤ length (now channels)) × (n ≤ length (now statuses))
+        × (n ≤ length (now matched)) × (n ≤ length (now wakers)) ⌝ }
+    ensures { λ r. ⌜ ((properties : List ℕ) (o : Unread) → o .matched ≡ now (matched .entry)
+        → o .wakers ≡ now (wakers .entry) → effectIn (tableOf (now (table .entry))) r
+        ≡ MS.resume-step (tableOf (now (table .entry)))
+        (boardBy (now (channels .entry)) properties (now (statuses .entry)) n o)
+        (senderIn (tableOf (now (table .entry))) d)) ⌝ }
+{
+    let own = state::less(d.own) as usize;
+    resumes::resume_step(
+        table,
+        d,
+        statuses[own],
+        matched[own],
+        wakers[own],
+        channels[own],
+    )
+}
+
+// Whether a sender may step: it is at work, or blocked with a signal.
+pub fn can_step(d: Sender) -> bool
+    ensures { λ r. ⌜ (r ≡ canStep d) × ((t : MT.Table) (b : MB.Board) → r ≡ false
+        → MS.stateStep t b (senderIn t d) (senderIn t d .state) ≡ refused 13) ⌝ }
+{
+    let state = d.state;
+    match state {
+        State::Idle => false,
+        State::Working => true,
+        State::Blocked => d.signalled,
+    }
+}
+
+// The effect of a step of a sender that may step.
+pub fn effect_of(
+    table: &[u8],
+    d: Sender,
+    n: u16,
+    count: u16,
+    channels: &[u8],
+    properties: &[u32],
+    statuses: &[u8],
+    matched: &[u16],
+    wakers: &[u16],
+) -> Effect
+    requires { ⌜ (tableRefusal (now table) ≡ 0) × (canStep d ≡ true) ⌝ }
+    requires { ⌜ Ready (tableOf (now table)) (now channels) (now properties) (now statuses) n count d ⌝ }
+    requires { ⌜ (n ≤ length (now matched)) × (n ≤ length (now wakers)) ⌝ }
+    ensures { λ r. ⌜ ((o : Unread) → length (o .matches) ≡ count → o .backoffs ≡ builtinBackoffs
+        → o .matched ≡ now (matched .entry) → o .wakers ≡ now (wakers .entry)
+        → MS.stateStep (tableOf (now (table .entry)))
+        (boardBy (now (channels .entry)) (now (properties .entry)) (now (statuses .entry)) n o)
+        (senderIn (tableOf (now (table .entry))) d) (senderIn (tableOf (now (table .entry))) d .state)
+        ≡ does (effectIn (tableOf (now (table .entry))) r)) ⌝ }
+{
+    let state = d.state;
+    match state {
+        State::Idle => Effect {
+            said: Said::Refused(13),
+            change: Change::None,
+            sender: d,
+        },
+        State::Working => job_step(table, d, n, count, channels, properties, statuses),
+        State::Blocked => blocked_step(table, d, n, channels, statuses, matched, wakers),
+    }
+}
