@@ -1,41 +1,20 @@
 -- The refusals of an add, by what the code reads of the board.
-use mathlib.Core.Path.{_≡_, refl}
-use mathlib.Core.Bool.{false}
+use mathlib.Core.Path.{_≡_}
 use mathlib.Core.List.{[]}
 use Prim.Native.Nat.{ℕ}
 use lib.Dec.{ltb}
 use lib.ListN.{length, getD, List·getD-map}
 use Rattle.model.specs.Basics.{unless}
 use Rattle.model.specs.Tables.{Table}
-use Rattle.model.specs.Boards.{Sent, Job, isIdle}
+use Rattle.model.specs.Boards.{Sent}
 use Rattle.model.specs.Adds.{addRefusal, centsOk}
 use Rattle.columns.specs.Columns.{Columns}
 use Rattle.columns.specs.MatchColumns.{MatchColumns}
 use Rattle.columns.proofs.Messages.{length-messages}
-use Rattle.state.specs.declared.Phase.the-variants as P
-use Rattle.state.specs.declared.State as DS
-use Rattle.state.specs.declared.State.the-variants as S
-use Rattle.state.specs.declared.Sender as DD
-use Rattle.state.specs.Views.{senderIn, stateIn, idleIs}
+use Rattle.state.specs.Views.{senderIn, idleIs}
 use Rattle.boards.specs.declared.Board as DB
 use Rattle.boards.specs.Boards.{boardIn}
-
--- what the code reads past the last sender
-abbrev pub zeroSender : DD.Sender
-zeroSender = record {
-  state = S.Idle;
-  signalled = false;
-  own = 0;
-  waker = 0;
-  reply = 0;
-  matched = 0;
-  job = record { subject = 0; chord = 0; phase = P.Look 0; chosen = []; retry = false; retries = 0 };
-}
-
-idle-is : (s : DS.State) (w : Job) → isIdle (stateIn s w) ≡ idleIs s
-idle-is S.Idle w = refl
-idle-is S.Working w = refl
-idle-is S.Blocked w = refl
+use Rattle.boards.proofs.SenderLaws.{zeroSender, idle-is}
 
 pub refusal-is : (t : Table) (b : DB.Board) (c : Columns) (m : MatchColumns) (i : ℕ) (x : Sent)
     → addRefusal t (boardIn t b c m) i x ≡ unless (ltb i 32) 8
