@@ -1,0 +1,3 @@
+-- Laws of the reads.
+pub mod ReadLaws
+pub mod AcceptedLaws

@@ -1,0 +1,2 @@
+-- What the reads answer on any bytes and numbers.
+pub mod Answers
