@@ -2,7 +2,7 @@
 use mathlib.Core.Path.{_≡_, refl}
 use mathlib.Core.Bool.{true, _&&_}
 use mathlib.Core.List.{List}
-use Prim.Native.Nat.{ℕ, zero, suc}
+use Prim.Native.Nat.{ℕ, zero, suc, _≤_}
 use native.Mathlib.Omega.{arith}
 use borrow.Author.Tests.{eqb-true}
 use lib.Dec.{eqb}
@@ -11,8 +11,11 @@ use Rattle.model.specs.Basics.{firstOf}
 use Rattle.model.specs.Layout.{tableRefusal, tableOf}
 use Rattle.model.specs.Sound.{sound}
 use Rattle.model.proofs.Tests.{both, unless-none}
+use Rattle.model.proofs.SoundFacts.{SoundBoard, sound-facts}
 use Rattle.columns.specs.Columns.{Columns}
-use Rattle.columns.specs.MatchColumns.{MatchColumns}
+use Rattle.columns.specs.MatchColumns.{MatchColumns, matchIn}
+use Rattle.columns.proofs.ListFrom.{length-from}
+use Rattle.columns.proofs.Messages.{length-messages}
 use Rattle.boards.specs.Boards.{boardIn}
 use Rattle.boards.specs.declared.Board as DB
 use Rattle.judges.specs.Judged.{lentOk, statusesOk, boardRefusal, Lengths}
@@ -66,3 +69,12 @@ module _ (s : List ℕ) (b : DB.Board) (c : Columns) (m : MatchColumns) (e : boa
 
   pub board-sound : sound (tableOf s) (boardIn (tableOf s) b c m) ≡ true
   board-sound = both {t = statusesOk (b .messages) (c .statuses)} (three .2) .1
+
+  pub sound-board : SoundBoard (tableOf s) (boardIn (tableOf s) b c m)
+  sound-board = sound-facts (tableOf s) (boardIn (tableOf s) b c m) board-sound
+
+  pub messages-few : b .messages ≤ 1024
+  messages-few = omega (arith, length-messages c 0 (b .messages), sound-board .messages-few)
+
+  pub matches-few : b .matches ≤ 1024
+  matches-few = omega (arith, length-from (matchIn (tableOf s) m) 0 (b .matches), sound-board .matches-few)

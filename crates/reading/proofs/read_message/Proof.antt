@@ -6,10 +6,10 @@ use Rattle.model.specs.Layout.{tableOf}
 use Rattle.columns.specs.Columns.{Columns, columnsOf}
 use Rattle.columns.specs.MatchColumns.{MatchColumns, matchesOf}
 use Rattle.judges.specs.Judged.{boardRefusal}
-use Rattle.judges.proofs.Refusals.{lent-whole}
+use Rattle.judges.proofs.Refusals.{lent-whole, messages-few}
 use Rattle.reads.proofs.BoardLaws.{message-at}
 use Rattle.reading.proofs.ReadLaws.{message-refused, message-none, message-is}
-use Rattle.reading.proofs.AcceptedLaws.{messages-few, status-known}
+use Rattle.reading.proofs.AcceptedLaws.{status-known}
 use borrow.Author.Needs.{needs}
 use Rattle.reading.proofs.read_message.Statement.{statement}
 use Rattle.reading.proofs.read_message.Tie as tie

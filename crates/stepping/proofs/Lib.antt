@@ -1,0 +1,2 @@
+-- Laws of a step of a sender, on a board that its first tests accept.
+pub mod Stepping

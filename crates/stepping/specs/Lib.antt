@@ -1,0 +1,2 @@
+-- What a step answers.
+pub mod Stepped
