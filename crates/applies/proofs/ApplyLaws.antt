@@ -10,6 +10,7 @@ use Rattle.model.specs.Boards.{noMessage}
 use Rattle.model.specs.Effects.{turned, apply, messagesAfter, matchesAfter, sendersAfter}
 use Rattle.columns.specs.Columns.{Columns, messagesFrom, columnsOf}
 use Rattle.columns.specs.MatchColumns.{MatchColumns, matchesOf}
+use Rattle.state.specs.declared.Change as DG
 use Rattle.state.specs.declared.Turn as DU
 use Rattle.state.specs.declared.Turn.the-variants as U
 use Rattle.state.specs.declared.Change.the-variants as G
@@ -18,7 +19,7 @@ use Rattle.state.specs.Views.{turnIn, effectIn}
 use Rattle.boards.specs.declared.Board as DB
 use Rattle.boards.specs.Boards.{boardIn}
 use Rattle.boards.proofs.SenderLaws.{set-sender}
-use Rattle.applies.specs.Writes.{ChordsFit, statusBy, matchBy, wakerBy, signalledBy}
+use Rattle.applies.specs.Writes.{statusesBy, matchedBy, wakersBy, ChordsFit, statusBy, matchBy, wakerBy, signalledBy}
 use Rattle.applies.specs.Writes.{boardWith, boardMatched}
 use Rattle.applies.proofs.TurnLaws.{turn-is}
 use Rattle.applies.proofs.MatchLaws.{match-added}
@@ -80,3 +81,9 @@ module _ (t : Table) (b : DB.Board) (i : ℕ) (e : DE.Effect) (c : Columns) (m :
       add-one (b .matches),
       match-added t m (b .matches) (e .sender .job .chord) (e .sender .job .chosen) few eight hc hd,
     )
+
+-- the message columns of a change, by what it is
+pub columns-by : (g h : DG.Change) (st st′ ma ma′ wa wa′ : List ℕ) → g ≡ h
+    → (st′ ≡ statusesBy h st) × (ma′ ≡ matchedBy h ma) × (wa′ ≡ wakersBy h wa)
+    → (st′ ≡ statusesBy g st) × (ma′ ≡ matchedBy g ma) × (wa′ ≡ wakersBy g wa)
+columns-by g h st st′ ma ma′ wa wa′ e x = rw e x

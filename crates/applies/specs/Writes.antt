@@ -3,6 +3,7 @@ use mathlib.Core.Bool.{_&&_, _||_, not}
 use mathlib.Core.List.{List}
 use Prim.Native.Nat.{ℕ, _+_, _<_, _≤_}
 use lib.Dec.{eqb}
+use lib.ListN.{getD, set}
 use Rattle.model.specs.Tables.{Table, size}
 use Rattle.state.specs.declared.Turn as DU
 use Rattle.state.specs.declared.Turn.the-variants as U
@@ -37,6 +38,25 @@ wakerBy U.Frees w = w
 wakerBy (U.Consumes k) w = w
 wakerBy (U.WakesBy h) w = h + 1
 wakerBy U.Resumes w = w
+
+-- the message columns after a change, byte for byte: nothing else is written to them
+abbrev pub statusesBy : DG.Change → List ℕ → List ℕ
+statusesBy G.None s = s
+statusesBy (G.Turn n u) s = set s n (statusBy u)
+statusesBy (G.Record n) s = set s n 1
+statusesBy (G.Signal n) s = s
+
+abbrev pub matchedBy : DG.Change → List ℕ → List ℕ
+matchedBy G.None s = s
+matchedBy (G.Turn n u) s = set s n (matchBy u (getD s n 0))
+matchedBy (G.Record n) s = set s n (getD s n 0)
+matchedBy (G.Signal n) s = s
+
+abbrev pub wakersBy : DG.Change → List ℕ → List ℕ
+wakersBy G.None s = s
+wakersBy (G.Turn n u) s = set s n (wakerBy u (getD s n 0))
+wakersBy (G.Record n) s = set s n (getD s n 0)
+wakersBy (G.Signal n) s = s
 
 -- a waker is a message
 abbrev pub WakerFits : DU.Turn → Type 0

@@ -13,7 +13,7 @@ ghost use Rattle.columns.specs.MatchColumns.{MatchColumns, matchesOf};
 ghost use Rattle.state.specs.Views.{senderIn, effectIn, idleIs};
 ghost use Rattle.boards.specs.Boards.{boardIn};
 ghost use Rattle.applies.specs.Writes.{ChordsFit, statusBy, matchBy, wakerBy, WakerFits};
-ghost use Rattle.applies.specs.Writes.{Sure, signalledBy, boardWith, boardMatched};
+ghost use Rattle.applies.specs.Writes.{statusesBy, matchedBy, wakersBy, Sure, signalledBy, boardWith, boardMatched};
 use boards::Board;
 use state::Change;
 use state::Effect;
@@ -195,6 +195,9 @@ pub fn apply(
         (columnsOf channels properties cents (now (statuses .entry)) (now (matched .entry)) (now (wakers .entry)))
         (matchesOf (now (chords .entry)) (now (messages .entry))))
         i (effectIn t e)) ⌝ }
+    ensures { λ _. ⌜ (now (statuses .exit) ≡ statusesBy (e .change) (now (statuses .entry)))
+        × (now (matched .exit) ≡ matchedBy (e .change) (now (matched .entry)))
+        × (now (wakers .exit) ≡ wakersBy (e .change) (now (wakers .entry))) ⌝ }
 {
     let d = e.sender;
     let n = with_sender(b, i, d);

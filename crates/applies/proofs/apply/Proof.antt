@@ -8,8 +8,9 @@ use native.Mathlib.Omega.{arith}
 use Rattle.columns.specs.Columns.{Columns, columnsOf}
 use Rattle.columns.specs.MatchColumns.{MatchColumns, matchesOf}
 use Rattle.state.specs.declared.Change as DG
+use Rattle.state.specs.declared.Change.the-variants as G
 use Rattle.state.specs.declared.Turn.the-variants as U
-use Rattle.applies.proofs.ApplyLaws.{apply-none, apply-turn, apply-record, apply-signal}
+use Rattle.applies.proofs.ApplyLaws.{columns-by, apply-none, apply-turn, apply-record, apply-signal}
 use Rattle.applies.proofs.apply.Statement.{statement}
 use Rattle.applies.proofs.apply.Tie as tie
 use Rattle.applies.specs.Writes.{Sure, WakerFits}
@@ -62,9 +63,11 @@ returns : tie.Need-returns
 returns c =
     let w = c .before .before in
     let s = start w in
-    let a = s .args in
-    λ t ch pr ce f. apply-none t (a .b) (a .i) (a .e) (columns s ch pr ce) (matches s) _ (w .with-sender .ensures)
-    (c .enum-told .given .1)
+    let a = s .args in (
+      λ t ch pr ce f. apply-none t (a .b) (a .i) (a .e) (columns s ch pr ce) (matches s) _ (w .with-sender .ensures)
+          (c .enum-told .given .1),
+      columns-by (a .e .change) G.None _ _ _ _ _ _ (c .enum-told .given .1) (refl, refl, refl),
+    )
 
 -- src/lib.rt:223:22
 enum-known-c : tie.Need-enum-known-c
@@ -99,10 +102,12 @@ returns-2 c =
     let a = s .args in
     let u = in-turn k in
     let g = k .c .given in
-    let p = n .turn-message .ensures in
-    λ t ch pr ce f. apply-turn t (a .b) (a .i) (a .e) (columns s ch pr ce) (matches s) _ (w .with-sender .ensures)
-    (g .0 .0) (g .0 .1 .0) _ _ _ (p .0) (p .1) (p .2)
-    (u .0) (omega (arith, u .0)) (omega (arith, u .0)) (omega (arith, u .0)) (g .1)
+    let p = n .turn-message .ensures in (
+      λ t ch pr ce f. apply-turn t (a .b) (a .i) (a .e) (columns s ch pr ce) (matches s) _ (w .with-sender .ensures)
+          (g .0 .0) (g .0 .1 .0) _ _ _ (p .0) (p .1) (p .2)
+          (u .0) (omega (arith, u .0)) (omega (arith, u .0)) (omega (arith, u .0)) (g .1),
+      columns-by (a .e .change) (G.Turn (g .0 .0) (g .0 .1 .0)) _ _ _ _ _ _ (g .1) (p .0, p .1, p .2),
+    )
 
 -- src/lib.rt:227:24
 enum-known-c-2 : tie.Need-enum-known-c-2
@@ -164,12 +169,14 @@ returns-3 c =
     let a = s .args in
     let u = in-record k in
     let g = k .c2 .given in
-    let p = n .turn-message2 .ensures in
-    λ t ch pr ce f. apply-record t (a .b) (a .i) (a .e) (columns s ch pr ce) (matches s) _ (w .with-sender .ensures)
-    (g .0 .0) U.Claims _ _ _ (p .0) (p .1) (p .2)
-    (u .0) (omega (arith, u .0)) (omega (arith, u .0)) (omega (arith, u .0)) _ _ _ refl (g .1) (c .with-match .ensures)
-    (m .record-match .ensures .0) (m .record-match .ensures .1) f (eight s)
-    (omega (arith, u .1, s .pre .6)) (omega (arith, u .1, s .pre .7))
+    let p = n .turn-message2 .ensures in (
+      λ t ch pr ce f. apply-record t (a .b) (a .i) (a .e) (columns s ch pr ce) (matches s) _ (w .with-sender .ensures)
+          (g .0 .0) U.Claims _ _ _ (p .0) (p .1) (p .2)
+          (u .0) (omega (arith, u .0)) (omega (arith, u .0)) (omega (arith, u .0)) _ _ _ refl (g .1) (c .with-match .ensures)
+          (m .record-match .ensures .0) (m .record-match .ensures .1) f (eight s)
+          (omega (arith, u .1, s .pre .6)) (omega (arith, u .1, s .pre .7)),
+      columns-by (a .e .change) (G.Record (g .0 .0)) _ _ _ _ _ _ (g .1) (p .0, p .1, p .2),
+    )
 
 -- src/lib.rt:234:24
 enum-known-c-3 : tie.Need-enum-known-c-3
@@ -189,9 +196,11 @@ returns-4 c =
     let w = k .before .before in
     let s = start w in
     let a = s .args in
-    let g = k .c3 .given in
-    λ t ch pr ce f. apply-signal t (a .b) (a .i) (a .e) (columns s ch pr ce) (matches s) _ (w .with-sender .ensures)
-    (g .0 .0) _ (g .1) (c .with-signals .ensures)
+    let g = k .c3 .given in (
+      λ t ch pr ce f. apply-signal t (a .b) (a .i) (a .e) (columns s ch pr ce) (matches s) _ (w .with-sender .ensures)
+          (g .0 .0) _ (g .1) (c .with-signals .ensures),
+      columns-by (a .e .change) (G.Signal (g .0 .0)) _ _ _ _ _ _ (g .1) (refl, refl, refl),
+    )
 
 pub apply-spec : {M : Type 1} → statement M
 apply-spec =

@@ -126,7 +126,7 @@ returns c =
     let t = tableOf (a .table .now) in (
       does-says t (a .b) (cols s) (pairs s) (a .i) _ (is-effect q),
       (
-        w .apply .ensures t (a .channels .now) (a .properties .now) (a .cents .now)
+        w .apply .ensures .0 t (a .channels .now) (a .properties .now) (a .cents .now)
             (chords-fit (a .table .now) (table-accepted _ _ _ _ (accepted s)))
             ∙ does-leaves t (a .b) (cols s) (pairs s) (a .i) _ (is-effect q),
         effect-accepted t _ (a .i) _ (is-effect q),
