@@ -1,2 +1,3 @@
 -- What every board call tests first.
 pub mod Judged
+pub mod Calls

@@ -1,0 +1,29 @@
+-- A board as its host holds it, and the calls.
+use mathlib.Core.List.{List}
+use Rattle.model.specs.Tables.{Table}
+use Rattle.model.specs.Boards.{Board}
+use Rattle.model.specs.Pools as MP
+use Rattle.columns.specs.Columns.{Columns}
+use Rattle.columns.specs.MatchColumns.{MatchColumns}
+use Rattle.boards.specs.Boards.{boardIn}
+use Rattle.boards.specs.declared.Board as DB
+use Rattle.boards.specs.declared.Call as DC
+use Rattle.boards.specs.declared.Call.the-variants as C
+
+-- the board, and the columns that the host lends with it
+pub record Held : Type 0 where
+  pub board : DB.Board
+  pub columns : Columns
+  pub matches : MatchColumns
+
+abbrev pub held : DB.Board → Columns → MatchColumns → Held
+held b c m = record { board = b; columns = c; matches = m }
+
+-- as the model's board
+abbrev pub heldIn : Table → Held → Board
+heldIn t h = boardIn t (h .board) (h .columns) (h .matches)
+
+abbrev pub callIn : DC.Call → MP.Call
+callIn (C.Add i channel property cents) =
+    MP.adds i (record { channel = channel; property = property; cents = cents })
+callIn (C.Step i) = MP.steps i
