@@ -1,0 +1,85 @@
+-- The model refuses a call by 8 to 13 and nothing else.
+use mathlib.Core.Path.{_≡_, refl, ap, _∙_}
+use mathlib.Core.Bool.{Bool, true, false}
+use Prim.Native.Nat.{ℕ, zero, suc, _≤_}
+use native.Mathlib.Omega.{arith}
+use lib.Dec.{eqb, leb, ltb}
+use lib.ListN.{length}
+use Rattle.model.specs.Basics.{unless}
+use Rattle.model.specs.Tables.{Table}
+use Rattle.model.specs.Boards.{Board, Sent, Sender, State, idle, working, blocked, senderAt, isIdle}
+use Rattle.model.specs.Effects.{Said, Outcome, refused, does, numberOf, wordOf}
+use Rattle.model.specs.Effects.{Item, Looked, Claimed, Lost, Reverted, Matched, Consumed, Told, Woke, Freed}
+use Rattle.model.specs.Effects.{Signalled, Answered, Refused, Missed, Again, Ended, Rested, Resumed}
+use Rattle.model.specs.Adds.{addRefusal, centsOk}
+use Rattle.model.specs.Steps.{stepBy, stateStep, senderStep, blockedStep}
+use Rattle.model.specs.Pools.{Call, adds, steps, answerTo, addAnswer, stepAnswer}
+use Rattle.model.proofs.Tests.{tests}
+use Rattle.model.proofs.Words.{OutcomeSpeaks, step-speaks}
+
+-- a word that is no refusal has no number
+pub no-number : (x : Said) → eqb (wordOf x) 17 ≡ false → numberOf x ≡ 0
+no-number (Item n) e = refl
+no-number (Looked n) e = refl
+no-number Missed e = refl
+no-number (Claimed n) e = refl
+no-number (Lost n) e = refl
+no-number (Reverted n) e = refl
+no-number (Matched k) e = refl
+no-number (Consumed n) e = refl
+no-number (Told n) e = refl
+no-number (Woke n) e = refl
+no-number (Freed n) e = refl
+no-number (Signalled n) e = refl
+no-number Again e = refl
+no-number Ended e = refl
+no-number Rested e = refl
+no-number (Answered k) e = refl
+no-number Resumed e = refl
+no-number (Refused f) e = absurd (omega tests)
+
+unless-few : (u : Bool) (n next : ℕ) → n ≤ 13 → next ≤ 13 → unless u n next ≤ 13
+unless-few true n next l m = m
+unless-few false n next l m = l
+
+add-few : (t : Table) (b : Board) (i : ℕ) (x : Sent) → addRefusal t b i x ≤ 13
+unfolding addRefusal
+add-few t b i x =
+    unless-few (ltb i 32) 8 _ (omega arith)
+    (unless-few (isIdle (senderAt b i .state)) 9 _ (omega arith)
+    (unless-few (ltb (x .channel) (length (t .kinds))) 10 _ (omega arith)
+    (unless-few (centsOk (x .cents)) 11 _ (omega arith)
+    (unless-few (ltb (length (b .messages)) 1024) 12 0 (omega arith) (omega arith)))))
+
+abbrev Few : Outcome → Type 0
+Few (refused f) = f ≤ 13
+Few (does e) = Unit {0}
+
+step-few : (t : Table) (b : Board) (i : ℕ) → Few (stepBy t b i)
+unfolding stepBy
+step-few t b i = at (leb 32 i)
+  where
+    by-signal : (g : Bool) → Few (blockedStep t b (senderAt b i) g)
+    by-signal false = omega arith
+    by-signal true = tt
+
+    by : (x : State) → Few (stateStep t b (senderAt b i) x)
+    by idle = omega arith
+    by (working w) = tt
+    by blocked = by-signal (senderAt b i .signalled)
+
+    at : (u : Bool) → Few (senderStep t b i u)
+    at true = omega arith
+    at false = by (senderAt b i .state)
+
+pub answer-few : (t : Table) (b : Board) (k : Call) → numberOf (answerTo t b k .said) ≤ 13
+answer-few t b (adds i x) = by (addRefusal t b i x) (add-few t b i x)
+  where
+    by : (n : ℕ) → n ≤ 13 → numberOf (addAnswer t b i x n .said) ≤ 13
+    by zero l = omega arith
+    by (suc f) l = l
+answer-few t b (steps i) = by (stepBy t b i) (step-few t b i) (step-speaks t b i)
+  where
+    by : (o : Outcome) → Few o → OutcomeSpeaks o → numberOf (stepAnswer b i o .said) ≤ 13
+    by (refused f) l s = l
+    by (does e) l s = omega (arith, no-number (e .said) (s .unrefused))

@@ -1,0 +1,2 @@
+-- Public calls one after another.
+pub mod Schedules

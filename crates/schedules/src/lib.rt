@@ -1,0 +1,1 @@
+// No code: what a list of public calls comes to.
