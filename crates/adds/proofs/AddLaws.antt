@@ -4,7 +4,7 @@ use mathlib.Core.List.{List, [], _∷_, _++_}
 use Prim.Native.Nat.{ℕ, _+_, _<_}
 use native.Mathlib.Numerals.{add-one}
 use lib.IntN.{ℤ}
-use lib.ListN.{getD, set}
+use lib.ListN.{length, getD, set}
 use lib.Seq.{getD-append-seam}
 use Rattle.model.specs.Tables.{Table}
 use Rattle.model.specs.Boards.{Message, Sent, noMessage}
@@ -61,9 +61,10 @@ module _ (t : Table) (b : DB.Board) (i : ℕ) (x : Sent) (d : DD.Sender) (c : Co
 
 -- what an add that is not refused has
 pub accepted-in : (t : Table) (b : DB.Board) (i : ℕ) (x : Sent)
-    → ((c : Columns) (m : MatchColumns) → addRefusal t (boardIn t b c m) i x ≡ 0) → (i < 32) × (b .messages < 1024)
+    → ((c : Columns) (m : MatchColumns) → addRefusal t (boardIn t b c m) i x ≡ 0)
+    → (i < 32) × (x .channel < length (t .kinds)) × (b .messages < 1024)
 accepted-in t b i x e =
     let c = columnsOf [] [] [] [] [] [] in
     let m : MatchColumns = record { chords = []; messages = [] } in
     let p = add-accepted t (boardIn t b c m) i x (e c m) in
-    (p .0, rw (length-messages c 0 (b .messages)) at (p .4))
+    (p .0, p .2, rw (length-messages c 0 (b .messages)) at (p .4))

@@ -1,6 +1,5 @@
 -- The refusals of an add, by what the code reads of the board.
 use mathlib.Core.Path.{_≡_}
-use mathlib.Core.List.{[]}
 use Prim.Native.Nat.{ℕ}
 use lib.Dec.{ltb}
 use lib.ListN.{length, getD, List·getD-map}
@@ -12,9 +11,10 @@ use Rattle.columns.specs.Columns.{Columns}
 use Rattle.columns.specs.MatchColumns.{MatchColumns}
 use Rattle.columns.proofs.Messages.{length-messages}
 use Rattle.state.specs.Views.{senderIn, idleIs}
+use Rattle.state.proofs.StateLaws.{idle-is}
 use Rattle.boards.specs.declared.Board as DB
 use Rattle.boards.specs.Boards.{boardIn}
-use Rattle.boards.proofs.SenderLaws.{zeroSender, idle-is}
+use Rattle.boards.proofs.SenderLaws.{zeroSender}
 
 pub refusal-is : (t : Table) (b : DB.Board) (c : Columns) (m : MatchColumns) (i : ℕ) (x : Sent)
     → addRefusal t (boardIn t b c m) i x ≡ unless (ltb i 32) 8

@@ -1,14 +1,14 @@
 // An add: its refusals, and the board and columns after an accepted one.
 ghost use mathlib.Core.Path.{_≡_};
 ghost use mathlib.Core.List.{List};
-ghost use Prim.Native.Nat.{ℕ, _<_};
+ghost use Prim.Native.Nat.{ℕ, _+_, _<_};
 ghost use lib.ListN.{length, getD, set};
 ghost use Rattle.model.specs.Boards as MB;
 ghost use Rattle.model.specs.Layout.{tableRefusal, tableOf};
 ghost use Rattle.model.specs.Adds.{centsOk, addRefusal, newSender, added};
 ghost use Rattle.columns.specs.Columns.{Columns, columnsOf};
 ghost use Rattle.columns.specs.MatchColumns.{MatchColumns};
-ghost use Rattle.state.specs.Views.{senderIn, idleIs};
+ghost use Rattle.state.specs.Views.{senderIn};
 ghost use Rattle.boards.specs.Boards.{boardIn};
 ghost use Rattle.adds.specs.Sends.{sent};
 use boards::Board;
@@ -23,7 +23,7 @@ fn amount_ok(x: i64) -> bool
 }
 
 // The first refusal of an add, in the order checked; 0 for none.
-pub fn add_refusal(table: &[u8], b: Board, i: u8, channel: u8, cents: i64) -> u8
+pub fn add_refusal(table: &[u8], b: Board, i: u16, channel: u16, cents: i64) -> u8
     requires { ⌜ tableRefusal (now table) ≡ 0 ⌝ }
     ensures { λ r. ⌜ ((c : Columns) (m : MatchColumns) (property : ℕ)
         → r ≡ addRefusal (tableOf (now (table .entry))) (boardIn (tableOf (now (table .entry))) b c m) i
@@ -37,7 +37,7 @@ pub fn add_refusal(table: &[u8], b: Board, i: u8, channel: u8, cents: i64) -> u8
     if !state::is_idle(s) {
         return 9;
     }
-    if channel >= table::channels_len(table) {
+    if channel >= (table::channels_len(table) as u16) {
         return 10;
     }
     if !amount_ok(cents) {
@@ -102,8 +102,8 @@ pub fn put_message(
 pub fn add(
     table: &[u8],
     b: Board,
-    i: u8,
-    channel: u8,
+    i: u16,
+    channel: u16,
     property: u32,
     amount: i64,
     channels: &mut [u8],
@@ -125,13 +125,20 @@ pub fn add(
         ≡ added (tableOf (now (table .entry))) (boardIn (tableOf (now (table .entry))) b
         (columnsOf (now (channels .entry)) (now (properties .entry)) (now (cents .entry)) (now (statuses .entry))
         (now (matched .entry)) (now (wakers .entry))) m) i (sent channel property amount)) ⌝ }
-    ensures { λ r. ⌜ now (statuses .exit) ≡ set (now (statuses .entry)) (b .messages) 0 ⌝ }
+    ensures { λ r. ⌜ (now (channels .exit) ≡ set (now (channels .entry)) (b .messages) channel)
+        × (now (properties .exit) ≡ set (now (properties .entry)) (b .messages) property)
+        × (now (cents .exit) ≡ set (now (cents .entry)) (b .messages) amount)
+        × (now (statuses .exit) ≡ set (now (statuses .entry)) (b .messages) 0)
+        × (now (matched .exit) ≡ set (now (matched .entry)) (b .messages) 0)
+        × (now (wakers .exit) ≡ set (now (wakers .entry)) (b .messages) 0) ⌝ }
+    ensures { λ r. ⌜ (r .messages ≡ b .messages + 1) × (r .matches ≡ b .matches) ⌝ }
 {
     let n = b.messages;
-    let d = new_sender(table, n, channel);
+    let low = channel as u8;
+    let d = new_sender(table, n, low);
     put_message(
         n,
-        channel,
+        low,
         property,
         amount,
         channels,

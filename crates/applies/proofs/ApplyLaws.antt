@@ -1,5 +1,5 @@
 -- Each change, written, is the model's board after the step.
-use mathlib.Core.Path.{_≡_}
+use mathlib.Core.Path.{_≡_, refl}
 use mathlib.Core.List.{List, map}
 use Prim.Native.Nat.{ℕ, _+_, _*_, _<_, _≤_}
 use native.Mathlib.Numerals.{add-one}
@@ -19,8 +19,8 @@ use Rattle.state.specs.Views.{turnIn, effectIn}
 use Rattle.boards.specs.declared.Board as DB
 use Rattle.boards.specs.Boards.{boardIn}
 use Rattle.boards.proofs.SenderLaws.{set-sender}
-use Rattle.applies.specs.Writes.{statusesBy, matchedBy, wakersBy, ChordsFit, statusBy, matchBy, wakerBy, signalledBy}
-use Rattle.applies.specs.Writes.{boardWith, boardMatched}
+use Rattle.applies.specs.Writes.{ChordsFit, statusBy, matchBy, wakerBy, signalledBy, boardWith, boardMatched}
+use Rattle.applies.specs.Writes.{statusesBy, matchedBy, wakersBy, chordsBy, matchMessagesBy, matchesBy}
 use Rattle.applies.proofs.TurnLaws.{turn-is}
 use Rattle.applies.proofs.MatchLaws.{match-added}
 use Rattle.applies.proofs.SignalLaws.{signalled-all}
@@ -82,8 +82,36 @@ module _ (t : Table) (b : DB.Board) (i : ℕ) (e : DE.Effect) (c : Columns) (m :
       match-added t m (b .matches) (e .sender .job .chord) (e .sender .job .chosen) few eight hc hd,
     )
 
--- the message columns of a change, by what it is
-pub columns-by : (g h : DG.Change) (st st′ ma ma′ wa wa′ : List ℕ) → g ≡ h
-    → (st′ ≡ statusesBy h st) × (ma′ ≡ matchedBy h ma) × (wa′ ≡ wakersBy h wa)
-    → (st′ ≡ statusesBy g st) × (ma′ ≡ matchedBy g ma) × (wa′ ≡ wakersBy g wa)
-columns-by g h st st′ ma ma′ wa wa′ e x = rw e x
+-- the message columns after a change
+abbrev pub Turned : DG.Change → List ℕ → List ℕ → List ℕ → List ℕ → List ℕ → List ℕ → Type 0
+Turned g st ma wa st′ ma′ wa′ = (st′ ≡ statusesBy g st) × (ma′ ≡ matchedBy g ma) × (wa′ ≡ wakersBy g wa)
+
+-- by what the change is
+pub turned-by : (g h : DG.Change) (st ma wa st′ ma′ wa′ : List ℕ) → g ≡ h → Turned h st ma wa st′ ma′ wa′
+    → Turned g st ma wa st′ ma′ wa′
+turned-by g h st ma wa st′ ma′ wa′ e x = rw e x
+
+-- the match columns and the counts after an effect
+abbrev pub Counted : DB.Board → DE.Effect → MatchColumns → DB.Board → List ℕ → List ℕ → Type 0
+Counted b e m r chords messages =
+    (chords ≡ chordsBy (e .change) (b .matches) (e .sender .job .chord) (m .chords)) ×
+    (messages ≡ matchMessagesBy (e .change) (b .matches) (e .sender .job .chosen) (m .messages)) ×
+    (r .messages ≡ b .messages) × (r .matches ≡ matchesBy (e .change) (b .matches))
+
+-- w is the board with the stepping sender written
+module _ (b : DB.Board) (i : ℕ) (e : DE.Effect) (m : MatchColumns) (w : DB.Board)
+    (q : w ≡ boardWith b (set (b .senders) i (e .sender))) where
+  pub counted-none : e .change ≡ G.None → Counted b e m w (m .chords) (m .messages)
+  counted-none g = rw (q, g) (refl, refl, refl, refl)
+
+  pub counted-turn : (n : ℕ) (u : DU.Turn) → e .change ≡ G.Turn n u → Counted b e m w (m .chords) (m .messages)
+  counted-turn n u g = rw (q, g) (refl, refl, refl, refl)
+
+  pub counted-record : (n : ℕ) (r : DB.Board) (chords messages : List ℕ) → e .change ≡ G.Record n → r ≡ boardMatched w
+      → chords ≡ set (m .chords) (b .matches) (e .sender .job .chord)
+      → messages ≡ paste (m .messages) (8 * b .matches) (e .sender .job .chosen) 8 → Counted b e m r chords messages
+  counted-record n r chords messages g p ec ed = rw (p, q, g) (ec, ed, refl, refl)
+
+  pub counted-signal : (n : ℕ) (r : DB.Board) → e .change ≡ G.Signal n
+      → r ≡ boardWith w (map (signalledBy n) (w .senders)) → Counted b e m r (m .chords) (m .messages)
+  counted-signal n r g p = rw (p, q, g) (refl, refl, refl, refl)

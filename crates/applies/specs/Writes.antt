@@ -1,9 +1,10 @@
 -- What a step's effect writes: to a message's columns, to the match columns, to the senders.
 use mathlib.Core.Bool.{_&&_, _||_, not}
 use mathlib.Core.List.{List}
-use Prim.Native.Nat.{ℕ, _+_, _<_, _≤_}
+use Prim.Native.Nat.{ℕ, _+_, _*_, _<_, _≤_}
 use lib.Dec.{eqb}
 use lib.ListN.{getD, set}
+use lib.Seq.{paste}
 use Rattle.model.specs.Tables.{Table, size}
 use Rattle.state.specs.declared.Turn as DU
 use Rattle.state.specs.declared.Turn.the-variants as U
@@ -57,6 +58,25 @@ wakersBy G.None s = s
 wakersBy (G.Turn n u) s = set s n (wakerBy u (getD s n 0))
 wakersBy (G.Record n) s = set s n (getD s n 0)
 wakersBy (G.Signal n) s = s
+
+-- the match columns after a change, and how many matches there are: match k is written, with its chord and messages
+abbrev pub chordsBy : DG.Change → ℕ → ℕ → List ℕ → List ℕ
+chordsBy G.None k chord s = s
+chordsBy (G.Turn n u) k chord s = s
+chordsBy (G.Record n) k chord s = set s k chord
+chordsBy (G.Signal n) k chord s = s
+
+abbrev pub matchMessagesBy : DG.Change → ℕ → List ℕ → List ℕ → List ℕ
+matchMessagesBy G.None k chosen s = s
+matchMessagesBy (G.Turn n u) k chosen s = s
+matchMessagesBy (G.Record n) k chosen s = paste s (8 * k) chosen 8
+matchMessagesBy (G.Signal n) k chosen s = s
+
+abbrev pub matchesBy : DG.Change → ℕ → ℕ
+matchesBy G.None k = k
+matchesBy (G.Turn n u) k = k
+matchesBy (G.Record n) k = k + 1
+matchesBy (G.Signal n) k = k
 
 -- a waker is a message
 abbrev pub WakerFits : DU.Turn → Type 0

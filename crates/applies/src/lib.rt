@@ -10,10 +10,11 @@ ghost use Rattle.model.specs.Boards as MB;
 ghost use Rattle.model.specs.Effects as ME;
 ghost use Rattle.columns.specs.Columns.{Columns, columnsOf};
 ghost use Rattle.columns.specs.MatchColumns.{MatchColumns, matchesOf};
-ghost use Rattle.state.specs.Views.{senderIn, effectIn, idleIs};
+ghost use Rattle.state.specs.Views.{senderIn, effectIn};
 ghost use Rattle.boards.specs.Boards.{boardIn};
 ghost use Rattle.applies.specs.Writes.{ChordsFit, statusBy, matchBy, wakerBy, WakerFits};
-ghost use Rattle.applies.specs.Writes.{statusesBy, matchedBy, wakersBy, Sure, signalledBy, boardWith, boardMatched};
+ghost use Rattle.applies.specs.Writes.{statusesBy, matchedBy, wakersBy, chordsBy, matchMessagesBy, matchesBy};
+ghost use Rattle.applies.specs.Writes.{Sure, signalledBy, boardWith, boardMatched};
 use boards::Board;
 use state::Change;
 use state::Effect;
@@ -198,6 +199,11 @@ pub fn apply(
     ensures { λ _. ⌜ (now (statuses .exit) ≡ statusesBy (e .change) (now (statuses .entry)))
         × (now (matched .exit) ≡ matchedBy (e .change) (now (matched .entry)))
         × (now (wakers .exit) ≡ wakersBy (e .change) (now (wakers .entry))) ⌝ }
+    ensures { λ r. ⌜ (now (chords .exit)
+        ≡ chordsBy (e .change) (b .matches) (e .sender .job .chord) (now (chords .entry)))
+        × (now (messages .exit)
+        ≡ matchMessagesBy (e .change) (b .matches) (e .sender .job .chosen) (now (messages .entry)))
+        × (r .messages ≡ b .messages) × (r .matches ≡ matchesBy (e .change) (b .matches)) ⌝ }
 {
     let d = e.sender;
     let n = with_sender(b, i, d);

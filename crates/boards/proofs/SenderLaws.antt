@@ -5,12 +5,11 @@ use mathlib.Core.List.{List, [], _∷_, map}
 use Prim.Native.Nat.{ℕ, zero, suc}
 use lib.ListN.{getD, set, List·getD-map}
 use Rattle.model.specs.Tables.{Table}
-use Rattle.model.specs.Boards.{idleSender, Job, isIdle}
+use Rattle.model.specs.Boards.{idleSender}
 use Rattle.state.specs.declared.Phase.the-variants as P
-use Rattle.state.specs.declared.State as DS
 use Rattle.state.specs.declared.State.the-variants as S
 use Rattle.state.specs.declared.Sender as DD
-use Rattle.state.specs.Views.{senderIn, stateIn, idleIs}
+use Rattle.state.specs.Views.{senderIn}
 
 -- what the code reads past the last sender
 abbrev pub zeroSender : DD.Sender
@@ -33,8 +32,3 @@ pub set-sender : (t : Table) (ds : List DD.Sender) (i : ℕ) (d : DD.Sender)
 set-sender t [] i d = refl
 set-sender t (x ∷ xs) zero d = refl
 set-sender t (x ∷ xs) (suc i) d = cc (set-sender t xs i d)
-
-pub idle-is : (s : DS.State) (w : Job) → isIdle (stateIn s w) ≡ idleIs s
-idle-is S.Idle w = refl
-idle-is S.Working w = refl
-idle-is S.Blocked w = refl

@@ -1,10 +1,12 @@
 -- A board as its host holds it, and the calls.
 use mathlib.Core.List.{List}
+use Prim.Native.Nat.{ℕ}
+use lib.IntN.{ℤ}
 use Rattle.model.specs.Tables.{Table}
 use Rattle.model.specs.Boards.{Board}
 use Rattle.model.specs.Pools as MP
-use Rattle.columns.specs.Columns.{Columns}
-use Rattle.columns.specs.MatchColumns.{MatchColumns}
+use Rattle.columns.specs.Columns.{Columns, columnsOf}
+use Rattle.columns.specs.MatchColumns.{MatchColumns, matchesOf}
 use Rattle.boards.specs.Boards.{boardIn}
 use Rattle.boards.specs.declared.Board as DB
 use Rattle.boards.specs.declared.Call as DC
@@ -18,6 +20,11 @@ pub record Held : Type 0 where
 
 abbrev pub held : DB.Board → Columns → MatchColumns → Held
 held b c m = record { board = b; columns = c; matches = m }
+
+-- the same by its columns, in the order of the calls' parameters
+abbrev pub heldBy : DB.Board → List ℕ → List ℕ → List ℤ → List ℕ → List ℕ → List ℕ → List ℕ → List ℕ → Held
+heldBy b channels properties cents statuses matched wakers chords messages =
+    held b (columnsOf channels properties cents statuses matched wakers) (matchesOf chords messages)
 
 -- as the model's board
 abbrev pub heldIn : Table → Held → Board

@@ -1,13 +1,13 @@
 -- How a call comes to say and leave what it should: refused for the board, refused by the model, or carried out.
-use mathlib.Core.Path.{_≡_, refl, sym, ap, _∙_}
+use mathlib.Core.Path.{_≡_, refl, ap, _∙_}
 use mathlib.Core.Logic.{_≢_}
-use mathlib.Core.Bool.{Bool, true, _&&_}
+use mathlib.Core.Bool.{Bool, true}
 use mathlib.Core.List.{List, [], _∷_}
-use Prim.Native.Nat.{ℕ, zero, suc, _<_, _≤_}
+use Prim.Native.Nat.{ℕ, zero, suc, _≤_}
 use native.Mathlib.Omega.{arith}
-use borrow.Author.Tests.{le-leb, eq-eqb}
-use lib.Dec.{eqb, leb}
-use lib.ListN.{length, take, set}
+use borrow.Author.Tests.{le-leb}
+use lib.Dec.{leb}
+use lib.ListN.{take, set}
 use Rattle.model.specs.Basics.{every}
 use Rattle.model.specs.Layout.{tableRefusal, tableOf}
 use Rattle.model.specs.Sound.{sound}
@@ -68,7 +68,7 @@ lengths-ok c m l =
     )
 
 -- what is needed of a board to be accepted
-accepts : (s : List ℕ) (h : Held) → tableRefusal s ≡ 0 → Lengths (h .columns) (h .matches)
+pub accepts : (s : List ℕ) (h : Held) → tableRefusal s ≡ 0 → Lengths (h .columns) (h .matches)
     → statusesOk (h .board .messages) (h .columns .statuses) ≡ true → sound (tableOf s) (boardOf s h) ≡ true
     → refusalOf s h ≡ 0
 unfolding boardRefusal
@@ -93,9 +93,10 @@ module _ (s : List ℕ) (h : Held) where
 
   module _ (k : Call) where
     -- the call is refused for its board
-    pub plays-refused : (f : ℕ) → refusalOf s h ≡ suc f → Plays s h k (Refused (suc f)) h
-    plays-refused f e = record {
-      says = rw e;
+    pub plays-refused : (f : ℕ) → f ≡ refusalOf s h → f ≢ 0 → Plays s h k (Refused f) h
+    plays-refused zero e n = absurd (n refl)
+    plays-refused (suc f) e n = record {
+      says = rw (← e);
       leaves = λ z. absurd (omega (arith, z, e));
       keeps = λ _. refl;
       accepted = λ z. z;

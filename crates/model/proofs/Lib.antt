@@ -9,6 +9,7 @@ pub mod TableLaws
 pub mod Pigeon
 pub mod Chords
 pub mod Words
+pub mod Numbers
 pub mod Frame
 pub mod Grows
 pub mod Passage

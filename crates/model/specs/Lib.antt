@@ -10,5 +10,8 @@ pub mod Steps
 pub mod Adds
 pub mod Sound
 pub mod Pools
+pub mod Lines
+pub mod Printing
+pub mod Sessions
 pub mod Demands
 pub mod Samples

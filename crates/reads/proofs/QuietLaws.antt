@@ -1,5 +1,5 @@
 -- Laws of senders that have no step to take.
-use mathlib.Core.Path.{_≡_, refl}
+use mathlib.Core.Path.{_≡_}
 use mathlib.Core.Bool.{Bool, true, false, not, _&&_}
 use mathlib.Core.List.{List, map}
 use Prim.Native.Nat.{ℕ, suc, _+_, _<_, _≤_}
@@ -9,17 +9,9 @@ use lib.Seq.{drop-cons}
 use Rattle.model.specs.Basics.{every}
 use Rattle.model.specs.Tables.{Table}
 use Rattle.model.specs.Pools.{canStep}
-use Rattle.model.specs.Boards.{Job}
-use Rattle.state.specs.declared.State as DS
-use Rattle.state.specs.declared.State.the-variants as S
 use Rattle.state.specs.declared.Sender as DD
-use Rattle.state.specs.Views.{senderIn, stateIn}
-use Rattle.reads.specs.Reads.{stepsBy}
-
-steps-is : (s : DS.State) (w : Job) (g : Bool) → canStep (stateIn s w) g ≡ stepsBy s g
-steps-is S.Idle w g = refl
-steps-is S.Working w g = refl
-steps-is S.Blocked w g = refl
+use Rattle.state.specs.Views.{senderIn, stepsIn}
+use Rattle.state.proofs.StateLaws.{steps-is}
 
 module _ (t : Table) (ds : List DD.Sender) where
   -- the senders from i on have no step to take
@@ -31,12 +23,12 @@ module _ (t : Table) (ds : List DD.Sender) where
 
 module _ (t : Table) (ds : List DD.Sender) (z : DD.Sender) (i : ℕ) (h : i < length ds) where
   quiet-at : quietFrom t ds i
-      ≡ (not (stepsBy (getD ds i z .state) (getD ds i z .signalled)) && quietFrom t ds (suc i))
+      ≡ (not (stepsIn (getD ds i z .state) (getD ds i z .signalled)) && quietFrom t ds (suc i))
   quiet-at = rw (drop-cons ds i z h, steps-is (getD ds i z .state) _ (getD ds i z .signalled))
 
-  pub quiet-no : stepsBy (getD ds i z .state) (getD ds i z .signalled) ≡ true → quietFrom t ds i ≡ false
+  pub quiet-no : stepsIn (getD ds i z .state) (getD ds i z .signalled) ≡ true → quietFrom t ds i ≡ false
   quiet-no e = rw (quiet-at, e)
 
-  pub quiet-next : stepsBy (getD ds i z .state) (getD ds i z .signalled) ≡ false
+  pub quiet-next : stepsIn (getD ds i z .state) (getD ds i z .signalled) ≡ false
       → quietFrom t ds i ≡ quietFrom t ds (i + 1)
   quiet-next e = rw (quiet-at, e, add-one i)

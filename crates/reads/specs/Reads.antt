@@ -1,6 +1,6 @@
 -- What a read answers as the model's message and match, and what a sound board gives it.
 use mathlib.Core.Path.{_≡_}
-use mathlib.Core.Bool.{Bool, true, false}
+use mathlib.Core.Bool.{true}
 use mathlib.Core.List.{List}
 use Prim.Native.Nat.{ℕ, _+_, _*_, _<_, _≤_}
 use lib.IntN.{ℤ, pos}
@@ -11,8 +11,6 @@ use Rattle.model.specs.Pools.{MatchRead}
 use Rattle.model.specs.Adds.{centsOk}
 use Rattle.columns.specs.Columns.{statusOf}
 use Rattle.columns.specs.MatchColumns.{MatchColumns, matchIn}
-use Rattle.state.specs.declared.State as DS
-use Rattle.state.specs.declared.State.the-variants as S
 use Rattle.reads.specs.declared.MessageRead as DM
 use Rattle.reads.specs.declared.MatchRead as DR
 
@@ -26,12 +24,6 @@ messageOf r = record {
 
 abbrev pub readOf : DR.MatchRead → MatchRead
 readOf r = record { chord = r .chord; messages = take (r .len) (r .messages); cents = r .cents }
-
--- a sender in the state has a step to take, signalled or not
-abbrev pub stepsBy : DS.State → Bool → Bool
-stepsBy S.Idle g = false
-stepsBy S.Working g = true
-stepsBy S.Blocked g = g
 
 -- match k is one of the lent, of a chord of the table
 pub record Held (t : Table) (m : MatchColumns) (k : ℕ) : Type 0 where

@@ -14,7 +14,7 @@ ghost use Rattle.model.specs.Layout.{tableRefusal, tableOf};
 ghost use Rattle.columns.specs.Columns.{messageIn, columnsOf};
 ghost use Rattle.columns.specs.MatchColumns.{matchIn, matchesOf};
 ghost use Rattle.state.specs.Views.{senderIn};
-ghost use Rattle.reads.specs.Reads.{messageOf, readOf, stepsBy, Held, InRange, Readable};
+ghost use Rattle.reads.specs.Reads.{messageOf, readOf, Held, InRange, Readable};
 use state::Sender;
 use state::State;
 
@@ -154,18 +154,6 @@ pub fn match_read(
     }
 }
 
-// Whether a sender has a step to take.
-fn can_step(d: Sender) -> bool
-    ensures { λ r. ⌜ r ≡ stepsBy (d .state) (d .signalled) ⌝ }
-{
-    let s = d.state;
-    match s {
-        State::Idle => false,
-        State::Working => true,
-        State::Blocked => d.signalled,
-    }
-}
-
 // Whether no sender has a step to take.
 pub fn is_quiet(senders: [Sender; 32]) -> bool
     ensures { λ r. ⌜ ((t : Table)
@@ -174,7 +162,7 @@ pub fn is_quiet(senders: [Sender; 32]) -> bool
     let mut i: usize = 0;
     while i < 32 {
         let d = senders[i];
-        if can_step(d) {
+        if state::can_step(d) {
             return false;
         }
         i += 1;

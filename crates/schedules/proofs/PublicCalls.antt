@@ -19,7 +19,7 @@ use Rattle.judges.specs.Calls.{boardOf, refusalOf, Plays}
 use Rattle.judges.proofs.Refusals.{table-accepted}
 use Rattle.reading.proofs.ReadLaws.{match-is, message-is, reply-is, quiet-is}
 use Rattle.schedules.specs.Schedules.{PlaysAll, Is-schedule, Reads-as, Public-calls}
-use Rattle.schedules.proofs.Numbers.{answer-few}
+use Rattle.model.proofs.Numbers.{answer-few}
 
 -- one call on an accepted board says what the model says
 module _ (s : List ℕ) (h : Held) (k : Call) (w : Said) (g : Held) (e : refusalOf s h ≡ 0) (p : Plays s h k w g) where

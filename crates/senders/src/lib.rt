@@ -299,31 +299,14 @@ pub fn sender_ok(table: &[u8], d: Sender, n: u16, matches: u16, channels: &[u8])
     (d.own <= n) & ((d.waker <= n) & ((d.reply <= matches) & ((d.matched <= matches) & state)))
 }
 
-// Whether the state is idle.
-fn is_idle(state: State) -> bool
-    ensures { λ r. ⌜ ((w : MB.Job) → r ≡ MB.isIdle (stateIn state w)) ⌝ }
-{
-    match state {
-        State::Idle => {
-            return true;
-        }
-        State::Working => {
-            return false;
-        }
-        State::Blocked => {
-            return false;
-        }
-    }
-}
-
 // Whether two senders that are not idle have the same own message.
 fn shares(d: Sender, e: Sender) -> bool
     ensures { λ r. ⌜ ((t : MT.Table) → r ≡ shared (senderIn t d) (senderIn t e)) ⌝ }
 {
     let first = d.state;
     let second = e.state;
-    let idle = is_idle(first);
-    let other = is_idle(second);
+    let idle = state::is_idle(first);
+    let other = state::is_idle(second);
     !idle & (!other & (e.own == d.own))
 }
 

@@ -69,6 +69,15 @@ idleIs S.Idle = true
 idleIs S.Working = false
 idleIs S.Blocked = false
 
+-- whether a sender may step: it is at work, or blocked with a signal
+abbrev pub stepsIn : DS.State → Bool → Bool
+stepsIn S.Idle signalled = false
+stepsIn S.Working signalled = true
+stepsIn S.Blocked signalled = signalled
+
+abbrev pub canStep : DD.Sender → Bool
+canStep d = stepsIn (d .state) (d .signalled)
+
 abbrev pub senderIn : Table → DD.Sender → Sender
 senderIn t d = record {
   state = stateIn (d .state) (jobIn t (d .job));

@@ -8,7 +8,7 @@ ghost use Rattle.model.specs.Boards.{Board, Message, noMessage, channelOf, isCo
 ghost use Rattle.model.specs.Jobs as MJ;
 ghost use Rattle.model.specs.Layout.{tableRefusal, tableOf};
 ghost use Rattle.model.specs.Steps as MS;
-ghost use Rattle.state.specs.Views.{jobIn, senderIn, idleIs};
+ghost use Rattle.state.specs.Views.{jobIn, senderIn, idleIs, canStep};
 ghost use Rattle.state.specs.Builders.{inJob, worksBy, inPhase, withRetry, goesIdle, staysBlocked, jobAt};
 
 // Where a job is. The first number is the place: the member that the next step is about, or the rests after the next
@@ -106,6 +106,18 @@ pub fn is_idle(s: State) -> bool
         State::Idle => true,
         State::Working => false,
         State::Blocked => false,
+    }
+}
+
+// Whether a sender may step.
+pub fn can_step(d: Sender) -> bool
+    ensures { λ r. ⌜ r ≡ canStep d ⌝ }
+{
+    let s = d.state;
+    match s {
+        State::Idle => false,
+        State::Working => true,
+        State::Blocked => d.signalled,
     }
 }
 

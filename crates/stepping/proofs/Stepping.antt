@@ -1,5 +1,6 @@
 -- What an accepted board gives to a step of its sender, and what the model answers to each way out of a step.
 use mathlib.Core.Path.{_≡_, refl, sym, subst, ap, _∙_}
+use mathlib.Core.Logic.{_≢_}
 use mathlib.Core.Bool.{Bool, true, false}
 use mathlib.Core.List.{List, [], _∷_, map}
 use Prim.Native.Nat.{ℕ, zero, suc, _<_, _≤_}
@@ -8,17 +9,18 @@ use lib.Dec.{eqb, leb}
 use lib.ListN.{length, getD}
 use native.Mathlib.Omega.{arith}
 use Rattle.model.specs.Tables.{Table, Chord, size, noChord}
-use Rattle.model.specs.Boards.{Board, Sender, builtinBackoffs}
+use Rattle.model.specs.Boards.{Board, Sender, senderAt, builtinBackoffs}
 use Rattle.model.specs.Effects.{Effect, does, refused, apply, numberOf, wordOf}
 use Rattle.model.specs.Effects.{Said, Item, Looked, Claimed, Lost, Reverted, Matched, Consumed, Told, Woke, Freed}
 use Rattle.model.specs.Effects.{Signalled, Answered, Refused, Missed, Again, Ended, Rested, Resumed}
 use Rattle.model.specs.Layout.{tableRefusal, tableOf}
-use Rattle.model.specs.Pools.{answerTo, steps}
+use Rattle.model.specs.Pools.{Call, answerTo, steps}
 use Rattle.model.specs.Steps.{stepBy, stateStep}
 use Rattle.model.proofs.Tests.{tests}
 use Rattle.model.proofs.SoundFacts.{SenderFacts}
 use Rattle.model.proofs.SoundKept.{step-in-range}
 use Rattle.model.proofs.Words.{OutcomeSpeaks, step-speaks}
+use Rattle.model.proofs.Numbers.{no-number}
 use Rattle.model.proofs.TableLaws.{size-few}
 use Rattle.columns.specs.Columns.{Columns, Unread, Lent, messagesFrom}
 use Rattle.columns.specs.MatchColumns.{MatchColumns, matchesFrom, matchIn}
@@ -29,8 +31,11 @@ use Rattle.state.specs.declared.Effect as DE
 use Rattle.state.specs.Views.{senderIn, effectIn}
 use Rattle.boards.specs.Boards.{boardIn}
 use Rattle.boards.specs.declared.Board as DB
+use Rattle.boards.specs.Calls.{Held}
 use Rattle.judges.specs.Judged.{boardRefusal}
+use Rattle.judges.specs.Calls.{boardOf, refusalOf, Plays}
 use Rattle.judges.proofs.Refusals.{lent-whole, board-sound, sound-board, messages-few, matches-few}
+use Rattle.judges.proofs.CallLaws.{plays-nothing}
 use Rattle.steps.specs.Ready.{Ready}
 use Rattle.applies.specs.Writes.{Sure, ChordsFit}
 use Rattle.applies.proofs.SureLaws.{in-range-sure}
@@ -50,55 +55,28 @@ chords-fit s e r = go (leb (suc r) (length (tableOf s .chords))) refl
     go true q = size-few s r e (omega tests)
     go false q = size-past (tableOf s .chords) r (omega tests)
 
-module _ (t : Table) (b : DB.Board) (c : Columns) (m : MatchColumns) (i : ℕ) where
-  abbrev pub whole : Board
-  whole = boardIn t b c m
-
+module _ (t : Table) (b : Board) (i : ℕ) where
   -- sender 32 or more is refused
-  pub past-senders : 32 ≤ i → stepBy t whole i ≡ refused 8
+  pub past-senders : 32 ≤ i → stepBy t b i ≡ refused 8
   unfolding stepBy
   past-senders l = rw (le-leb 32 i l)
 
   -- a sender of the board steps by its state
-  pub by-state : (d : DD.Sender) → SenderIs b i d → i < 32
-      → stepBy t whole i ≡ stateStep t whole (senderIn t d) (senderIn t d .state)
+  pub by-state : (d : Sender) → d ≡ senderAt b i → i < 32 → stepBy t b i ≡ stateStep t b d (d .state)
   unfolding stepBy
-  by-state d at l = rw (lt-leb 32 i l) (sym (ap (λ (x : Sender). stateStep t whole x (x .state)) (at t c m)))
+  by-state d at l = rw (lt-leb 32 i l) (sym (ap (λ (x : Sender). stateStep t b x (x .state)) at))
 
-  -- what is answered to a step that is refused, and to one that has an effect
-  pub refused-says : (f : ℕ) → stepBy t whole i ≡ refused f → Refused f ≡ answerTo t whole (steps i) .said
-  refused-says f e = rw e
-
-  pub refused-leaves : (f : ℕ) → stepBy t whole i ≡ refused f → whole ≡ answerTo t whole (steps i) .board
-  refused-leaves f e = rw e
-
-  pub does-says : (x : Effect) → stepBy t whole i ≡ does x → x .said ≡ answerTo t whole (steps i) .said
+  -- what is answered to a step that has an effect
+  pub does-says : (x : Effect) → stepBy t b i ≡ does x → x .said ≡ answerTo t b (steps i) .said
   does-says x e = rw e
 
-  pub does-leaves : (x : Effect) → stepBy t whole i ≡ does x
-      → apply whole i x ≡ answerTo t whole (steps i) .board
+  pub does-leaves : (x : Effect) → stepBy t b i ≡ does x → apply b i x ≡ answerTo t b (steps i) .board
   does-leaves x e = rw e
 
--- a word that is no refusal has no number
-no-number : (x : Said) → eqb (wordOf x) 17 ≡ false → numberOf x ≡ 0
-no-number (Item n) e = refl
-no-number (Looked n) e = refl
-no-number Missed e = refl
-no-number (Claimed n) e = refl
-no-number (Lost n) e = refl
-no-number (Reverted n) e = refl
-no-number (Matched k) e = refl
-no-number (Consumed n) e = refl
-no-number (Told n) e = refl
-no-number (Woke n) e = refl
-no-number (Freed n) e = refl
-no-number (Signalled n) e = refl
-no-number Again e = refl
-no-number Ended e = refl
-no-number Rested e = refl
-no-number (Answered k) e = refl
-no-number Resumed e = refl
-no-number (Refused f) e = absurd (omega tests)
+-- the call for a step that is refused
+pub refused-plays : (s : List ℕ) (h : Held) → refusalOf s h ≡ 0 → (i f : ℕ)
+    → stepBy (tableOf s) (boardOf s h) i ≡ refused f → Plays s h (steps i) (Refused f) h
+refused-plays s h z i f e = plays-nothing s h (steps i) z (Refused f) (rw e) (rw e)
 
 -- an effect's word is no refusal
 pub effect-accepted : (t : Table) (b : Board) (i : ℕ) (x : Effect) → stepBy t b i ≡ does x
@@ -156,7 +134,7 @@ module _ (s : List ℕ) (b : DB.Board) (c : Columns) (m : MatchColumns) (e : boa
         (q : stateStep t standing (senderIn t d) (senderIn t d .state) ≡ does (effectIn t x)) where
       -- the effect is that of the model's step, and its change is in range
       pub does-it : stepBy t standing i ≡ does (effectIn t x)
-      does-it = by-state t b c m i d at l ∙ q
+      does-it = by-state t standing i (senderIn t d) (at t c m) l ∙ q
 
       pub is-sure : Sure (b .messages) (b .matches) (x .change)
       is-sure =

@@ -1,2 +1,2 @@
--- What a step answers.
+-- The sender that steps.
 pub mod Stepped

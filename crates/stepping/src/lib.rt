@@ -1,25 +1,16 @@
 // A step of a sender: the public call, on any bytes and numbers.
 ghost use mathlib.Core.Path.{_≡_};
-ghost use mathlib.Core.Logic.{_≢_};
 ghost use mathlib.Core.Bool.{true};
-ghost use Prim.Native.Nat.{ℕ, suc, _<_};
-ghost use Rattle.model.specs.Effects.{numberOf};
-ghost use Rattle.model.specs.Effects as ME;
-ghost use Rattle.columns.specs.Columns.{columnsOf};
-ghost use Rattle.columns.specs.MatchColumns.{matchesOf};
-ghost use Rattle.state.specs.Views.{saidIn};
-ghost use Rattle.judges.specs.Judged.{boardRefusal};
-ghost use Rattle.steps.specs.Ready.{canStep};
-ghost use Rattle.stepping.specs.Stepped.{SaysStep, LeavesStep, SenderIs};
+ghost use Prim.Native.Nat.{_<_};
+ghost use Rattle.model.specs.Pools.{steps};
+ghost use Rattle.state.specs.Views.{saidIn, canStep};
+ghost use Rattle.boards.specs.Calls.{heldBy};
+ghost use Rattle.judges.specs.Calls.{refusalOf, Plays};
+ghost use Rattle.stepping.specs.Stepped.{SenderIs};
+use boards::Answer;
 use boards::Board;
 use state::Said;
 use state::Sender;
-
-// A word or a refusal, and the board after it.
-pub struct Answer {
-    pub said: Said,
-    pub board: Board,
-}
 
 // The step of a sender that may step: its effect, written to the board and the columns.
 fn step_sender(
@@ -36,23 +27,17 @@ fn step_sender(
     chords: &mut [u8],
     messages: &mut [u16],
 ) -> Answer
-    requires { ⌜ boardRefusal (now table) b
-        (columnsOf (now channels) (now properties) (now cents) (now statuses) (now matched) (now wakers))
-        (matchesOf (now chords) (now messages)) ≡ 0 ⌝ }
+    requires { ⌜ refusalOf (now table)
+        (heldBy b (now channels) (now properties) (now cents) (now statuses)
+        (now matched) (now wakers) (now chords) (now messages)) ≡ 0 ⌝ }
     requires { ⌜ (i < 32) × (canStep d ≡ true) ⌝ }
     requires { ⌜ SenderIs b i d ⌝ }
-    ensures { λ r. ⌜ SaysStep (now (table .entry)) b
-        (columnsOf (now (channels .entry)) (now (properties .entry)) (now (cents .entry))
-        (now (statuses .entry)) (now (matched .entry)) (now (wakers .entry)))
-        (matchesOf (now (chords .entry)) (now (messages .entry))) i r ⌝ }
-    ensures { λ r. ⌜ LeavesStep (now (table .entry)) b
-        (columnsOf (now (channels .entry)) (now (properties .entry)) (now (cents .entry))
-        (now (statuses .entry)) (now (matched .entry)) (now (wakers .entry)))
-        (matchesOf (now (chords .entry)) (now (messages .entry))) i r
-        (columnsOf (now (channels .entry)) (now (properties .entry)) (now (cents .entry))
-        (now (statuses .exit)) (now (matched .exit)) (now (wakers .exit)))
-        (matchesOf (now (chords .exit)) (now (messages .exit))) ⌝ }
-    ensures { λ r. ⌜ numberOf (saidIn (r .said)) ≡ 0 ⌝ }
+    ensures { λ r. ⌜ Plays (now (table .entry))
+        (heldBy b (now (channels .entry)) (now (properties .entry)) (now (cents .entry)) (now (statuses .entry))
+        (now (matched .entry)) (now (wakers .entry)) (now (chords .entry)) (now (messages .entry)))
+        (steps i) (saidIn (r .said))
+        (heldBy (r .board) (now (channels .entry)) (now (properties .entry)) (now (cents .entry)) (now (statuses .exit))
+        (now (matched .exit)) (now (wakers .exit)) (now (chords .exit)) (now (messages .exit))) ⌝ }
 {
     let n = b.messages;
     let count = b.matches;
@@ -76,10 +61,10 @@ fn step_sender(
 }
 
 // A step on a board that the first tests accept: refused for a sender past the last, or one that may not step.
-fn step_core(
+pub fn step_core(
     table: &[u8],
     b: Board,
-    i: u8,
+    i: u16,
     channels: &[u8],
     properties: &[u32],
     cents: &[i64],
@@ -89,24 +74,15 @@ fn step_core(
     chords: &mut [u8],
     messages: &mut [u16],
 ) -> Answer
-    requires { ⌜ boardRefusal (now table) b
-        (columnsOf (now channels) (now properties) (now cents) (now statuses) (now matched) (now wakers))
-        (matchesOf (now chords) (now messages)) ≡ 0 ⌝ }
-    ensures { λ r. ⌜ SaysStep (now (table .entry)) b
-        (columnsOf (now (channels .entry)) (now (properties .entry)) (now (cents .entry))
-        (now (statuses .entry)) (now (matched .entry)) (now (wakers .entry)))
-        (matchesOf (now (chords .entry)) (now (messages .entry))) i r ⌝ }
-    ensures { λ r. ⌜ LeavesStep (now (table .entry)) b
-        (columnsOf (now (channels .entry)) (now (properties .entry)) (now (cents .entry))
-        (now (statuses .entry)) (now (matched .entry)) (now (wakers .entry)))
-        (matchesOf (now (chords .entry)) (now (messages .entry))) i r
-        (columnsOf (now (channels .entry)) (now (properties .entry)) (now (cents .entry))
-        (now (statuses .exit)) (now (matched .exit)) (now (wakers .exit)))
-        (matchesOf (now (chords .exit)) (now (messages .exit))) ⌝ }
-    ensures { λ r. ⌜ (numberOf (saidIn (r .said)) ≢ 0 → (r .board ≡ b)
-        × (now (statuses .exit) ≡ now (statuses .entry)) × (now (matched .exit) ≡ now (matched .entry))
-        × (now (wakers .exit) ≡ now (wakers .entry)) × (now (chords .exit) ≡ now (chords .entry))
-        × (now (messages .exit) ≡ now (messages .entry))) ⌝ }
+    requires { ⌜ refusalOf (now table)
+        (heldBy b (now channels) (now properties) (now cents) (now statuses)
+        (now matched) (now wakers) (now chords) (now messages)) ≡ 0 ⌝ }
+    ensures { λ r. ⌜ Plays (now (table .entry))
+        (heldBy b (now (channels .entry)) (now (properties .entry)) (now (cents .entry)) (now (statuses .entry))
+        (now (matched .entry)) (now (wakers .entry)) (now (chords .entry)) (now (messages .entry)))
+        (steps i) (saidIn (r .said))
+        (heldBy (r .board) (now (channels .entry)) (now (properties .entry)) (now (cents .entry)) (now (statuses .exit))
+        (now (matched .exit)) (now (wakers .exit)) (now (chords .exit)) (now (messages .exit))) ⌝ }
 {
     if i >= 32 {
         return Answer {
@@ -114,8 +90,9 @@ fn step_core(
             board: b,
         };
     }
-    let d = applies::sender_at(b, i);
-    if !steps::can_step(d) {
+    let k = i as u8;
+    let d = applies::sender_at(b, k);
+    if !state::can_step(d) {
         return Answer {
             said: Said::Refused(13),
             board: b,
@@ -124,7 +101,7 @@ fn step_core(
     step_sender(
         table,
         b,
-        i,
+        k,
         d,
         channels,
         properties,
@@ -141,7 +118,7 @@ fn step_core(
 pub fn step(
     table: &[u8],
     b: Board,
-    i: u8,
+    i: u16,
     channels: &[u8],
     properties: &[u32],
     cents: &[i64],
@@ -151,33 +128,12 @@ pub fn step(
     chords: &mut [u8],
     messages: &mut [u16],
 ) -> Answer
-    ensures { λ r. ⌜ (boardRefusal (now (table .entry)) b
-        (columnsOf (now (channels .entry)) (now (properties .entry)) (now (cents .entry))
-        (now (statuses .entry)) (now (matched .entry)) (now (wakers .entry)))
-        (matchesOf (now (chords .entry)) (now (messages .entry))) ≡ 0
-        → SaysStep (now (table .entry)) b
-        (columnsOf (now (channels .entry)) (now (properties .entry)) (now (cents .entry))
-        (now (statuses .entry)) (now (matched .entry)) (now (wakers .entry)))
-        (matchesOf (now (chords .entry)) (now (messages .entry))) i r
-        × LeavesStep (now (table .entry)) b
-        (columnsOf (now (channels .entry)) (now (properties .entry)) (now (cents .entry))
-        (now (statuses .entry)) (now (matched .entry)) (now (wakers .entry)))
-        (matchesOf (now (chords .entry)) (now (messages .entry))) i r
-        (columnsOf (now (channels .entry)) (now (properties .entry)) (now (cents .entry))
-        (now (statuses .exit)) (now (matched .exit)) (now (wakers .exit)))
-        (matchesOf (now (chords .exit)) (now (messages .exit)))) ⌝ }
-    ensures { λ r. ⌜ ((f : ℕ) → boardRefusal (now (table .entry)) b
-        (columnsOf (now (channels .entry)) (now (properties .entry)) (now (cents .entry))
-        (now (statuses .entry)) (now (matched .entry)) (now (wakers .entry)))
-        (matchesOf (now (chords .entry)) (now (messages .entry))) ≡ suc f
-        → (saidIn (r .said) ≡ ME.Refused (suc f)) × (r .board ≡ b)
-        × (now (statuses .exit) ≡ now (statuses .entry)) × (now (matched .exit) ≡ now (matched .entry))
-        × (now (wakers .exit) ≡ now (wakers .entry)) × (now (chords .exit) ≡ now (chords .entry))
-        × (now (messages .exit) ≡ now (messages .entry))) ⌝ }
-    ensures { λ r. ⌜ (numberOf (saidIn (r .said)) ≢ 0 → (r .board ≡ b)
-        × (now (statuses .exit) ≡ now (statuses .entry)) × (now (matched .exit) ≡ now (matched .entry))
-        × (now (wakers .exit) ≡ now (wakers .entry)) × (now (chords .exit) ≡ now (chords .entry))
-        × (now (messages .exit) ≡ now (messages .entry))) ⌝ }
+    ensures { λ r. ⌜ Plays (now (table .entry))
+        (heldBy b (now (channels .entry)) (now (properties .entry)) (now (cents .entry)) (now (statuses .entry))
+        (now (matched .entry)) (now (wakers .entry)) (now (chords .entry)) (now (messages .entry)))
+        (steps i) (saidIn (r .said))
+        (heldBy (r .board) (now (channels .entry)) (now (properties .entry)) (now (cents .entry)) (now (statuses .exit))
+        (now (matched .exit)) (now (wakers .exit)) (now (chords .exit)) (now (messages .exit))) ⌝ }
 {
     let number = judges::board_refusal(
         table,

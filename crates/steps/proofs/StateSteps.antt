@@ -9,8 +9,7 @@ use Rattle.model.proofs.Tests.{never}
 use Rattle.state.specs.declared.State as DS
 use Rattle.state.specs.declared.State.the-variants as S
 use Rattle.state.specs.declared.Sender as DD
-use Rattle.state.specs.Views.{phaseIn, jobIn, stateIn, senderIn}
-use Rattle.steps.specs.Ready.{stepsIn, canStep}
+use Rattle.state.specs.Views.{phaseIn, jobIn, stateIn, senderIn, stepsIn, canStep}
 
 refused-by : (t : Table) (b : Board) (s : Sender) (w : Job) (x : DS.State) → stepsIn x (s .signalled) ≡ false
     → stateStep t b s (stateIn x w) ≡ refused 13

@@ -1,6 +1,5 @@
 -- What a sound board gives to a step of one sender, and what a step reads of its messages.
 use mathlib.Core.Path.{_≡_}
-use mathlib.Core.Bool.{Bool, true, false}
 use mathlib.Core.List.{List}
 use Prim.Native.Nat.{ℕ, _-_, _<_, _≤_}
 use lib.ListN.{length, getD}
@@ -9,8 +8,6 @@ use Rattle.model.specs.Boards.{messageAt, channelOf, isConsumed}
 use Rattle.model.proofs.SoundFacts.{SenderFacts}
 use Rattle.columns.specs.Columns.{Unread, boardBy, Lent}
 use Rattle.state.specs.declared.Sender as DD
-use Rattle.state.specs.declared.State as DS
-use Rattle.state.specs.declared.State.the-variants as S
 use Rattle.state.specs.Views.{senderIn}
 use Rattle.steps.specs.declared.Seen as DV
 
@@ -31,12 +28,3 @@ pub record Saw (t : Table) (channels statuses : List ℕ) (n : ℕ) (d : DD.Send
   pub channel-is : channelOf (boardBy channels properties statuses n o) (d .waker - 1) ≡ v .channel
   pub consumed-is : isConsumed (messageAt (boardBy channels properties statuses n o) (d .waker - 1) .status)
       ≡ v .consumed
-
--- whether a sender may step: it is at work, or blocked with a signal
-abbrev pub stepsIn : DS.State → Bool → Bool
-stepsIn S.Idle signalled = false
-stepsIn S.Working signalled = true
-stepsIn S.Blocked signalled = signalled
-
-abbrev pub canStep : DD.Sender → Bool
-canStep d = stepsIn (d .state) (d .signalled)

@@ -1,6 +1,6 @@
 // One step of a sender that is at work, or blocked with a signal, as an effect.
 ghost use mathlib.Core.Path.{_≡_};
-ghost use mathlib.Core.Bool.{true, false};
+ghost use mathlib.Core.Bool.{true};
 ghost use mathlib.Core.List.{List};
 ghost use Prim.Native.Nat.{ℕ, _<_, _≤_};
 ghost use lib.Dec.{eqb};
@@ -8,13 +8,13 @@ ghost use lib.ListN.{length, getD};
 ghost use Rattle.model.specs.Tables as MT;
 ghost use Rattle.model.specs.Boards as MB;
 ghost use Rattle.model.specs.Boards.{builtinBackoffs};
-ghost use Rattle.model.specs.Effects.{does, refused};
+ghost use Rattle.model.specs.Effects.{does};
 ghost use Rattle.model.specs.Layout.{tableRefusal, tableOf};
 ghost use Rattle.model.specs.Steps as MS;
 ghost use Rattle.columns.specs.Columns.{Unread, boardBy};
 ghost use Rattle.state.specs.declared.State.the-variants as S;
-ghost use Rattle.state.specs.Views.{phaseIn, jobIn, senderIn, effectIn};
-ghost use Rattle.steps.specs.Ready.{Ready, Saw, canStep};
+ghost use Rattle.state.specs.Views.{phaseIn, jobIn, senderIn, effectIn, canStep};
+ghost use Rattle.steps.specs.Ready.{Ready, Saw};
 use state::Change;
 use state::Effect;
 use state::Phase;
@@ -132,19 +132,6 @@ pub fn blocked_step(
         wakers[own],
         channels[own],
     )
-}
-
-// Whether a sender may step: it is at work, or blocked with a signal.
-pub fn can_step(d: Sender) -> bool
-    ensures { λ r. ⌜ (r ≡ canStep d) × ((t : MT.Table) (b : MB.Board) → r ≡ false
-        → MS.stateStep t b (senderIn t d) (senderIn t d .state) ≡ refused 13) ⌝ }
-{
-    let state = d.state;
-    match state {
-        State::Idle => false,
-        State::Working => true,
-        State::Blocked => d.signalled,
-    }
 }
 
 // The effect of a step of a sender that may step.

@@ -1,11 +1,12 @@
 -- `adds::add` meets its contract: the message and its sender, written, are the model's.
-use mathlib.Core.Path.{_≡_, ap, _∙_}
+use mathlib.Core.Path.{_≡_, refl, ap, _∙_}
 use Prim.Native.Nat.{_<_}
 use native.Mathlib.Omega.{arith}
 use lib.ListN.{length, set, length-map}
 use mir.ValLaws.{toZ-ofZ}
 use mir.Syntax.{w64}
 use Rattle.model.specs.Layout.{tableOf}
+use Rattle.model.proofs.AcceptedChords.{table-ok}
 use Rattle.adds.specs.Sends.{sent}
 use Rattle.columns.specs.Columns.{Columns, columnsOf}
 use Rattle.adds.proofs.MessageLaws.{Room}
@@ -23,7 +24,8 @@ made c = c .before .before .before .before .before .before
 abbrev put : tie.After-slice-known10 → tie.After-put-message
 put c = c .before .before .before .before .before .before .before .before .before .before .before
 
-in-board : (s : tie.Start) → (s .args .i < 32) × (s .args .b .messages < 1024)
+in-board : (s : tie.Start) → (s .args .i < 32)
+    × (s .args .channel < length (tableOf (s .args .table .now) .kinds)) × (s .args .b .messages < 1024)
 in-board s =
     let a = s .args in
     accepted-in (tableOf (a .table .now)) (a .b) (a .i) (sent (a .channel) (a .property) (a .amount)) (s .pre .1 .0)
@@ -39,7 +41,7 @@ entered s =
 
 room : (s : tie.Start) → Room (entered s) (s .args .b .messages)
 room s =
-    let k = in-board s .1 in
+    let k = in-board s .2 in
     let f = s .pre .1 .1 .0 in
     let g = s .pre .1 .1 .1 in
     record {
@@ -51,8 +53,12 @@ room s =
       wakers = omega (arith, g .2);
     }
 
+-- a channel of the table is a byte
+cast-low : tie.Need-cast-low
+cast-low c = let s = start c in omega (arith, in-board s .1, table-ok _ (s .pre .0) .kinds-few)
+
 new-sender-requires : tie.Need-new-sender-requires
-new-sender-requires c κs = let s = start c in (s .pre .0, in-board s .1)
+new-sender-requires c κs = let s = start c in (s .pre .0, in-board s .2)
 
 put-message-requires : tie.Need-put-message-requires
 put-message-requires c κs =
@@ -68,7 +74,7 @@ element-set-from-d c =
     omega (arith, in-board s .0, senders-len s)
 
 add-r : tie.Need-add-r
-add-r c = record { fits = omega (arith, in-board (start (made (put c .before) .before)) .1) }
+add-r c = record { fits = omega (arith, in-board (start (made (put c .before) .before)) .2) }
 
 same-length : tie.Need-same-length
 same-length c = search needs
@@ -95,17 +101,18 @@ returns c =
     let s = start (q .before) in
     let a = s .args in
     let e = p .put-message .ensures in
-    let back = toZ-ofZ w64 (a .amount) (s .fits .amount) in (
+    let cents = e .2 ∙ ap (set (a .cents .now) (a .b .messages)) (toZ-ofZ w64 (a .amount) (s .fits .amount)) in (
       λ m. added-is (tableOf (a .table .now)) (a .b) (a .i) (sent (a .channel) (a .property) (a .amount))
           (q .new-sender .result) (entered s) m (room s) _ _ _ _ _ _ (q .new-sender .ensures)
-          (e .0) (e .1) (e .2 ∙ ap (set (a .cents .now) (a .b .messages)) back) (e .3) (e .4) (e .5),
-      e .3,
+          (e .0) (e .1) cents (e .3) (e .4) (e .5),
+      ((e .0, e .1, cents, e .3, e .4, e .5), (refl, refl)),
     )
 
 pub add-spec : {M : Type 1} → statement M
 add-spec =
     tie.close
     (tie.spec
+    cast-low
     new-sender-requires
     put-message-requires
     mul-d

@@ -74,6 +74,9 @@ returns-2 c =
 channels-len-requires : tie.Need-channels-len-requires
 channels-len-requires c κs = search needs
 
+cast-if3 : tie.Need-cast-if3
+cast-if3 c = search needs
+
 returns-3 : tie.Need-returns-3
 returns-3 c =
     let p = c .before .before in
@@ -136,6 +139,7 @@ add-refusal-spec =
     is-idle-requires
     returns-2
     channels-len-requires
+    cast-if3
     returns-3
     amount-ok-requires
     returns-4

@@ -1,3 +1,4 @@
+-- `applies::apply` meets its contract: each change is written as the model has it, and nothing else is.
 use mathlib.Core.List.{List}
 use mathlib.Core.Path.{_≡_, refl, subst}
 use Prim.Native.Nat.{ℕ, _<_}
@@ -10,7 +11,8 @@ use Rattle.columns.specs.MatchColumns.{MatchColumns, matchesOf}
 use Rattle.state.specs.declared.Change as DG
 use Rattle.state.specs.declared.Change.the-variants as G
 use Rattle.state.specs.declared.Turn.the-variants as U
-use Rattle.applies.proofs.ApplyLaws.{columns-by, apply-none, apply-turn, apply-record, apply-signal}
+use Rattle.applies.proofs.ApplyLaws.{turned-by, apply-none, apply-turn, apply-record, apply-signal}
+use Rattle.applies.proofs.ApplyLaws.{counted-none, counted-turn, counted-record, counted-signal}
 use Rattle.applies.proofs.apply.Statement.{statement}
 use Rattle.applies.proofs.apply.Tie as tie
 use Rattle.applies.specs.Writes.{Sure, WakerFits}
@@ -50,15 +52,12 @@ in-record : (k : tie.After-c2)
     → (k .c2 .given .0 .0 < start-record k .args .b .messages) × (start-record k .args .b .matches < 1024)
 in-record k = let s = start-record k in subst (SureAt s) (k .c2 .given .1) (sure s)
 
--- src/lib.rt:217:9
 with-sender-requires : tie.Need-with-sender-requires
 with-sender-requires c κs = search needs
 
--- src/lib.rt:221:13
 enum-told : tie.Need-enum-told
 enum-told c = search needs
 
--- src/lib.rt:221:13
 returns : tie.Need-returns
 returns c =
     let w = c .before .before in
@@ -66,33 +65,30 @@ returns c =
     let a = s .args in (
       λ t ch pr ce f. apply-none t (a .b) (a .i) (a .e) (columns s ch pr ce) (matches s) _ (w .with-sender .ensures)
           (c .enum-told .given .1),
-      columns-by (a .e .change) G.None _ _ _ _ _ _ (c .enum-told .given .1) (refl, refl, refl),
+      (
+        turned-by (a .e .change) G.None _ _ _ _ _ _ (c .enum-told .given .1) (refl, refl, refl),
+        counted-none (a .b) (a .i) (a .e) (matches s) _ (w .with-sender .ensures) (c .enum-told .given .1),
+      ),
     )
 
--- src/lib.rt:223:22
 enum-known-c : tie.Need-enum-known-c
 enum-known-c c = search needs
 
--- src/lib.rt:224:13
 turn-message-requires : tie.Need-turn-message-requires
 turn-message-requires c κs =
     let k = c .before .before .before .before in
     let u = in-turn k in
     (omega (arith, u .0), omega (arith, u .0), omega (arith, u .0), u .1)
 
--- src/lib.rt:225:13
 same-length : tie.Need-same-length
 same-length c = search needs
 
--- src/lib.rt:225:13
 same-length-2 : tie.Need-same-length-2
 same-length-2 c = search needs
 
--- src/lib.rt:225:13
 same-length-3 : tie.Need-same-length-3
 same-length-3 c = search needs
 
--- src/lib.rt:225:13
 returns-2 : tie.Need-returns-2
 returns-2 c =
     let n = c .before .before .before .before .before .before in
@@ -106,21 +102,21 @@ returns-2 c =
       λ t ch pr ce f. apply-turn t (a .b) (a .i) (a .e) (columns s ch pr ce) (matches s) _ (w .with-sender .ensures)
           (g .0 .0) (g .0 .1 .0) _ _ _ (p .0) (p .1) (p .2)
           (u .0) (omega (arith, u .0)) (omega (arith, u .0)) (omega (arith, u .0)) (g .1),
-      columns-by (a .e .change) (G.Turn (g .0 .0) (g .0 .1 .0)) _ _ _ _ _ _ (g .1) (p .0, p .1, p .2),
+      (
+        turned-by (a .e .change) (G.Turn (g .0 .0) (g .0 .1 .0)) _ _ _ _ _ _ (g .1) (p .0, p .1, p .2),
+        counted-turn (a .b) (a .i) (a .e) (matches s) _ (w .with-sender .ensures) (g .0 .0) (g .0 .1 .0) (g .1),
+      ),
     )
 
--- src/lib.rt:227:24
 enum-known-c-2 : tie.Need-enum-known-c-2
 enum-known-c-2 c = search needs
 
--- src/lib.rt:228:13
 turn-message-requires-2 : tie.Need-turn-message-requires-2
 turn-message-requires-2 c κs =
     let k = c .before .before .before .before in
     let u = in-record k in
     (omega (arith, u .0), omega (arith, u .0), omega (arith, u .0), tt)
 
--- src/lib.rt:231:13
 record-match-requires : tie.Need-record-match-requires
 record-match-requires c κs =
     let n = c .before .before .before .before .before .before .before .before .before .before in
@@ -129,7 +125,6 @@ record-match-requires c κs =
     let u = in-record k in
     (omega (arith, u .1, s .pre .6), omega (arith, u .1, s .pre .7))
 
--- src/lib.rt:232:13
 with-match-requires : tie.Need-with-match-requires
 with-match-requires c κs =
     let m = c .before .before .before .before in
@@ -138,27 +133,21 @@ with-match-requires c κs =
     let w = k .before .before in
     rw (w .with-sender .ensures) (in-record k .1)
 
--- src/lib.rt:232:13
 same-length-4 : tie.Need-same-length-4
 same-length-4 c = search needs
 
--- src/lib.rt:232:13
 same-length-5 : tie.Need-same-length-5
 same-length-5 c = search needs
 
--- src/lib.rt:232:13
 same-length-6 : tie.Need-same-length-6
 same-length-6 c = search needs
 
--- src/lib.rt:232:13
 same-length-7 : tie.Need-same-length-7
 same-length-7 c = search needs
 
--- src/lib.rt:232:13
 same-length-8 : tie.Need-same-length-8
 same-length-8 c = search needs
 
--- src/lib.rt:232:13
 returns-3 : tie.Need-returns-3
 returns-3 c =
     let m = c .before .before .before .before .before in
@@ -172,24 +161,25 @@ returns-3 c =
     let p = n .turn-message2 .ensures in (
       λ t ch pr ce f. apply-record t (a .b) (a .i) (a .e) (columns s ch pr ce) (matches s) _ (w .with-sender .ensures)
           (g .0 .0) U.Claims _ _ _ (p .0) (p .1) (p .2)
-          (u .0) (omega (arith, u .0)) (omega (arith, u .0)) (omega (arith, u .0)) _ _ _ refl (g .1) (c .with-match .ensures)
-          (m .record-match .ensures .0) (m .record-match .ensures .1) f (eight s)
+          (u .0) (omega (arith, u .0)) (omega (arith, u .0)) (omega (arith, u .0)) _ _ _ refl (g .1)
+          (c .with-match .ensures) (m .record-match .ensures .0) (m .record-match .ensures .1) f (eight s)
           (omega (arith, u .1, s .pre .6)) (omega (arith, u .1, s .pre .7)),
-      columns-by (a .e .change) (G.Record (g .0 .0)) _ _ _ _ _ _ (g .1) (p .0, p .1, p .2),
+      (
+        turned-by (a .e .change) (G.Record (g .0 .0)) _ _ _ _ _ _ (g .1) (p .0, p .1, p .2),
+        counted-record (a .b) (a .i) (a .e) (matches s) _ (w .with-sender .ensures) (g .0 .0) _ _ _ (g .1)
+            (c .with-match .ensures) (m .record-match .ensures .0) (m .record-match .ensures .1),
+      ),
     )
 
--- src/lib.rt:234:24
 enum-known-c-3 : tie.Need-enum-known-c-3
 enum-known-c-3 c = search needs
 
--- src/lib.rt:235:13
 with-signals-requires : tie.Need-with-signals-requires
 with-signals-requires c κs =
     let k = c .before in
     let s = start (k .before .before) in
     subst (SureAt s) (k .c3 .given .1) (sure s)
 
--- src/lib.rt:235:13
 returns-4 : tie.Need-returns-4
 returns-4 c =
     let k = c .before .before in
@@ -199,7 +189,11 @@ returns-4 c =
     let g = k .c3 .given in (
       λ t ch pr ce f. apply-signal t (a .b) (a .i) (a .e) (columns s ch pr ce) (matches s) _ (w .with-sender .ensures)
           (g .0 .0) _ (g .1) (c .with-signals .ensures),
-      columns-by (a .e .change) (G.Signal (g .0 .0)) _ _ _ _ _ _ (g .1) (refl, refl, refl),
+      (
+        turned-by (a .e .change) (G.Signal (g .0 .0)) _ _ _ _ _ _ (g .1) (refl, refl, refl),
+        counted-signal (a .b) (a .i) (a .e) (matches s) _ (w .with-sender .ensures) (g .0 .0) _ (g .1)
+            (c .with-signals .ensures),
+      ),
     )
 
 pub apply-spec : {M : Type 1} → statement M

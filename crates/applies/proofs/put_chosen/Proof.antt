@@ -15,39 +15,30 @@ Inv-loop messages₀ at chosen i₀ messages i =
 abbrev μ-loop : tie.MeasureT-loop
 μ-loop messages₀ at chosen i₀ messages i = 8 - i
 
--- src/lib.rt:131:5
 loop-holds : tie.Need-loop-holds Inv-loop μ-loop
 loop-holds c = (search needs, paste-zero (c .args .messages .now) (c .args .at) (c .args .t3), search needs)
 
--- src/lib.rt:132:28
 mul-messages : tie.Need-mul-messages Inv-loop μ-loop
 mul-messages c = search needs
 
--- src/lib.rt:132:28
 array-read-messages : tie.Need-array-read-messages Inv-loop μ-loop
 array-read-messages c = search needs
 
--- src/lib.rt:132:18
 add-messages : tie.Need-add-messages Inv-loop μ-loop
 add-messages c = search needs
 
--- src/lib.rt:132:9
 mul-messages-2 : tie.Need-mul-messages-2 Inv-loop μ-loop
 mul-messages-2 c = search needs
 
--- src/lib.rt:132:9
 slice-write-messages : tie.Need-slice-write-messages Inv-loop μ-loop
 slice-write-messages c = search needs
 
--- src/lib.rt:133:9
 add-i : tie.Need-add-i Inv-loop μ-loop
 add-i c = search needs
 
--- src/lib.rt:131:5
 loop-less : tie.Need-loop-less Inv-loop μ-loop
 loop-less c = search needs
 
--- src/lib.rt:131:5
 loop-again : tie.Need-loop-again Inv-loop μ-loop
 loop-again c =
     let p = c .before in
@@ -60,11 +51,9 @@ loop-again c =
       search needs,
     )
 
--- src/lib.rt:126:1
 same-length : tie.Need-same-length Inv-loop μ-loop
 same-length c = search needs
 
--- src/lib.rt:126:1
 returns : tie.Need-returns Inv-loop μ-loop
 returns c =
     let p = c .before in

@@ -3,15 +3,12 @@ use Rattle.boards.proofs.SenderLaws.{nth-sender}
 use Rattle.applies.proofs.sender_at.Statement.{statement}
 use Rattle.applies.proofs.sender_at.Tie as tie
 
--- src/lib.rt:155:5
 mul-result : tie.Need-mul-result
 mul-result c = search needs
 
--- src/lib.rt:155:5
 element-copy-out-result : tie.Need-element-copy-out-result
 element-copy-out-result c = search needs
 
--- src/lib.rt:149:1
 returns : tie.Need-returns
 returns c = let a = c .before .args in λ t d m. nth-sender t (a .t1 .senders) (a .i)
 

@@ -16,39 +16,30 @@ Inv-loop n r₀ i₀ r i = (i ≤ 32) × (r ≡ map (signalledBy n) (take i r₀
 abbrev μ-loop : tie.MeasureT-loop
 μ-loop n r₀ i₀ r i = 32 - i
 
--- src/lib.rt:117:5
 loop-holds : tie.Need-loop-holds Inv-loop μ-loop
 loop-holds c = search needs
 
--- src/lib.rt:118:17
 mul-d : tie.Need-mul-d Inv-loop μ-loop
 mul-d c = search needs
 
--- src/lib.rt:118:17
 array-copy-out-d : tie.Need-array-copy-out-d Inv-loop μ-loop
 array-copy-out-d c = search needs
 
--- src/lib.rt:119:16
 signalled-requires : tie.Need-signalled-requires Inv-loop μ-loop
 signalled-requires c κs = search needs
 
--- src/lib.rt:119:9
 mul-r : tie.Need-mul-r Inv-loop μ-loop
 mul-r c = search needs
 
--- src/lib.rt:119:9
 array-set-from-r : tie.Need-array-set-from-r Inv-loop μ-loop
 array-set-from-r c = search needs
 
--- src/lib.rt:120:9
 add-i : tie.Need-add-i Inv-loop μ-loop
 add-i c = search needs
 
--- src/lib.rt:117:5
 loop-less : tie.Need-loop-less Inv-loop μ-loop
 loop-less c = search needs
 
--- src/lib.rt:117:5
 loop-again : tie.Need-loop-again Inv-loop μ-loop
 loop-again c =
     let p = c .before .before .before in
@@ -60,7 +51,6 @@ loop-again c =
           (mapped-step (signalledBy (a .n)) _ (a .senders) (p .loop .i) (omega (arith, len))),
     )
 
--- src/lib.rt:111:1
 returns : tie.Need-returns Inv-loop μ-loop
 returns c =
     let p = c .before in

@@ -2,11 +2,9 @@ use borrow.Author.Needs.{needs}
 use Rattle.applies.proofs.with_signals.Statement.{statement}
 use Rattle.applies.proofs.with_signals.Tie as tie
 
--- src/lib.rt:175:9
 signal-all-requires : tie.Need-signal-all-requires
 signal-all-requires c κs = search needs
 
--- src/lib.rt:170:1
 returns : tie.Need-returns
 returns c = rw (c .signal-all .ensures)
 

@@ -1,11 +1,17 @@
 -- `stepping::step` meets its contract: the first refusal, or the step.
-use mathlib.Core.Path.{_≡_, refl, sym, ap, _∙_}
-use Prim.Native.Nat.{suc}
-use native.Mathlib.Omega.{arith}
 use borrow.Author.Needs.{needs}
-use Rattle.model.specs.Effects.{Refused}
+use Rattle.model.specs.Pools.{steps}
+use Rattle.boards.specs.Calls.{Held, heldBy}
+use Rattle.judges.proofs.CallLaws.{plays-refused}
 use Rattle.stepping.proofs.step.Statement.{statement}
 use Rattle.stepping.proofs.step.Tie as tie
+
+-- the board that is lent
+abbrev lent : tie.Start → Held
+lent s =
+    let a = s .args in
+    heldBy (a .b) (a .channels .now) (a .properties .now) (a .cents .now) (a .statuses .now) (a .matched .now)
+    (a .wakers .now) (a .chords .now) (a .messages .now)
 
 board-refusal-requires : tie.Need-board-refusal-requires
 board-refusal-requires c κs = search needs
@@ -27,10 +33,10 @@ same-length-5 c = search needs
 
 returns : tie.Need-returns
 returns c =
-    let e = c .before .board-refusal .ensures in (
-      λ z. absurd (c .if1 .taken (e ∙ z)),
-      (λ f z. (ap Refused (e ∙ z), refl, refl, refl, refl, refl, refl), λ n. (refl, refl, refl, refl, refl, refl)),
-    )
+    let r = c .before in
+    let l = r .before .before .before .before .before .before in
+    let s = l .before .before .before .before .before .before .before .before in
+    plays-refused (s .args .table .now) (lent s) (steps (s .args .i)) _ (r .board-refusal .ensures) (c .if1 .taken)
 
 step-core-requires : tie.Need-step-core-requires
 step-core-requires c κs = search needs
@@ -51,16 +57,7 @@ same-length-10 : tie.Need-same-length-10
 same-length-10 c = search needs
 
 returns-2 : tie.Need-returns-2
-returns-2 c =
-    let w = c .before .before .before .before .before .before .before .before .before .before in
-    let y = w .before .before .before .before .before .before in
-    let e = w .step-core .ensures in (
-      λ z. (e .0, e .1 .0),
-      (
-        λ f z. let q : 0 ≡ suc f = sym (y .if1 .left) ∙ (y .before .board-refusal .ensures ∙ z) in absurd (omega arith),
-        e .1 .1,
-      ),
-    )
+returns-2 c = c .before .before .before .before .before .before .before .before .before .before .step-core .ensures
 
 pub step-spec : {M : Type 1} → statement M
 step-spec =

@@ -1,39 +1,37 @@
 -- `stepping::step_sender` meets its contract: the effect is the model's, and it is written.
-use mathlib.Core.Path.{_≡_, refl, _∙_}
+use mathlib.Core.Path.{_≡_, refl}
 use Prim.Native.Nat.{_≤_}
 use native.Mathlib.Omega.{arith}
 use borrow.Author.Needs.{needs}
+use lib.ListN.{length, length-map}
 use Rattle.model.specs.Effects.{does}
 use Rattle.model.specs.Layout.{tableOf}
 use Rattle.model.specs.Steps.{stepBy, stateStep}
-use Rattle.columns.specs.Columns.{Columns, columnsOf}
-use Rattle.columns.specs.MatchColumns.{MatchColumns, matchesOf, matchIn}
+use Rattle.columns.specs.MatchColumns.{matchIn}
 use Rattle.columns.proofs.ListFrom.{length-from}
 use Rattle.state.specs.Views.{senderIn, effectIn}
-use Rattle.boards.specs.Boards.{boardIn}
-use Rattle.judges.specs.Judged.{boardRefusal, Lengths}
+use Rattle.boards.specs.Calls.{Held, heldBy}
+use Rattle.judges.specs.Judged.{Lengths}
+use Rattle.judges.specs.Calls.{boardOf, refusalOf}
 use Rattle.judges.proofs.Refusals.{table-accepted, lent-whole, messages-few, matches-few}
 use Rattle.applies.specs.Writes.{Sure}
-use Rattle.stepping.proofs.Stepping.{chords-fit, does-says, does-leaves, others}
-use Rattle.stepping.proofs.Stepping.{is-ready, does-it, is-sure, effect-accepted}
+use Rattle.stepping.proofs.Stepping.{chords-fit, others, is-ready, does-it, is-sure}
+use Rattle.stepping.proofs.AfterLaws.{step-plays}
 use Rattle.stepping.proofs.step_sender.Statement.{statement}
 use Rattle.stepping.proofs.step_sender.Tie as tie
 
--- what is lent
-abbrev cols : tie.Start → Columns
-cols s =
+-- the board that is lent
+abbrev lent : tie.Start → Held
+lent s =
     let a = s .args in
-    columnsOf (a .channels .now) (a .properties .now) (a .cents .now) (a .statuses .now) (a .matched .now)
-    (a .wakers .now)
+    heldBy (a .b) (a .channels .now) (a .properties .now) (a .cents .now) (a .statuses .now) (a .matched .now)
+    (a .wakers .now) (a .chords .now) (a .messages .now)
 
-abbrev pairs : tie.Start → MatchColumns
-pairs s = matchesOf (s .args .chords .now) (s .args .messages .now)
-
-accepted : (s : tie.Start) → boardRefusal (s .args .table .now) (s .args .b) (cols s) (pairs s) ≡ 0
+accepted : (s : tie.Start) → refusalOf (s .args .table .now) (lent s) ≡ 0
 accepted s = s .pre .0
 
-lent : (s : tie.Start) → Lengths (cols s) (pairs s)
-lent s = lent-whole _ _ _ _ (accepted s)
+lengths : (s : tie.Start) → Lengths (lent s .columns) (lent s .matches)
+lengths s = lent-whole _ _ _ _ (accepted s)
 
 few : (s : tie.Start) → (s .args .b .messages ≤ 1024) × (s .args .b .matches ≤ 1024)
 few s = (messages-few _ _ _ _ (accepted s), matches-few _ _ _ _ (accepted s))
@@ -46,22 +44,24 @@ start c = c .before .before .before .before .before .before .before .before .bef
 by-effect : (c : tie.After-effect-of)
     → let s = start c in
     let t = tableOf (s .args .table .now) in
-    stateStep t (boardIn t (s .args .b) (cols s) (pairs s)) (senderIn t (s .args .d)) (senderIn t (s .args .d) .state)
+    stateStep t (boardOf (s .args .table .now) (lent s)) (senderIn t (s .args .d)) (senderIn t (s .args .d) .state)
     ≡ does (effectIn t (c .effect-of .result))
 by-effect c =
     let s = start c in
-    let a = s .args in
-    c .effect-of .ensures (others (a .table .now) (a .b) (cols s) (pairs s) (accepted s))
-    (length-from (matchIn (tableOf (a .table .now)) (pairs s)) 0 (a .b .matches)) refl refl refl
+    let t = s .args .table .now in
+    let h = lent s in
+    c .effect-of .ensures (others t (h .board) (h .columns) (h .matches) (accepted s))
+    (length-from (matchIn (tableOf t) (h .matches)) 0 (h .board .matches)) refl refl refl
 
 is-effect : (c : tie.After-effect-of)
     → let s = start c in
-    let t = tableOf (s .args .table .now) in
-    stepBy t (boardIn t (s .args .b) (cols s) (pairs s)) (s .args .i) ≡ does (effectIn t (c .effect-of .result))
+    let t = s .args .table .now in
+    stepBy (tableOf t) (boardOf t (lent s)) (s .args .i) ≡ does (effectIn (tableOf t) (c .effect-of .result))
 is-effect c =
     let s = start c in
     let a = s .args in
-    does-it (a .table .now) (a .b) (cols s) (pairs s) (accepted s) (a .i) (a .d) (s .pre .1 .1)
+    let h = lent s in
+    does-it (a .table .now) (h .board) (h .columns) (h .matches) (accepted s) (a .i) (a .d) (s .pre .1 .1)
     (c .effect-of .result) (s .pre .1 .0 .0) (by-effect c)
 
 effect-sure : (c : tie.After-effect-of)
@@ -70,13 +70,18 @@ effect-sure : (c : tie.After-effect-of)
 effect-sure c =
     let s = start c in
     let a = s .args in
-    is-sure (a .table .now) (a .b) (cols s) (pairs s) (accepted s) (a .i) (a .d) (s .pre .1 .1)
+    let h = lent s in
+    is-sure (a .table .now) (h .board) (h .columns) (h .matches) (accepted s) (a .i) (a .d) (s .pre .1 .1)
     (c .effect-of .result) (s .pre .1 .0 .0) (by-effect c)
+
+-- a job has eight places for messages
+eight : (c : tie.After-effect-of) → length (c .effect-of .result .sender .job .chosen) ≡ 8
+eight c = simp length-map at (c .effect-of .ok .1 .1 .1 .1 .0 .1 .1 .1 .1 .1 .1 .1 .1 .0 .1 .1 .1 .1 .1 .0 .1 .0 .1)
 
 effect-of-requires : tie.Need-effect-of-requires
 effect-of-requires c κs =
     let s = c .before .before .before .before .before .before .before .before .before .before .before in
-    let l = lent s in
+    let l = lengths s in
     let f = few s in (
       (table-accepted _ _ _ _ (accepted s), s .pre .1 .0 .1),
       (
@@ -89,7 +94,7 @@ apply-requires : tie.Need-apply-requires
 apply-requires c κs =
     let q = c .before .before .before .before .before in
     let s = start q in
-    let l = lent s in
+    let l = lengths s in
     let f = few s in (
       s .pre .1 .0 .0,
       f .0,
@@ -123,15 +128,14 @@ returns c =
     let q = w .before .before .before .before .before .before in
     let s = start q in
     let a = s .args in
-    let t = tableOf (a .table .now) in (
-      does-says t (a .b) (cols s) (pairs s) (a .i) _ (is-effect q),
-      (
-        w .apply .ensures .0 t (a .channels .now) (a .properties .now) (a .cents .now)
-            (chords-fit (a .table .now) (table-accepted _ _ _ _ (accepted s)))
-            ∙ does-leaves t (a .b) (cols s) (pairs s) (a .i) _ (is-effect q),
-        effect-accepted t _ (a .i) _ (is-effect q),
-      ),
-    )
+    let t = a .table .now in
+    let e = w .apply .ensures in
+    let k = w .apply .kept .1 .1 .1 in
+    step-plays t (lent s) (accepted s) (a .i) (q .effect-of .result) (is-effect q) (effect-sure q) (eight q)
+    (w .apply .result) _ _ _ _ _ (e .1 .0) (e .1 .1)
+    (e .0 (tableOf t) (a .channels .now) (a .properties .now) (a .cents .now)
+    (chords-fit t (table-accepted _ _ _ _ (accepted s))))
+    (k .0, k .1 .0, k .1 .1 .0, k .1 .1 .1 .0, k .1 .1 .1 .1 .0)
 
 pub step-sender-spec : {M : Type 1} → statement M
 step-sender-spec =

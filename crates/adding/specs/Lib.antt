@@ -1,0 +1,2 @@
+-- The empty board.
+pub mod Opens

@@ -1,0 +1,88 @@
+-- Laws of fields: the first space from a place on, and the line cut there.
+use mathlib.Core.Path.{_≡_, refl}
+use mathlib.Core.Bool.{Bool, true, false}
+use mathlib.Core.List.{List, [], _∷_}
+use Prim.Native.Nat.{ℕ, suc, _+_, _-_, _<_, _≤_}
+use native.Mathlib.Nat.{not-suc-le-zero, le-of-suc-le-suc}
+use native.Mathlib.Numerals.{add-one}
+use native.Mathlib.Omega.{arith}
+use borrow.Author.Tests.{eq-eqb, ne-eqb, ltb-true, ltb-false}
+use lib.Dec.{eqb, ltb}
+use lib.ListN.{length, getD, take, drop, drop-of-length-le, length-drop}
+use lib.Seq.{drop-cons, drop-drop, take-all}
+use Rattle.model.specs.Basics.{firstBy}
+use Rattle.model.specs.Lines.{cutAt, fieldsOf, addBy, stepBy}
+use Rattle.model.specs.Lines.Line.{unreadable}
+use Rattle.lines.specs.Views.{spaceAt}
+
+-- the walk to the first space
+module _ (s : List ℕ) (i : ℕ) where
+  pub space-here : i < length s → getD s i 0 ≡ 32 → spaceAt (drop i s) ≡ 0
+  space-here h e = rw (drop-cons s i 0 h, eq-eqb (getD s i 0) 32 e, firstBy)
+
+  pub space-next : i < length s → (getD s i 0 ≡ 32 → ⊥) → spaceAt (drop i s) ≡ suc (spaceAt (drop (i + 1) s))
+  space-next h e = rw (drop-cons s i 0 h, add-one i, ne-eqb (getD s i 0) 32 e, firstBy)
+
+  pub space-none : length s ≤ i → spaceAt (drop i s) ≡ 0
+  space-none h = rw (drop-of-length-le s h)
+
+-- bytes cut at their first space, or left whole
+cut-more : (xs : List ℕ) → spaceAt xs < length xs
+    → fieldsOf xs ≡ take (spaceAt xs) xs ∷ fieldsOf (drop (suc (spaceAt xs)) xs)
+unfolding cutAt
+cut-more [] h = absurd (not-suc-le-zero h)
+cut-more (x ∷ xs) h = go (eqb x 32) refl h (cut-more xs)
+  where
+    go : (t : Bool) → eqb x 32 ≡ t → spaceAt (x ∷ xs) < length (x ∷ xs)
+        → (spaceAt xs < length xs → fieldsOf xs ≡ take (spaceAt xs) xs ∷ fieldsOf (drop (suc (spaceAt xs)) xs))
+        → fieldsOf (x ∷ xs) ≡ take (spaceAt (x ∷ xs)) (x ∷ xs) ∷ fieldsOf (drop (suc (spaceAt (x ∷ xs))) (x ∷ xs))
+    go true e h ih = rw (e, firstBy)
+    go false e h ih = rw (e, firstBy, ih (le-of-suc-le-suc (rw (e, firstBy) at h)))
+
+cut-last : (xs : List ℕ) → length xs ≤ spaceAt xs → fieldsOf xs ≡ xs ∷ []
+unfolding cutAt
+cut-last [] h = refl
+cut-last (x ∷ xs) h = go (eqb x 32) refl h (cut-last xs)
+  where
+    go : (t : Bool) → eqb x 32 ≡ t → length (x ∷ xs) ≤ spaceAt (x ∷ xs)
+        → (length xs ≤ spaceAt xs → fieldsOf xs ≡ xs ∷ []) → fieldsOf (x ∷ xs) ≡ (x ∷ xs) ∷ []
+    go true e h ih = absurd (not-suc-le-zero (rw (e, firstBy) at h))
+    go false e h ih = rw (e, ih (le-of-suc-le-suc (rw (e, firstBy) at h)))
+
+-- there is a field always
+fields-some : (xs : List ℕ) → (f : List ℕ) × (fs : List (List ℕ)) × (fieldsOf xs ≡ f ∷ fs)
+fields-some xs = go (ltb (spaceAt xs) (length xs)) refl
+  where
+    go : (t : Bool) → ltb (spaceAt xs) (length xs) ≡ t
+        → (f : List ℕ) × (fs : List (List ℕ)) × (fieldsOf xs ≡ f ∷ fs)
+    go true e = (_, _, cut-more xs (ltb-true _ _ e))
+    go false e = (_, _, cut-last xs (ltb-false _ _ e))
+
+-- a field too many
+pub add-more : (d t p c xs : List ℕ) → addBy (d ∷ t ∷ p ∷ c ∷ fieldsOf xs) ≡ unreadable
+add-more d t p c xs = rw (fields-some xs .2)
+
+pub step-more : (d xs : List ℕ) → stepBy (d ∷ fieldsOf xs) ≡ unreadable
+step-more d xs = rw (fields-some xs .2)
+
+-- the field from a place on ends at i, and others follow
+abbrev pub Cut : List ℕ → ℕ → ℕ → Type 0
+Cut s at i = fieldsOf (drop at s) ≡ take (i - at) (drop at s) ∷ fieldsOf (drop (i + 1) s)
+
+-- the field from a place on, where i is the first space or the end
+module _ (s : List ℕ) (at i : ℕ) (l : at ≤ length s) (e : i ≡ at + spaceAt (drop at s)) where
+  left : length (drop at s) ≡ length s - at
+  left = length-drop at s
+
+  pub field-more : i < length s → Cut s at i
+  field-more h =
+      let n : i - at ≡ spaceAt (drop at s) = omega arith in
+      let m : i + 1 ≡ at + suc (spaceAt (drop at s)) = omega arith in
+      rw (n, m, ← drop-drop (suc (spaceAt (drop at s))) at s) (cut-more (drop at s) (omega (arith, left)))
+
+  pub field-last : length s ≤ i → fieldsOf (drop at s) ≡ drop at s ∷ []
+  field-last h = cut-last (drop at s) (omega (arith, left))
+
+-- a part to the end is what is left
+pub to-end : (s : List ℕ) (a : ℕ) → take (length s - a) (drop a s) ≡ drop a s
+to-end s a = take-all (length s - a) (drop a s) (simp length-drop (omega arith))

@@ -1,0 +1,199 @@
+-- Laws of what the line reader answers, one for each way out of it.
+use mathlib.Core.Path.{_≡_, refl, sym}
+use mathlib.Core.Bool.{Bool, true, false, _&&_}
+use mathlib.Core.List.{List, [], _∷_}
+use Prim.Native.Nat.{ℕ, zero, suc, _-_, _<_, _≤_}
+use native.Mathlib.Omega.{arith}
+use borrow.Author.Tests.{lt-ltb, le-leb, lt-leb, ne-eqb, eqb-true}
+use lib.Dec.{eqb, leb, ltb}
+use lib.IntN.{pos, negℤ, _-ℤ_, +ℤ-idl}
+use lib.ListN.{length, getD, drop}
+use mir.Syntax.{w64}
+use mir.Val.{toZ, SFits}
+use Rattle.model.specs.Basics.{pick}
+use Rattle.model.specs.Pools.Call.{adds, steps}
+use Rattle.model.specs.Lines.{cutAt, joined, fieldsOf, isDecimal, valueOf, isNumber, isMagnitude, isMinus}
+use Rattle.model.specs.Lines.{digitsOf, isCents, centsFrom, addOf, addBy, stepOf, stepBy, isByte, lineBy, lineOf}
+use Rattle.model.specs.Lines.Line.{unreadable, reads}
+use Rattle.model.proofs.Tests.{both}
+use Rattle.lines.specs.Views.{plusOne}
+use Rattle.lines.proofs.Digits.{value-18}
+
+-- a number plus 1
+pub plus-none : (c : Bool) (n x : ℕ) → x ≡ plusOne c n → x ≡ 0 → c ≡ false
+unfolding plusOne
+plus-none true n x e z = absurd (omega arith)
+plus-none false n x e z = refl
+
+pub plus-some : (c : Bool) (n x : ℕ) → x ≡ plusOne c n → (x ≡ 0 → ⊥) → (c ≡ true) × (x - 1 ≡ n)
+unfolding plusOne
+plus-some true n x e h = (refl, omega arith)
+plus-some false n x e h = absurd (h e)
+
+and-no : (a : Bool) {u : Bool} → u ≡ false → (a && u) ≡ false
+and-no true e = e
+and-no false e = refl
+
+-- the sign of cents
+pub to-pos : (n : ℕ) → n ≤ 999999999999999999 → toZ w64 n ≡ pos n
+to-pos n h = rw (lt-ltb n 9223372036854775808 (omega arith))
+
+pub minus-is : (n : ℕ) → pos 0 -ℤ pos n ≡ negℤ (pos n)
+minus-is n = +ℤ-idl (negℤ (pos n))
+
+pub minus-fits : (n : ℕ) → n ≤ 999999999999999999 → SFits w64 (negℤ (pos n))
+minus-fits zero h = record { sfits = omega arith }
+minus-fits (suc n) h = record { sfits = omega arith }
+
+pub minus-some : (s : List ℕ) → isMinus s ≡ true → 1 ≤ length s
+minus-some [] e = absurd (omega (arith, eqb-true 0 45 e))
+minus-some (x ∷ xs) e = omega arith
+
+pub minus-none : (s : List ℕ) → length s ≡ 0 → false ≡ isMinus s
+minus-none [] e = refl
+minus-none (x ∷ xs) e = absurd (omega arith)
+
+-- at most 18 digits
+module _ (s : List ℕ) where
+  pub digits-long : 18 < length s → 0 ≡ plusOne (isMagnitude s) (valueOf s)
+  unfolding plusOne
+  digits-long h = rw (and-no (isDecimal s) (lt-leb (length s) 18 h))
+
+  decimal-18 : length s ≤ 18 → isDecimal s ≡ true → valueOf s ≤ 999999999999999999
+  unfolding isDecimal
+  decimal-18 h e = value-18 s h (both {t = ltb 0 (length s)} e .1)
+
+  pub digits-short : length s ≤ 18 → isNumber 999999999999999999 s ≡ isMagnitude s
+  unfolding isNumber
+  digits-short h = go (isDecimal s) refl
+    where
+      go : (t : Bool) → isDecimal s ≡ t
+          → (isDecimal s && leb (valueOf s) 999999999999999999) ≡ (isDecimal s && leb (length s) 18)
+      go true e = rw (le-leb (valueOf s) 999999999999999999 (decimal-18 h e), le-leb (length s) 18 h)
+      go false e = rw e
+
+  -- the digits of cents
+  pub cents-minus : isMinus s ≡ true → plusOne (isMagnitude (drop 1 s)) (valueOf (drop 1 s))
+      ≡ plusOne (isCents s) (valueOf (digitsOf s))
+  unfolding isCents digitsOf
+  cents-minus e = rw e
+
+  pub cents-plain : isMinus s ≡ false → plusOne (isMagnitude s) (valueOf s)
+      ≡ plusOne (isCents s) (valueOf (digitsOf s))
+  unfolding isCents digitsOf
+  cents-plain e = rw e
+
+-- a step
+module _ (d : List ℕ) (x : ℕ) (e : x ≡ plusOne (isNumber 65535 d) (valueOf d)) where
+  pub step-none : x ≡ 0 → unreadable ≡ stepOf d
+  unfolding stepOf
+  step-none z = rw (plus-none (isNumber 65535 d) (valueOf d) x e z)
+
+  pub step-some : (x ≡ 0 → ⊥) → reads (steps (x - 1)) ≡ stepOf d
+  unfolding stepOf
+  step-some h = let p = plus-some (isNumber 65535 d) (valueOf d) x e h in rw (p .0, p .1)
+
+-- an add
+module _ (d t p c : List ℕ) where
+  add-none : (isNumber 65535 d && (isNumber 65535 t && (isNumber 4294967295 p && isCents c))) ≡ false
+      → unreadable ≡ addOf d t p c
+  unfolding addOf
+  add-none e = rw e
+
+  pub no-sender : (x : ℕ) → x ≡ plusOne (isNumber 65535 d) (valueOf d) → x ≡ 0 → unreadable ≡ addOf d t p c
+  no-sender x e z = add-none (rw (plus-none (isNumber 65535 d) (valueOf d) x e z))
+
+  pub no-channel : (x : ℕ) → x ≡ plusOne (isNumber 65535 t) (valueOf t) → x ≡ 0 → unreadable ≡ addOf d t p c
+  no-channel x e z = add-none (and-no (isNumber 65535 d) (rw (plus-none (isNumber 65535 t) (valueOf t) x e z)))
+
+  pub no-property : (x : ℕ) → x ≡ plusOne (isNumber 4294967295 p) (valueOf p) → x ≡ 0 → unreadable ≡ addOf d t p c
+  no-property x e z =
+      let n = plus-none (isNumber 4294967295 p) (valueOf p) x e z in
+      add-none (and-no (isNumber 65535 d) (and-no (isNumber 65535 t) (rw n)))
+
+  pub no-cents : (x : ℕ) → x ≡ plusOne (isCents c) (valueOf (digitsOf c)) → x ≡ 0 → unreadable ≡ addOf d t p c
+  no-cents x e z =
+      let n = plus-none (isCents c) (valueOf (digitsOf c)) x e z in
+      add-none (and-no (isNumber 65535 d) (and-no (isNumber 65535 t) (and-no (isNumber 4294967295 p) n)))
+
+  pub some-add : (x y z w : ℕ) → x ≡ plusOne (isNumber 65535 d) (valueOf d)
+      → y ≡ plusOne (isNumber 65535 t) (valueOf t) → z ≡ plusOne (isNumber 4294967295 p) (valueOf p)
+      → w ≡ plusOne (isCents c) (valueOf (digitsOf c))
+      → (x ≡ 0 → ⊥) → (y ≡ 0 → ⊥) → (z ≡ 0 → ⊥) → (w ≡ 0 → ⊥)
+      → reads (adds (x - 1) (record {
+        channel = y - 1;
+        property = z - 1;
+        cents = pick (isMinus c) (negℤ (pos (w - 1))) (pos (w - 1));
+      })) ≡ addOf d t p c
+  unfolding addOf centsFrom
+  some-add x y z w ex ey ez ew x0 y0 z0 w0 =
+      let a = plus-some (isNumber 65535 d) (valueOf d) x ex x0 in
+      let b = plus-some (isNumber 65535 t) (valueOf t) y ey y0 in
+      let m = plus-some (isNumber 4294967295 p) (valueOf p) z ez z0 in
+      let n = plus-some (isCents c) (valueOf (digitsOf c)) w ew w0 in
+      rw (a .0, a .1, b .0, b .1, m .0, m .1, n .0, n .1)
+
+-- the first field
+line-none : (f : List ℕ) → lineBy (f ∷ []) ≡ unreadable
+line-none f = go (isByte 97 f) (isByte 115 f)
+  where
+    go : (t u : Bool) → pick t unreadable (pick u unreadable unreadable) ≡ unreadable
+    go true u = refl
+    go false true = refl
+    go false false = refl
+
+pub line-short : (s : List ℕ) → length s < 2 → unreadable ≡ lineBy (fieldsOf s)
+unfolding cutAt
+line-short [] h = refl
+line-short (x ∷ []) h = go (eqb x 32)
+  where
+    go : (t : Bool) → unreadable ≡ lineBy (pick t ([] ∷ [] ∷ []) ((x ∷ []) ∷ []))
+    go true = refl
+    go false = sym (line-none (x ∷ []))
+line-short (x ∷ y ∷ ys) h = absurd (omega arith)
+
+pub line-wide : (s : List ℕ) → 2 ≤ length s → (getD s 1 0 ≡ 32 → ⊥) → unreadable ≡ lineBy (fieldsOf s)
+unfolding cutAt
+line-wide [] h n = absurd (omega arith)
+line-wide (x ∷ []) h n = absurd (omega arith)
+line-wide (x ∷ y ∷ ys) h n = rw (ne-eqb y 32 n) (go (eqb x 32) (cutAt 32 ys))
+  where
+    go : (t : Bool) (fs : List (List ℕ)) → unreadable ≡ lineBy (pick t ([] ∷ joined y fs) (joined x (joined y fs)))
+    go true fs = refl
+    go false [] = refl
+    go false (f ∷ fs) = refl
+
+pub line-add : (s : List ℕ) → 2 ≤ length s → getD s 1 0 ≡ 32 → getD s 0 0 ≡ 97
+    → addBy (fieldsOf (drop 2 s)) ≡ lineBy (fieldsOf s)
+unfolding cutAt
+line-add [] h e a = absurd (omega arith)
+line-add (x ∷ []) h e a = absurd (omega arith)
+line-add (x ∷ y ∷ ys) h e a = rw (e, a)
+
+pub line-step : (s : List ℕ) → 2 ≤ length s → getD s 1 0 ≡ 32 → getD s 0 0 ≡ 115
+    → stepBy (fieldsOf (drop 2 s)) ≡ lineBy (fieldsOf s)
+unfolding cutAt
+line-step [] h e a = absurd (omega arith)
+line-step (x ∷ []) h e a = absurd (omega arith)
+line-step (x ∷ y ∷ ys) h e a = rw (e, a)
+
+pub line-other : (s : List ℕ) → 2 ≤ length s → getD s 1 0 ≡ 32 → (getD s 0 0 ≡ 97 → ⊥) → (getD s 0 0 ≡ 115 → ⊥)
+    → unreadable ≡ lineBy (fieldsOf s)
+unfolding cutAt
+line-other [] h e a b = absurd (omega arith)
+line-other (x ∷ []) h e a b = absurd (omega arith)
+line-other (x ∷ y ∷ ys) h e a b = rw e (go (eqb x 32))
+  where
+    go : (t : Bool) → unreadable ≡ lineBy (pick t ([] ∷ [] ∷ cutAt 32 ys) ((x ∷ []) ∷ cutAt 32 ys))
+    go true = refl
+    go false = rw (ne-eqb x 97 a, ne-eqb x 115 b)
+
+-- a line of at most 80 bytes, or more
+module _ (s : List ℕ) where
+  pub line-long : 80 < length s → unreadable ≡ lineOf s
+  unfolding lineOf
+  line-long h = rw (lt-leb (length s) 80 h)
+
+  pub line-within : length s ≤ 80 → lineBy (fieldsOf s) ≡ lineOf s
+  unfolding lineOf
+  line-within h = rw (le-leb (length s) 80 h)

@@ -1,0 +1,118 @@
+-- `lines::add_of` meets its contract: a field that is no number, or all four.
+use mir.Syntax.{w64}
+use mir.ValLaws.{toZ-ofZ}
+use Rattle.lines.proofs.Reading.{no-sender, no-channel, no-property, no-cents, some-add}
+use borrow.Author.Needs.{needs}
+use Rattle.lines.proofs.add_of.Statement.{statement}
+use Rattle.lines.proofs.add_of.Tie as tie
+
+number-requires : tie.Need-number-requires
+number-requires c κs = search needs
+
+returns : tie.Need-returns
+returns c =
+    let a = c .before .before .before .before .before .before .args in
+    let e = c .before .number .ensures .0 in
+    no-sender (a .sender .now) (a .channel .now) (a .property .now) (a .cents .now) _ e (c .if1 .taken)
+
+number-requires-2 : tie.Need-number-requires-2
+number-requires-2 c κs = search needs
+
+returns-2 : tie.Need-returns-2
+returns-2 c =
+    let a = c .before .before .before .before .before .before .before .before .args in
+    let e = c .before .number2 .ensures .0 in
+    no-channel (a .sender .now) (a .channel .now) (a .property .now) (a .cents .now) _ e (c .if2 .taken)
+
+number-requires-3 : tie.Need-number-requires-3
+number-requires-3 c κs = search needs
+
+returns-3 : tie.Need-returns-3
+returns-3 c =
+    let a = c .before .before .before .before .before .before .before .before .before .before .args in
+    let e = c .before .number3 .ensures .0 in
+    no-property (a .sender .now) (a .channel .now) (a .property .now) (a .cents .now) _ e (c .if3 .taken)
+
+unsigned-cents-requires : tie.Need-unsigned-cents-requires
+unsigned-cents-requires c κs = search needs
+
+returns-4 : tie.Need-returns-4
+returns-4 c =
+    let a = c .before .before .before .before .before .before .before .before .before .before .before .before .args in
+    let e = c .before .unsigned-cents .ensures .0 in
+    no-cents (a .sender .now) (a .channel .now) (a .property .now) (a .cents .now) _ e (c .if4 .taken)
+
+is-minus-requires : tie.Need-is-minus-requires
+is-minus-requires c κs = search needs
+
+sub-signed : tie.Need-sub-signed
+sub-signed c = search needs
+
+signed-requires : tie.Need-signed-requires
+signed-requires c κs = search needs
+
+sub-t11 : tie.Need-sub-t11
+sub-t11 c = search needs
+
+cast-t12 : tie.Need-cast-t12
+cast-t12 c = search needs
+
+sub-t13 : tie.Need-sub-t13
+sub-t13 c = search needs
+
+cast-t14 : tie.Need-cast-t14
+cast-t14 c = search needs
+
+sub-t15 : tie.Need-sub-t15
+sub-t15 c = search needs
+
+cast-t16 : tie.Need-cast-t16
+cast-t16 c = search needs
+
+returns-5 : tie.Need-returns-5
+returns-5 c =
+    let c4 = c .before .before in
+    let c3 = c4 .before .before in
+    let c2 = c3 .before .before in
+    let c1 = c2 .before .before in
+    let a = c1 .before .before .before .before .before .before .args in
+    let back = toZ-ofZ w64 (c .signed .result) (record { sfits = c .signed .ok }) in
+    rw
+    (back, c .signed .ensures, c .before .is-minus .ensures)
+    (some-add
+    (a .sender .now) (a .channel .now) (a .property .now) (a .cents .now)
+    _
+    _
+    _
+    _
+    (c1 .before .number .ensures .0)
+    (c2 .before .number2 .ensures .0)
+    (c3 .before .number3 .ensures .0)
+    (c4 .before .unsigned-cents .ensures .0)
+    (c1 .if1 .left)
+    (c2 .if2 .left)
+    (c3 .if3 .left)
+    (c4 .if4 .left))
+
+pub add-of-spec : {M : Type 1} → statement M
+add-of-spec =
+    tie.close
+    (tie.spec
+    number-requires
+    returns
+    number-requires-2
+    returns-2
+    number-requires-3
+    returns-3
+    unsigned-cents-requires
+    returns-4
+    is-minus-requires
+    sub-signed
+    signed-requires
+    sub-t11
+    cast-t12
+    sub-t13
+    cast-t14
+    sub-t15
+    cast-t16
+    returns-5)

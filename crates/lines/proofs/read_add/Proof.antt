@@ -1,0 +1,193 @@
+-- `lines::read_add` meets its contract: four fields, cut one after the other.
+use mathlib.Core.Path.{sym}
+use mathlib.Core.List.{List}
+use Prim.Native.Nat.{ℕ, _+_, _≤_}
+use native.Mathlib.Omega.{arith}
+use lib.ListN.{length}
+use Rattle.lines.proofs.Fields.{Cut, field-more, field-last, add-more, to-end}
+use borrow.Author.Needs.{needs}
+use Rattle.lines.proofs.read_add.Statement.{statement}
+use Rattle.lines.proofs.read_add.Tie as tie
+
+-- the bytes, and where the first field ends, the second and the third
+abbrev start : tie.Else1 → tie.Start
+start c = c .before .before .before
+
+abbrev bytes : tie.Else1 → List ℕ
+bytes c = start c .args .s .now
+
+abbrev place : tie.Else1 → ℕ
+place c = c .before .space-from .result
+
+abbrev place2 : tie.Else2 → ℕ
+place2 c = c .before .space-from2 .result
+
+abbrev place3 : tie.Else3 → ℕ
+place3 c = c .before .space-from3 .result
+
+within : (c : tie.Else1) → place c + 1 ≤ length (bytes c)
+within c = omega (arith, c .before .space-from .ensures .1, c .if1 .left)
+
+within2 : (c : tie.Else2) → place2 c + 1 ≤ length (bytes (c .before .before))
+within2 c = omega (arith, c .before .space-from2 .ensures .1, c .if2 .left)
+
+within3 : (c : tie.Else3) → place3 c + 1 ≤ length (bytes (c .before .before .before .before))
+within3 c = omega (arith, c .before .space-from3 .ensures .1, c .if3 .left)
+
+first : (c : tie.Else1) → Cut (bytes c) (start c .args .at) (place c)
+first c =
+    let e = c .before .space-from .ensures .0 in
+    field-more (bytes c) (start c .args .at) _ (start c .pre) e (omega (arith, within c))
+
+second : (c : tie.Else2) → Cut (bytes (c .before .before)) (place (c .before .before) + 1) (place2 c)
+second c =
+    let p = c .before .before in
+    field-more (bytes p) (place p + 1) _ (within p) (c .before .space-from2 .ensures .0) (omega (arith, within2 c))
+
+third : (c : tie.Else3) → Cut (bytes (c .before .before .before .before)) (place2 (c .before .before) + 1) (place3 c)
+third c =
+    let p = c .before .before in
+    let e = c .before .space-from3 .ensures .0 in
+    field-more (bytes (p .before .before)) (place2 p + 1) _ (within2 p) e (omega (arith, within3 c))
+
+space-from-requires : tie.Need-space-from-requires
+space-from-requires c κs = search needs
+
+returns : tie.Need-returns
+returns c =
+    let s = c .before .before .before in
+    let a = s .args in
+    rw (field-last (a .s .now) (a .at) _ (s .pre) (c .before .space-from .ensures .0) (omega (arith, c .if1 .taken)))
+
+add-channel : tie.Need-add-channel
+add-channel c = search needs
+
+space-from-requires-2 : tie.Need-space-from-requires-2
+space-from-requires-2 c κs = search needs
+
+returns-2 : tie.Need-returns-2
+returns-2 c =
+    let c1 = c .before .before in
+    let q = c .before .space-from2 in
+    rw (first c1, field-last (bytes c1) (place c1 + 1) _ (within c1) (q .ensures .0) (omega (arith, c .if2 .taken)))
+
+add-property : tie.Need-add-property
+add-property c = search needs
+
+space-from-requires-3 : tie.Need-space-from-requires-3
+space-from-requires-3 c κs = search needs
+
+returns-3 : tie.Need-returns-3
+returns-3 c =
+    let c2 = c .before .before in
+    let c1 = c2 .before .before in
+    let q = c .before .space-from3 in
+    rw (
+      first c1,
+      second c2,
+      field-last (bytes c1) (place2 c2 + 1) _ (within2 c2) (q .ensures .0) (omega (arith, c .if3 .taken)),
+    )
+
+add-cents : tie.Need-add-cents
+add-cents c = search needs
+
+space-from-requires-4 : tie.Need-space-from-requires-4
+space-from-requires-4 c κs = search needs
+
+returns-4 : tie.Need-returns-4
+returns-4 c =
+    let c3 = c .before .before in
+    let c2 = c3 .before .before in
+    let c1 = c2 .before .before in
+    let q = c .before .space-from4 in
+    rw (
+      first c1,
+      second c2,
+      third c3,
+      field-more (bytes c1) (place3 c3 + 1) _ (within3 c3) (q .ensures .0) (c .if4 .taken),
+    )
+    (sym (add-more _ _ _ _ _))
+
+sub-add-of : tie.Need-sub-add-of
+sub-add-of c = search needs
+
+part-add-of-start : tie.Need-part-add-of-start
+part-add-of-start c = search needs
+
+part-add-of-end : tie.Need-part-add-of-end
+part-add-of-end c = search needs
+
+sub-add-of-2 : tie.Need-sub-add-of-2
+sub-add-of-2 c = search needs
+
+part-add-of-start-2 : tie.Need-part-add-of-start-2
+part-add-of-start-2 c = search needs
+
+part-add-of-end-2 : tie.Need-part-add-of-end-2
+part-add-of-end-2 c = search needs
+
+sub-add-of-3 : tie.Need-sub-add-of-3
+sub-add-of-3 c = search needs
+
+part-add-of-start-3 : tie.Need-part-add-of-start-3
+part-add-of-start-3 c = search needs
+
+part-add-of-end-3 : tie.Need-part-add-of-end-3
+part-add-of-end-3 c = search needs
+
+sub-add-of-4 : tie.Need-sub-add-of-4
+sub-add-of-4 c = search needs
+
+part-add-of-start-4 : tie.Need-part-add-of-start-4
+part-add-of-start-4 c = search needs
+
+part-add-of-end-4 : tie.Need-part-add-of-end-4
+part-add-of-end-4 c = search needs
+
+add-of-requires : tie.Need-add-of-requires
+add-of-requires c κs = search needs
+
+returns-5 : tie.Need-returns-5
+returns-5 c =
+    let c4 = c .before .before .before .before .before in
+    let c3 = c4 .before .before in
+    let c2 = c3 .before .before in
+    let c1 = c2 .before .before in
+    let q = c4 .before .space-from4 in
+    rw (
+      first c1,
+      second c2,
+      third c3,
+      field-last (bytes c1) (place3 c3 + 1) _ (within3 c3) (q .ensures .0) (c4 .if4 .left),
+    )
+    (rw (to-end (bytes c1) (place3 c3 + 1)) at (c .add-of .ensures))
+
+pub read-add-spec : {M : Type 1} → statement M
+read-add-spec =
+    tie.close
+    (tie.spec
+    space-from-requires
+    returns
+    add-channel
+    space-from-requires-2
+    returns-2
+    add-property
+    space-from-requires-3
+    returns-3
+    add-cents
+    space-from-requires-4
+    returns-4
+    sub-add-of
+    part-add-of-start
+    part-add-of-end
+    sub-add-of-2
+    part-add-of-start-2
+    part-add-of-end-2
+    sub-add-of-3
+    part-add-of-start-3
+    part-add-of-end-3
+    sub-add-of-4
+    part-add-of-start-4
+    part-add-of-end-4
+    add-of-requires
+    returns-5)

@@ -1,0 +1,2 @@
+-- A read line as the model's.
+pub mod Views

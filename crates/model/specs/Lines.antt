@@ -1,0 +1,121 @@
+-- The program's lines (01, "The program's printout"), as bytes.
+use mathlib.Core.Bool.{Bool, false, _&&_}
+use mathlib.Core.List.{List, [], _∷_}
+use Prim.Native.Nat.{ℕ, _+_, _-_, _*_}
+use lib.Dec.{eqb, leb, ltb}
+use lib.IntN.{ℤ, pos, negℤ}
+use lib.ListN.{length, getD, drop}
+use Rattle.model.specs.Basics.{pick, every, allOf}
+use Rattle.model.specs.Pools.{Call}
+use Rattle.model.specs.Pools.Call.{adds, steps}
+
+pub data Line : Type 0 where
+  unreadable : Line
+  reads : Call → Line
+
+-- a byte before the first of the parts
+abbrev pub joined : ℕ → List (List ℕ) → List (List ℕ)
+joined x [] = (x ∷ []) ∷ []
+joined x (s ∷ ss) = (x ∷ s) ∷ ss
+
+-- bytes cut at each byte c: one part more than there are bytes c, and empty parts too
+unfoldable pub cutAt : ℕ → List ℕ → List (List ℕ)
+cutAt c [] = [] ∷ []
+cutAt c (x ∷ xs) = pick (eqb x c) ([] ∷ cutAt c xs) (joined x (cutAt c xs))
+
+-- "A line ends at a line feed or the end of input; a line feed that ends the input starts no further line": what
+-- follows the last line feed is a line unless it is empty.
+abbrev pub ended : List (List ℕ) → List (List ℕ)
+ended [] = []
+ended ([] ∷ []) = []
+ended ((x ∷ xs) ∷ []) = (x ∷ xs) ∷ []
+ended (s ∷ t ∷ ts) = s ∷ ended (t ∷ ts)
+
+abbrev pub linesOf : List ℕ → List (List ℕ)
+linesOf s = ended (cutAt 10 s)
+
+-- "single spaces": two spaces together, or one at an end, leave an empty field, and that is no number.
+abbrev pub fieldsOf : List ℕ → List (List ℕ)
+fieldsOf s = cutAt 32 s
+
+-- "decimal": one digit or more. "Leading zeros [..] are read."
+abbrev pub isDigit : ℕ → Bool
+isDigit x = leb 48 x && leb x 57
+
+unfoldable pub isDecimal : List ℕ → Bool
+isDecimal s = ltb 0 (length s) && every isDigit s
+
+-- the number that the digits make, after those that made n
+abbrev pub valueFrom : ℕ → List ℕ → ℕ
+valueFrom n [] = n
+valueFrom n (x ∷ xs) = valueFrom (10 * n + (x - 48)) xs
+
+abbrev pub valueOf : List ℕ → ℕ
+valueOf s = valueFrom 0 s
+
+-- "Desk and tray are at most 65,535, property a u32"
+unfoldable pub isNumber : ℕ → List ℕ → Bool
+isNumber most s = isDecimal s && leb (valueOf s) most
+
+-- "cents at most 18 digits", leading zeros among them
+abbrev pub isMagnitude : List ℕ → Bool
+isMagnitude s = isDecimal s && leb (length s) 18
+
+-- "Only cents may begin with a minus."
+abbrev pub isMinus : List ℕ → Bool
+isMinus s = eqb (getD s 0 0) 45
+
+unfoldable pub digitsOf : List ℕ → List ℕ
+digitsOf s = pick (isMinus s) (drop 1 s) s
+
+unfoldable pub isCents : List ℕ → Bool
+isCents s = isMagnitude (digitsOf s)
+
+-- "`-0`" is read, as 0.
+unfoldable pub centsFrom : List ℕ → ℤ
+centsFrom s = pick (isMinus s) (negℤ (pos (valueOf (digitsOf s)))) (pos (valueOf (digitsOf s)))
+
+-- "`a DESK TRAY PROPERTY CENTS`", after the `a`
+unfoldable pub addOf : List ℕ → List ℕ → List ℕ → List ℕ → Line
+addOf sender channel property cents =
+    pick
+    (allOf
+    (isNumber 65535 sender ∷ isNumber 65535 channel ∷ isNumber 4294967295 property ∷ isCents cents ∷ []))
+    (reads (adds (valueOf sender) (record {
+      channel = valueOf channel;
+      property = valueOf property;
+      cents = centsFrom cents;
+    })))
+    unreadable
+
+abbrev pub addBy : List (List ℕ) → Line
+addBy [] = unreadable
+addBy (d ∷ []) = unreadable
+addBy (d ∷ t ∷ []) = unreadable
+addBy (d ∷ t ∷ p ∷ []) = unreadable
+addBy (d ∷ t ∷ p ∷ c ∷ []) = addOf d t p c
+addBy (d ∷ t ∷ p ∷ c ∷ e ∷ es) = unreadable
+
+-- "`s DESK`", after the `s`
+unfoldable pub stepOf : List ℕ → Line
+stepOf sender = pick (isNumber 65535 sender) (reads (steps (valueOf sender))) unreadable
+
+abbrev pub stepBy : List (List ℕ) → Line
+stepBy [] = unreadable
+stepBy (d ∷ []) = stepOf d
+stepBy (d ∷ e ∷ es) = unreadable
+
+-- the one byte `a` or `s`
+abbrev pub isByte : ℕ → List ℕ → Bool
+isByte c [] = false
+isByte c (x ∷ []) = eqb x c
+isByte c (x ∷ y ∷ ys) = false
+
+abbrev pub lineBy : List (List ℕ) → Line
+lineBy [] = unreadable
+lineBy (f ∷ fs) = pick (isByte 97 f) (addBy fs) (pick (isByte 115 f) (stepBy fs) unreadable)
+
+-- The bytes of a line, without its line feed. "A line that does not read as one of these, or is over 80 bytes, prints
+-- `refused 16`."
+unfoldable pub lineOf : List ℕ → Line
+lineOf s = pick (leb (length s) 80) (lineBy (fieldsOf s)) unreadable

@@ -1,0 +1,5 @@
+-- Laws of what is printed.
+pub mod Decimals
+pub mod Signs
+pub mod Texts
+pub mod Samples

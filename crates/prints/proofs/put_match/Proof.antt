@@ -1,0 +1,108 @@
+-- `prints::put_match` meets its contract: the head, the items in member order, and a line feed.
+use mathlib.Core.Path.{_≡_, sym}
+use Prim.Native.Nat.{_≤_}
+use native.Mathlib.Omega.{arith}
+use lib.ListN.{length, length-map}
+use lib.Seq.{length-take-le}
+use mir.Syntax.{w64}
+use mir.Val.{SFits}
+use mir.ValLaws.{toZ-ofZ}
+use Rattle.prints.proofs.Texts.{then, kept, after-head}
+use borrow.Author.Needs.{needs}
+use Rattle.prints.proofs.put_match.Statement.{statement}
+use Rattle.prints.proofs.put_match.Tie as tie
+
+held : (s : tie.Start) → s .args .m .len ≤ length (s .args .m .messages)
+held s =
+    let l : length (s .args .m .messages) ≡ 8 = simp length-map at (s .good .1 .1 .1 .0 .1 .1 .1 .1 .0 .1 .0 .1) in
+    omega (arith, s .pre .1)
+
+cast-len : tie.Need-cast-len
+cast-len c = search needs
+
+put-head-requires : tie.Need-put-head-requires
+put-head-requires c κs = search needs
+
+slice-aggregate-put-text : tie.Need-slice-aggregate-put-text
+slice-aggregate-put-text c = search needs
+
+put-text-requires : tie.Need-put-text-requires
+put-text-requires c κs =
+    let h = c .before .before .before .before in
+    omega (arith, h .put-head .ensures .1, kept (h .put-head .ensures .0))
+
+array-share-prefix-messages : tie.Need-array-share-prefix-messages
+array-share-prefix-messages c =
+    let h = c .before .before .before .before .before .before .before .before in
+    held (h .before .before .before .before .before .before)
+
+slice-aggregate-put-items : tie.Need-slice-aggregate-put-items
+slice-aggregate-put-items c =
+    let h = c .before .before .before .before .before .before .before .before .before in
+    let s = h .before .before .before .before .before .before in
+    sym (length-take-le (s .args .m .len) (s .args .m .messages) (held s))
+
+put-items-requires : tie.Need-put-items-requires
+put-items-requires c κs =
+    let t = c .before .before .before .before in
+    let h = t .before .before .before .before .before in
+    let s = h .before .before .before .before .before .before in
+    let l = length-take-le (s .args .m .len) (s .args .m .messages) (held s) in
+    omega (
+      arith,
+      l,
+      t .put-text .ensures .place,
+      kept (t .put-text .ensures),
+      h .put-head .ensures .1,
+      kept (h .put-head .ensures .0),
+      s .pre .1,
+    )
+
+put-requires : tie.Need-put-requires
+put-requires c κs =
+    let i = c .before .before .before in
+    let t = i .before .before .before .before .before in
+    let h = t .before .before .before .before .before in
+    let s = h .before .before .before .before .before .before in
+    let l = length-take-le (s .args .m .len) (s .args .m .messages) (held s) in
+    omega (
+      arith,
+      l,
+      i .put-items .ensures .1,
+      kept (i .put-items .ensures .0),
+      t .put-text .ensures .place,
+      kept (t .put-text .ensures),
+      h .put-head .ensures .1,
+      kept (h .put-head .ensures .0),
+      s .pre .1,
+    )
+
+same-length : tie.Need-same-length
+same-length c = search needs
+
+returns : tie.Need-returns
+returns c =
+    let p = c .before .before in
+    let i = p .before .before .before .before in
+    let t = i .before .before .before .before .before in
+    let h = t .before .before .before .before .before in
+    let s = h .before .before .before .before .before .before in
+    let w = then (i .put-items .ensures .0) (p .put .ensures) in
+    let r = then (h .put-head .ensures .0) (then (t .put-text .ensures) w) in
+    let f : SFits w64 (s .args .m .cents) = record { sfits = s .good .1 .1 .1 .0 .1 .1 .1 .1 .1 .0 .1 } in
+    rw (toZ-ofZ w64 (s .args .m .cents) f, after-head (s .args .k) (s .args .m .chord) (s .args .m .cents)) at r
+
+pub put-match-spec : {M : Type 1} → statement M
+put-match-spec =
+    tie.close
+    (tie.spec
+    cast-len
+    put-head-requires
+    slice-aggregate-put-text
+    put-text-requires
+    array-share-prefix-messages
+    slice-aggregate-put-items
+    put-items-requires
+    put-requires
+    same-length
+    returns)

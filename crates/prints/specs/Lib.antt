@@ -1,0 +1,2 @@
+-- What a function has written into the lent buffer.
+pub mod Printed

@@ -1,0 +1,2 @@
+-- A replay is the model's schedule.
+pub mod ScheduleLaws

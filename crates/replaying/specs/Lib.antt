@@ -1,0 +1,2 @@
+-- What a replay of a list of calls says and leaves.
+pub mod Replays
