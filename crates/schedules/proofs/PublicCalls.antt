@@ -1,14 +1,15 @@
 -- Public calls one after another are the model's schedule, and so keep demand 3.
 use mathlib.Core.Path.{_≡_, refl, sym, ap, subst, _∙_}
 use mathlib.Core.Logic.{_≢_}
-use mathlib.Core.List.{List, [], _∷_, map}
-use Prim.Native.Nat.{ℕ, zero, suc, _<_}
+use mathlib.Core.List.{List, [], _∷_, _++_, map}
+use Prim.Native.Nat.{ℕ, zero, suc, _<_, _≤_}
 use native.Mathlib.Omega.{arith}
-use lib.ListN.{length, getD}
+use lib.ListN.{length, getD, drop}
 use Rattle.model.specs.Layout.{tableOf}
-use Rattle.model.specs.Boards.{Board, Sender, builtinBackoffs, noMatch}
+use Rattle.model.specs.Tables.{Table}
+use Rattle.model.specs.Boards.{Board, Sender, builtinBackoffs, emptyBoard, noMatch}
 use Rattle.model.specs.Effects.{Said, numberOf, Ended}
-use Rattle.model.specs.Pools.{Call, answerTo, afterAll, history, quiet, noRead, readMatch}
+use Rattle.model.specs.Pools.{Call, Exchange, answerTo, afterAll, history, quiet, noRead, readMatch}
 use Rattle.model.proofs.Demand.{demand-3}
 use Rattle.columns.specs.MatchColumns.{matchIn}
 use Rattle.columns.proofs.ListFrom.{length-from}
@@ -16,9 +17,10 @@ use Rattle.columns.proofs.Messages.{length-messages}
 use Rattle.boards.specs.Calls.{Held}
 use Rattle.boards.proofs.SenderLaws.{nth-sender}
 use Rattle.judges.specs.Calls.{boardOf, refusalOf, Plays}
-use Rattle.judges.proofs.Refusals.{table-accepted}
+use Rattle.adding.proofs.OpenLaws.{opens-empty, open-accepted}
+use Rattle.replaying.specs.Replays.{callsOf, answerNumbers}
 use Rattle.reading.proofs.ReadLaws.{match-is, message-is, reply-is, quiet-is}
-use Rattle.schedules.specs.Schedules.{PlaysAll, Is-schedule, Reads-as, Public-calls}
+use Rattle.schedules.specs.Schedules.{PlaysAll, Is-schedule, Reads-as, Keeps-demand-3, Opened, Public-calls}
 use Rattle.model.proofs.Numbers.{answer-few}
 
 -- one call on an accepted board says what the model says
@@ -78,21 +80,44 @@ reads-as s h e =
       quiet-reads = sym (quiet-is s (h .board) c m e);
     }
 
+few-said : (t : Table) (b : Board) (ks : List Call) (n : ℕ) (z : Exchange) → numberOf (z .said) ≡ 0
+    → numberOf (getD (history t b ks) n z .said) ≤ 13
+few-said t b [] n z e = omega (arith, e)
+few-said t b (k ∷ ks) zero z e = answer-few t b k
+few-said t b (k ∷ ks) (suc n) z e = few-said t (answerTo t b k .board) ks n z e
+
+opened : (s : List ℕ) (h : Held) → Opened s h → (refusalOf s h ≡ 0) × (boardOf s h ≡ emptyBoard builtinBackoffs)
+opened s h o = (
+  rw (o .empty) (open-accepted s (h .columns) (h .matches) (o .table) (o .lent)),
+  rw (o .empty) (opens-empty (tableOf s) (h .columns) (h .matches)),
+)
+
+-- a board that the calls lead to, accepted
+demand : (s : List ℕ) (h : Held) (ks : List Call) (h′ : Held) → Opened s h → refusalOf s h′ ≡ 0
+    → boardOf s h′ ≡ afterAll (tableOf s) (boardOf s h) ks → Keeps-demand-3 s ks h′
+demand s h ks h′ o a e =
+    let t = tableOf s in
+    let q = e ∙ ap (λ (b : Board). afterAll t b ks) (opened s h o .1) in
+    record {
+      leaves = q;
+      reads = subst (Reads-as s h′) q (reads-as s h′ a);
+      accepted = a;
+      run = demand-3 .runs s builtinBackoffs ks (o .table);
+      quietly = λ y. demand-3 .quietly s builtinBackoffs ks (o .table) (sym (ap quiet q) ∙ y);
+    }
+
 pub public-calls : Public-calls
 public-calls = record {
   schedule = schedule;
-  demand = λ s h ks ws h′ e z p.
-      let r = schedule s h ks ws h′ e p in
-      let t = tableOf s in
-      let a = table-accepted s _ _ _ e in
-      let q = r .leaves ∙ ap (λ (b : Board). afterAll t b ks) z in
-      record {
-        says = r .says ∙ ap (λ (b : Board). history t b ks) z;
-        leaves = q;
-        reads = subst (Reads-as s h′) q (reads-as s h′ (r .accepted));
-        accepted = r .accepted;
-        never-30 = r .never-30;
-        run = demand-3 .runs s builtinBackoffs ks a;
-        quietly = λ y. demand-3 .quietly s builtinBackoffs ks a (sym (ap quiet q) ∙ y);
-      };
+  opened = opened;
+  demand = λ s h ks ws h′ o p.
+      let r = schedule s h ks ws h′ (opened s h o .0) p in
+      (r, demand s h ks h′ o (r .accepted) (r .leaves));
+  replayed = λ s h c before after h′ o p.
+      let r = p .plays refl in (
+        demand s h (callsOf c) h′ o (r .accepted) (r .leaves),
+        r .says ∙ ap (λ (b : Board). answerNumbers (history (tableOf s) b (callsOf c)) ++ drop (length (c .kinds)) before)
+            (opened s h o .1),
+      );
+  history-never-30 = λ s h ks n z e q. omega (arith, q, few-said (tableOf s) (boardOf s h) ks n z e);
 }
