@@ -103,6 +103,7 @@ fn put_named(out: &mut [u8], at: usize, name: &[u8], n: u16) -> usize
 fn put_numbered(out: &mut [u8], at: usize, name: &[u8], n: u16) -> usize
     requires { ⌜ at + length (now name) + 7 ≤ length (now out) ⌝ }
     ensures { λ r. ⌜ Printed (now (out .entry)) at (now (name .entry) ++ (spaced n ++ feed)) r (now (out .exit)) ⌝ }
+    ensures { λ r. ⌜ r ≤ at + length (now (name .entry)) + 7 ⌝ }
 {
     let next = put_named(out, at, name, n);
     put(out, next, b'\n')
@@ -112,6 +113,7 @@ fn put_numbered(out: &mut [u8], at: usize, name: &[u8], n: u16) -> usize
 fn put_alone(out: &mut [u8], at: usize, name: &[u8]) -> usize
     requires { ⌜ at + length (now name) + 1 ≤ length (now out) ⌝ }
     ensures { λ r. ⌜ Printed (now (out .entry)) at (now (name .entry) ++ feed) r (now (out .exit)) ⌝ }
+    ensures { λ r. ⌜ r ≤ at + length (now (name .entry)) + 1 ⌝ }
 {
     let next = put_text(out, at, name);
     put(out, next, b'\n')
@@ -121,6 +123,7 @@ fn put_alone(out: &mut [u8], at: usize, name: &[u8]) -> usize
 pub fn put_answer(out: &mut [u8], at: usize, said: Said) -> usize
     requires { ⌜ at + 16 ≤ length (now out) ⌝ }
     ensures { λ r. ⌜ Printed (now (out .entry)) at (answerLine (saidIn said)) r (now (out .exit)) ⌝ }
+    ensures { λ r. ⌜ r ≤ at + 16 ⌝ }
 {
     match said {
         Said::Item(n) => put_numbered(out, at, b"item", n),
@@ -176,6 +179,7 @@ fn put_head(out: &mut [u8], at: usize, k: u16, chord: u8, cents: i64) -> usize
 pub fn put_match(out: &mut [u8], at: usize, k: u16, m: MatchRead) -> usize
     requires { ⌜ (at + 104 ≤ length (now out)) × (m .len ≤ 8) ⌝ }
     ensures { λ r. ⌜ Printed (now (out .entry)) at (matchLine k (readOf m)) r (now (out .exit)) ⌝ }
+    ensures { λ r. ⌜ r ≤ at + 104 ⌝ }
 {
     let len = m.len as usize;
     let messages = m.messages;
@@ -189,6 +193,7 @@ pub fn put_match(out: &mut [u8], at: usize, k: u16, m: MatchRead) -> usize
 pub fn put_open(out: &mut [u8], at: usize, n: u16, status: u8) -> usize
     requires { ⌜ (at + 19 ≤ length (now out)) × (status < 3) ⌝ }
     ensures { λ r. ⌜ Printed (now (out .entry)) at (openLine n (statusOf status)) r (now (out .exit)) ⌝ }
+    ensures { λ r. ⌜ r ≤ at + 19 ⌝ }
 {
     let next = put_named(out, at, b"open", n);
     if status == 0 {

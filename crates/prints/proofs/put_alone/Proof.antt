@@ -1,4 +1,5 @@
 -- `prints::put_alone` meets its contract: a text, then a line feed.
+use native.Mathlib.Omega.{arith}
 use Rattle.prints.proofs.Texts.{then}
 use borrow.Author.Needs.{needs}
 use Rattle.prints.proofs.put_alone.Statement.{statement}
@@ -17,7 +18,7 @@ returns : tie.Need-returns
 returns c =
     let q = c .before .before in
     let p = q .before .before .before .before in
-    then (p .put-text .ensures) (q .put .ensures)
+    (then (p .put-text .ensures) (q .put .ensures), omega (arith, p .put-text .ensures .place, q .put .ensures .place))
 
 pub put-alone-spec : {M : Type 1} → statement M
 put-alone-spec = tie.close (tie.spec put-text-requires put-requires same-length returns)

@@ -90,7 +90,18 @@ returns c =
     let w = then (i .put-items .ensures .0) (p .put .ensures) in
     let r = then (h .put-head .ensures .0) (then (t .put-text .ensures) w) in
     let f : SFits w64 (s .args .m .cents) = record { sfits = s .good .1 .1 .1 .0 .1 .1 .1 .1 .1 .0 .1 } in
-    rw (toZ-ofZ w64 (s .args .m .cents) f, after-head (s .args .k) (s .args .m .chord) (s .args .m .cents)) at r
+    let l = length-take-le (s .args .m .len) (s .args .m .messages) (held s) in (
+      rw (toZ-ofZ w64 (s .args .m .cents) f, after-head (s .args .k) (s .args .m .chord) (s .args .m .cents)) at r,
+      omega (
+        arith,
+        l,
+        p .put .ensures .place,
+        i .put-items .ensures .1,
+        t .put-text .ensures .place,
+        h .put-head .ensures .1,
+        s .pre .1,
+      ),
+    )
 
 pub put-match-spec : {M : Type 1} → statement M
 put-match-spec =

@@ -22,8 +22,10 @@ returns : tie.Need-returns
 returns c =
     let q = c .before .before in
     let p = q .before .before .before .before in
-    let a = p .before .before .before .before .args in
-    rw (append-assoc (a .name .now) (spaced (a .n)) feed) at (then (p .put-named .ensures .0) (q .put .ensures))
+    let a = p .before .before .before .before .args in (
+      rw (append-assoc (a .name .now) (spaced (a .n)) feed) at (then (p .put-named .ensures .0) (q .put .ensures)),
+      omega (arith, p .put-named .ensures .1, q .put .ensures .place),
+    )
 
 pub put-numbered-spec : {M : Type 1} → statement M
 put-numbered-spec = tie.close (tie.spec put-named-requires put-requires same-length returns)

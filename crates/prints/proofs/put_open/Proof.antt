@@ -27,7 +27,10 @@ returns : tie.Need-returns
 returns c =
     let q = c .before .before in
     let i = q .before .before .before in
-    rw (i .if1 .taken) (then (i .before .before .before .put-named .ensures .0) (q .put-alone .ensures))
+    let p = i .before .before .before in (
+      rw (i .if1 .taken) (then (p .put-named .ensures .0) (q .put-alone .ensures .0)),
+      omega (arith, p .put-named .ensures .1, q .put-alone .ensures .0 .place),
+    )
 
 slice-aggregate-put-alone-2 : tie.Need-slice-aggregate-put-alone-2
 slice-aggregate-put-alone-2 c = search needs
@@ -44,8 +47,10 @@ returns-2 : tie.Need-returns-2
 returns-2 c =
     let q = c .before .before in
     let i = q .before .before .before in
-    let p = i .before .before .before .before in
-    rw (i .if2 .taken) (then (p .put-named .ensures .0) (q .put-alone2 .ensures))
+    let p = i .before .before .before .before in (
+      rw (i .if2 .taken) (then (p .put-named .ensures .0) (q .put-alone2 .ensures .0)),
+      omega (arith, p .put-named .ensures .1, q .put-alone2 .ensures .0 .place),
+    )
 
 slice-aggregate-put-alone-3 : tie.Need-slice-aggregate-put-alone-3
 slice-aggregate-put-alone-3 c = search needs
@@ -64,8 +69,10 @@ returns-3 c =
     let i = q .before .before .before in
     let p = i .before .before .before .before in
     let s = p .before .before .before .before in
-    let e : s .args .status ≡ 2 = omega (arith, i .if2 .left, i .before .if1 .left, s .pre .1) in
-    rw e (then (p .put-named .ensures .0) (q .put-alone3 .ensures))
+    let e : s .args .status ≡ 2 = omega (arith, i .if2 .left, i .before .if1 .left, s .pre .1) in (
+      rw e (then (p .put-named .ensures .0) (q .put-alone3 .ensures .0)),
+      omega (arith, p .put-named .ensures .1, q .put-alone3 .ensures .0 .place),
+    )
 
 pub put-open-spec : {M : Type 1} → statement M
 put-open-spec =

@@ -13,7 +13,7 @@ same-length : tie.Need-same-length
 same-length c = search needs
 
 returns : tie.Need-returns
-returns c = let q = c .before .before in rw (q .before .before .before .if1 .taken) (q .put-alone .ensures)
+returns c = let q = c .before .before in rw (q .before .before .before .if1 .taken) (q .put-alone .ensures .0)
 
 slice-aggregate-put-alone-2 : tie.Need-slice-aggregate-put-alone-2
 slice-aggregate-put-alone-2 c = search needs
@@ -25,7 +25,7 @@ same-length-2 : tie.Need-same-length-2
 same-length-2 c = search needs
 
 returns-2 : tie.Need-returns-2
-returns-2 c = let q = c .before .before in rw (q .before .before .before .if1 .left) (q .put-alone2 .ensures)
+returns-2 c = let q = c .before .before in rw (q .before .before .before .if1 .left) (q .put-alone2 .ensures .0)
 
 pub put-quiet-spec : {M : Type 1} → statement M
 put-quiet-spec =

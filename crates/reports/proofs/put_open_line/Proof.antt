@@ -1,0 +1,35 @@
+-- `reports::put_open_line` meets its contract: a consumed message has no line.
+use native.Mathlib.Omega.{arith}
+use lib.ListN.{getD}
+use Rattle.prints.proofs.Texts.{none}
+use Rattle.reports.proofs.BoardLines.{item-none, item-line}
+use borrow.Author.Needs.{needs}
+use Rattle.reports.proofs.put_open_line.Statement.{statement}
+use Rattle.reports.proofs.put_open_line.Tie as tie
+
+shared-slice-read-status : tie.Need-shared-slice-read-status
+shared-slice-read-status c = search needs
+
+returns : tie.Need-returns
+returns c =
+    let a = c .before .before .before .before .args in
+    let e = item-none (a .n) (getD (a .statuses .now) (a .n) 0) (omega (arith, c .if1 .taken)) in
+    (rw e (none (a .out .now) (a .at)), omega arith)
+
+put-open-requires : tie.Need-put-open-requires
+put-open-requires c κs = search needs
+
+same-length : tie.Need-same-length
+same-length c = search needs
+
+returns-2 : tie.Need-returns-2
+returns-2 c =
+    let p = c .before .before in
+    let i = p .before .before in
+    let a = i .before .before .before .before .args in
+    let e = item-line (a .n) (getD (a .statuses .now) (a .n) 0) (omega (arith, i .if1 .left)) in
+    (rw e (p .put-open .ensures .0), p .put-open .ensures .1)
+
+pub put-open-line-spec : {M : Type 1} → statement M
+put-open-line-spec =
+    tie.close (tie.spec shared-slice-read-status returns put-open-requires same-length returns-2)

@@ -1,0 +1,2 @@
+-- The parts of the report at the end of the run.
+pub mod Parts

@@ -1,0 +1,79 @@
+-- `sessions::serve_end` meets its contract: nothing without bytes, else one line more.
+use mathlib.Core.Path.{_≡_}
+use Prim.Native.Nat.{_<_, _≤_}
+use native.Mathlib.Omega.{arith}
+use lib.ListN.{length, length-map}
+use lib.Seq.{length-take-le}
+use Rattle.sessions.specs.Serves.{carryOf}
+use Rattle.sessions.proofs.ChunkLaws.{end-none, end-line}
+use borrow.Author.Needs.{needs}
+use Rattle.sessions.proofs.serve_end.Statement.{statement}
+use Rattle.sessions.proofs.serve_end.Tie as tie
+
+-- no more bytes are kept than there are places
+held : (s : tie.Start) → s .args .carry .len ≤ length (s .args .carry .bytes)
+held s =
+    let l : length (s .args .carry .bytes) ≡ 81 = simp length-map at (s .good .1 .1 .0 .1 .1 .0 .1 .0 .1) in
+    omega (arith, s .pre .1 .0)
+
+returns : tie.Need-returns
+returns c = end-none _ _ _ _ (c .if1 .taken) (c .before .before .before .before .before .before .before .before .before
+    .before .before .pre .0)
+
+serve-kept-requires : tie.Need-serve-kept-requires
+serve-kept-requires c κs = search needs
+
+same-length : tie.Need-same-length
+same-length c = search needs
+
+same-length-2 : tie.Need-same-length-2
+same-length-2 c = search needs
+
+same-length-3 : tie.Need-same-length-3
+same-length-3 c = search needs
+
+same-length-4 : tie.Need-same-length-4
+same-length-4 c = search needs
+
+same-length-5 : tie.Need-same-length-5
+same-length-5 c = search needs
+
+same-length-6 : tie.Need-same-length-6
+same-length-6 c = search needs
+
+same-length-7 : tie.Need-same-length-7
+same-length-7 c = search needs
+
+same-length-8 : tie.Need-same-length-8
+same-length-8 c = search needs
+
+same-length-9 : tie.Need-same-length-9
+same-length-9 c = search needs
+
+returns-2 : tie.Need-returns-2
+returns-2 c =
+    let w = c .before .before .before .before .before .before .before .before .before .before .before .before .before
+    .before .before .before .before in
+    let e = w .before .before .before .before .before .before .before .before .before .before in
+    let s = e .before .before .before .before .before .before .before .before .before .before .before in
+    let k = s .args .carry in
+    let n = length-take-le (k .len) (k .bytes) (held s) in
+    let some : 0 < length (carryOf k) = omega (arith, n, e .if1 .left) in
+    end-line _ _ k _ _ _ _ some (s .pre .1 .1) (w .serve-kept .ensures)
+
+pub serve-end-spec : {M : Type 1} → statement M
+serve-end-spec =
+    tie.close
+    (tie.spec
+    returns
+    serve-kept-requires
+    same-length
+    same-length-2
+    same-length-3
+    same-length-4
+    same-length-5
+    same-length-6
+    same-length-7
+    same-length-8
+    same-length-9
+    returns-2)

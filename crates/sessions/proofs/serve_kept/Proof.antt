@@ -1,0 +1,74 @@
+-- `sessions::serve_kept` meets its contract: the line is the bytes that are kept.
+use mathlib.Core.Path.{_≡_, sym}
+use Prim.Native.Nat.{_≤_}
+use native.Mathlib.Omega.{arith}
+use lib.ListN.{length, length-map}
+use lib.Seq.{length-take-le}
+use borrow.Author.Needs.{needs}
+use Rattle.sessions.proofs.serve_kept.Statement.{statement}
+use Rattle.sessions.proofs.serve_kept.Tie as tie
+
+-- no more bytes are kept than there are places
+held : (s : tie.Start) → s .args .kept .len ≤ length (s .args .kept .bytes)
+held s =
+    let l : length (s .args .kept .bytes) ≡ 81 = simp length-map at (s .good .1 .1 .0 .1 .1 .0 .1 .0 .1) in
+    omega (arith, s .pre .1 .0)
+
+array-share-prefix-bytes : tie.Need-array-share-prefix-bytes
+array-share-prefix-bytes c = held (c .before .before .before .before .before .before .before .before .before .before)
+
+slice-aggregate-serve-line : tie.Need-slice-aggregate-serve-line
+slice-aggregate-serve-line c =
+    let s = c .before .before .before .before .before .before .before .before .before .before .before in
+    sym (length-take-le (s .args .kept .len) (s .args .kept .bytes) (held s))
+
+serve-line-requires : tie.Need-serve-line-requires
+serve-line-requires c κs = search needs
+
+same-length : tie.Need-same-length
+same-length c = search needs
+
+same-length-2 : tie.Need-same-length-2
+same-length-2 c = search needs
+
+same-length-3 : tie.Need-same-length-3
+same-length-3 c = search needs
+
+same-length-4 : tie.Need-same-length-4
+same-length-4 c = search needs
+
+same-length-5 : tie.Need-same-length-5
+same-length-5 c = search needs
+
+same-length-6 : tie.Need-same-length-6
+same-length-6 c = search needs
+
+same-length-7 : tie.Need-same-length-7
+same-length-7 c = search needs
+
+same-length-8 : tie.Need-same-length-8
+same-length-8 c = search needs
+
+same-length-9 : tie.Need-same-length-9
+same-length-9 c = search needs
+
+returns : tie.Need-returns
+returns c = search needs
+
+pub serve-kept-spec : {M : Type 1} → statement M
+serve-kept-spec =
+    tie.close
+    (tie.spec
+    array-share-prefix-bytes
+    slice-aggregate-serve-line
+    serve-line-requires
+    same-length
+    same-length-2
+    same-length-3
+    same-length-4
+    same-length-5
+    same-length-6
+    same-length-7
+    same-length-8
+    same-length-9
+    returns)

@@ -1,0 +1,103 @@
+-- `sessions::serve_line` meets its contract: a line that does not read is refused, another is played.
+use mathlib.Core.Path.{sym, ap, _∙_}
+use Rattle.lines.specs.Views.{lineIn}
+use Rattle.sessions.proofs.LineLaws.{serves-unread, serves-read}
+use borrow.Author.Needs.{needs}
+use Rattle.sessions.proofs.serve_line.Statement.{statement}
+use Rattle.sessions.proofs.serve_line.Tie as tie
+
+read-line-requires : tie.Need-read-line-requires
+read-line-requires c κs = search needs
+
+enum-known-l : tie.Need-enum-known-l
+enum-known-l c = search needs
+
+enum-told : tie.Need-enum-told
+enum-told c = search needs
+
+put-answer-requires : tie.Need-put-answer-requires
+put-answer-requires c κs = search needs
+
+same-length : tie.Need-same-length
+same-length c = search needs
+
+returns : tie.Need-returns
+returns c =
+    let w = c .before .before in
+    let t = w .before .before in
+    let l = t .before .before in
+    let s = l .before .before .before .before .before .before .before .before .before .before .before in
+    let e = sym (l .read-line .ensures) ∙ ap lineIn (t .enum-told .given .1) in
+    serves-unread _ _ _ _ _ _ _ (s .pre .0) (w .put-answer .ensures .1) e (w .put-answer .ensures .0)
+
+play-requires : tie.Need-play-requires
+play-requires c κs = search needs
+
+put-answer-requires-2 : tie.Need-put-answer-requires-2
+put-answer-requires-2 c κs =
+    let w = c .before .before .before .before .before .before .before .before .before .before .before .before .before
+    .before .before .before in
+    let l = w .before .before .before .before .before .before .before .before .before .before .before .before in
+    l .before .before .before .before .before .before .before .before .before .before .before .pre .1
+
+same-length-2 : tie.Need-same-length-2
+same-length-2 c = search needs
+
+same-length-3 : tie.Need-same-length-3
+same-length-3 c = search needs
+
+same-length-4 : tie.Need-same-length-4
+same-length-4 c = search needs
+
+same-length-5 : tie.Need-same-length-5
+same-length-5 c = search needs
+
+same-length-6 : tie.Need-same-length-6
+same-length-6 c = search needs
+
+same-length-7 : tie.Need-same-length-7
+same-length-7 c = search needs
+
+same-length-8 : tie.Need-same-length-8
+same-length-8 c = search needs
+
+same-length-9 : tie.Need-same-length-9
+same-length-9 c = search needs
+
+same-length-10 : tie.Need-same-length-10
+same-length-10 c = search needs
+
+returns-2 : tie.Need-returns-2
+returns-2 c =
+    let w = c .before .before .before in
+    let y = w .before .before .before .before .before .before .before .before .before .before .before .before .before
+    .before .before .before .before in
+    let k = y .before .before .before .before .before .before .before .before .before .before in
+    let l = k .before .before in
+    let s = l .before .before .before .before .before .before .before .before .before .before .before in
+    let e = sym (l .read-line .ensures) ∙ ap lineIn (k .l .given .1) in
+    serves-read _ _ _ _ _ _ _ (s .pre .0) (w .put-answer2 .ensures .1) _ _ _ e (y .play .ensures)
+    (w .put-answer2 .ensures .0)
+
+pub serve-line-spec : {M : Type 1} → statement M
+serve-line-spec =
+    tie.close
+    (tie.spec
+    read-line-requires
+    enum-known-l
+    enum-told
+    put-answer-requires
+    same-length
+    returns
+    play-requires
+    put-answer-requires-2
+    same-length-2
+    same-length-3
+    same-length-4
+    same-length-5
+    same-length-6
+    same-length-7
+    same-length-8
+    same-length-9
+    same-length-10
+    returns-2)

@@ -1,0 +1,2 @@
+-- What the program does with the bytes of its input.
+pub mod Serves

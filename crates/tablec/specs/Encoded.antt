@@ -1,0 +1,11 @@
+-- What is written to standard output: the bytes of the table that the text declares, which the reader accepts.
+use mathlib.Core.Path.{_≡_}
+use mathlib.Core.List.{List}
+use Prim.Native.Nat.{ℕ}
+use Rattle.model.specs.Layout.{tableRefusal, tableBytes}
+use Rattle.codec.specs.declared.Table as DT
+use Rattle.codec.specs.Views.{tableIn}
+
+pub record Encoded (t : DT.Table) (s : List ℕ) : Type 0 where
+  pub bytes : s ≡ tableBytes (tableIn t)
+  pub accepted : tableRefusal s ≡ 0

@@ -1,0 +1,2 @@
+-- What the contracts of `tablec` cite.
+pub mod Encoded

@@ -1,0 +1,174 @@
+"""Random but useful input, the same for the same seed.
+
+    python3 tests/random_session.py SEED N [RULES.BIN]   N lines for that table
+    python3 tests/random_session.py table SEED FILE      a random accepted table
+
+The lines are chosen while the oracle follows them, so most adds go to idle
+desks and most steps to desks with work; a few are refused or unreadable.
+"""
+
+import random
+import sys
+
+import oracle
+from text_to_bin import table_bytes
+
+UNREADABLE = (
+    b"", b"a", b"s", b"s ", b" s 0", b"s 0 ", b"s  0", b"s -0", b"s 65536", b"s 0\r", b"S 0",
+    b"a 0 0 0", b"a 0 0 0 0 0", b"a 0  0 0 0", b"a 0 0 0 -", b"a 0 0 0 +1", b"a 0 0 0 --1",
+    b"a -1 0 0 0", b"a 0 65536 0 0", b"a 65536 0 0 0", b"a 0 0 4294967296 0",
+    b"a 0 0 0 0000000000000000000", b"a 0 0 0 1234567890123456789", b"s " + b"0" * 79,
+    b"x 1 2 3 4", b"s 1 2", b"s \xff", b"a 0 0 0 1.5", b"s\t0", b"q",
+)  # fmt: skip
+
+
+def random_table(seed):
+    """The bytes of a table with 1 to 16 trays and 0 to 32 rules."""
+    rng = random.Random(f"table {seed}")
+    if rng.random() < 0.03:
+        return largest_table(rng)
+    trays = rng.choice((1, 2, 2, 3, 3, 4, 4, 5, 6, 8, 12, 16))
+    count = rng.choice((0, 1, 1, 2, 2, 3, 4, 5, 6, 8, 12, 20, 32))
+    waiting_share = rng.choice((0, 0.3, 0.5, 0.5, 0.7, 1))
+    waiting = [rng.random() < waiting_share for _ in range(trays)]
+    longest = rng.choice((2, 3, 3, 4, 4, 8))
+    rules = []
+    for _ in range(count):
+        length = rng.randint(1 if rng.random() < 0.15 else min(2, longest), longest)
+        members = [rng.randrange(trays) for _ in range(length)]
+        rules.append((members, rng.random() < 0.4))
+    return table_bytes(waiting, rules)
+
+
+def largest_table(rng):
+    """A table of 412 bytes, the most there can be."""
+    rules = [([rng.randrange(16) for _ in range(8)], rng.random() < 0.4) for _ in range(32)]
+    return table_bytes([rng.random() < 0.5 for _ in range(16)], rules)
+
+
+def write_random_table(seed, path):
+    with open(path, "wb") as file:
+        file.write(random_table(seed))
+
+
+class Session:
+    """Chooses line after line, with the oracle's board beside it."""
+
+    def __init__(self, seed, table_data):
+        self.rng = random.Random(f"session {seed}")
+        self.board = oracle.Board(oracle.read_table(table_data))
+        self.trays = len(self.board.table.waiting)
+        desks = self.rng.choice((3, 6, 12, 32))
+        self.favoured = self.rng.sample(range(oracle.DESKS), desks)
+        self.properties = self.rng.choice((1, 2, 2, 3, 5))
+        self.adding = self.rng.choice((0.1, 0.2, 0.35, 0.5))
+        self.run_on = self.rng.choice((0.0, 0.3, 0.7, 0.95))
+        self.last = None  # the desk stepped last
+        self.draining = False  # steps only, until the board is quiet
+
+    def line(self):
+        chosen = self.choose()
+        oracle.answer(self.board, chosen)
+        return chosen
+
+    def choose(self):
+        dice = self.rng.random()
+        if dice < 0.01:
+            return self.rng.choice(UNREADABLE)
+        if dice < 0.03 and not self.draining:
+            return self.odd_line()
+        idle = self.desks_at(lambda desk: desk.place == oracle.IDLE)
+        busy = self.desks_at(lambda desk: not oracle.at_rest(desk))
+        if busy and (self.draining or not idle or self.rng.random() >= self.adding):
+            return self.step_line(busy)
+        if idle and not self.draining:
+            return self.add_line(self.rng.choice(idle))
+        return b"s %d" % self.rng.randrange(oracle.DESKS)
+
+    def desks_at(self, wanted):
+        """The favoured desks that are as wanted; if none is, any such desk."""
+        desks = [number for number in range(oracle.DESKS) if wanted(self.board.desks[number])]
+        return [number for number in desks if number in self.favoured] or desks
+
+    def add_line(self, desk):
+        return self.add(desk, self.tray(), self.property(), self.cents())
+
+    def tray(self):
+        """A tray of some rule, often the one that the rule is shortest of."""
+        dice = self.rng.random()
+        if dice < 0.2 or not self.board.table.rules:
+            return self.rng.randrange(self.trays)
+        members = self.rng.choice(self.board.table.rules).members
+        if dice < 0.5:
+            return self.rng.choice(members)
+        return min(members, key=self.pending)
+
+    def pending(self, tray):
+        items = self.board.items
+        return sum(item.tray == tray and item.status == oracle.PENDING for item in items)
+
+    def add(self, desk, tray, prop, cents):
+        return b"a %d %d %d %d" % (desk, tray, prop, cents)
+
+    def step_line(self, busy):
+        if self.last not in busy or self.rng.random() >= self.run_on:
+            self.last = self.rng.choice(busy)
+        return b"s %d" % self.last
+
+    def property(self):
+        if self.rng.random() < 0.02:
+            return 2**32 - 1
+        return self.rng.randrange(self.properties)
+
+    def cents(self):
+        dice = self.rng.random()
+        if dice < 0.03:
+            return self.rng.choice((oracle.MOST_CENTS, -oracle.MOST_CENTS, 0))
+        return self.rng.randint(-100_000, 100_000)
+
+    def odd_line(self):
+        """A line that reads and is mostly refused, or is oddly written."""
+        desk, tray = self.rng.randrange(oracle.DESKS), self.rng.randrange(self.trays)
+        too_much = oracle.MOST_CENTS + self.rng.choice((1, 10**15))
+        return self.rng.choice((
+            b"s %d" % desk,
+            b"s %d" % self.rng.choice((32, 33, 255, 65535)),
+            b"s %08d" % desk,
+            b"a %04d %03d %d %d" % (desk, tray, self.property(), self.cents()),
+            b"a %d %d %d -0" % (desk, tray, self.property()),
+            self.add(desk, tray, self.property(), self.cents()),
+            self.add(32 + desk, tray, self.property(), self.cents()),
+            self.add(desk, self.trays, self.property(), self.cents()),
+            self.add(desk, 65535, self.property(), too_much),
+            self.add(desk, tray, self.property(), too_much),
+            self.add(desk, tray, self.property(), -too_much),
+        ))  # fmt: skip
+
+
+def random_input(seed, lines, table_data):
+    """Half of the sessions end with steps only, so that many end quiet."""
+    session = Session(seed, table_data)
+    tail = min(lines // 3, 400) if session.rng.random() < 0.5 else 0
+    chosen = []
+    for number in range(lines):
+        session.draining = number >= lines - tail
+        chosen.append(session.line() + b"\n")
+    return b"".join(chosen)
+
+
+def main(arguments):
+    if len(arguments) == 3 and arguments[0] == "table":
+        write_random_table(arguments[1], arguments[2])
+    elif len(arguments) in (2, 3):
+        path = arguments[2] if len(arguments) == 3 else "rules.bin"
+        try:
+            session = random_input(arguments[0], int(arguments[1]), oracle.table_file(path))
+        except oracle.Refused as refused:
+            sys.exit(f"{path}: table refused {refused.number}")
+        sys.stdout.buffer.write(session)
+    else:
+        sys.exit("usage: random_session.py SEED N [RULES.BIN] | random_session.py table SEED FILE")
+
+
+if __name__ == "__main__":
+    main(sys.argv[1:])
