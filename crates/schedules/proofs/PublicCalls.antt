@@ -74,7 +74,8 @@ reads-as s h e =
       match-reads = λ k l.
           sym (match-is s (h .board) c m e k (omega (arith, l, length-from (matchIn t m) 0 (h .board .matches))) .1)
           ∙ nth-map (readMatch t b) (b .matches) k noMatch noRead l;
-      message-reads = λ n l. sym (message-is s (h .board) c m e n (omega (arith, l, length-messages c 0 (h .board .messages))) .1);
+      message-reads = λ n l.
+          sym (message-is s (h .board) c m e n (omega (arith, l, length-messages c 0 (h .board .messages))) .1);
       reply-reads = λ i l. sym (reply-is s (h .board) c m e i l .1)
           ∙ ap (λ (d : Sender). d .reply) (nth-sender t (h .board .senders) i);
       quiet-reads = sym (quiet-is s (h .board) c m e);
@@ -116,7 +117,8 @@ public-calls = record {
   replayed = λ s h c before after h′ o p.
       let r = p .plays refl in (
         demand s h (callsOf c) h′ o (r .accepted) (r .leaves),
-        r .says ∙ ap (λ (b : Board). answerNumbers (history (tableOf s) b (callsOf c)) ++ drop (length (c .kinds)) before)
+        r .says
+            ∙ ap (λ (b : Board). answerNumbers (history (tableOf s) b (callsOf c)) ++ drop (length (c .kinds)) before)
             (opened s h o .1),
       );
   history-never-30 = λ s h ks n z e q. omega (arith, q, few-said (tableOf s) (boardOf s h) ks n z e);

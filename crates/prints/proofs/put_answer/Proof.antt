@@ -174,144 +174,180 @@ same-length c = search needs
 
 returns : tie.Need-returns
 returns c =
-    let q = c .before .before in
-    (rw (q .before .before .before .before .said .given .1) (q .put-numbered .ensures .0), omega (arith, q .put-numbered .ensures .1))
+    let q = c .before .before in (
+      rw (q .before .before .before .before .said .given .1) (q .put-numbered .ensures .0),
+      omega (arith, q .put-numbered .ensures .1),
+    )
 
 same-length-2 : tie.Need-same-length-2
 same-length-2 c = search needs
 
 returns-2 : tie.Need-returns-2
 returns-2 c =
-    let q = c .before .before in
-    (rw (q .before .before .before .before .said2 .given .1) (q .put-numbered2 .ensures .0), omega (arith, q .put-numbered2 .ensures .1))
+    let q = c .before .before in (
+      rw (q .before .before .before .before .said2 .given .1) (q .put-numbered2 .ensures .0),
+      omega (arith, q .put-numbered2 .ensures .1),
+    )
 
 same-length-3 : tie.Need-same-length-3
 same-length-3 c = search needs
 
 returns-3 : tie.Need-returns-3
 returns-3 c =
-    let q = c .before .before in
-    (rw (q .before .before .before .enum-told .given .1) (q .put-alone .ensures .0), omega (arith, q .put-alone .ensures .1))
+    let q = c .before .before in (
+      rw (q .before .before .before .enum-told .given .1) (q .put-alone .ensures .0),
+      omega (arith, q .put-alone .ensures .1),
+    )
 
 same-length-4 : tie.Need-same-length-4
 same-length-4 c = search needs
 
 returns-4 : tie.Need-returns-4
 returns-4 c =
-    let q = c .before .before in
-    (rw (q .before .before .before .before .said3 .given .1) (q .put-numbered3 .ensures .0), omega (arith, q .put-numbered3 .ensures .1))
+    let q = c .before .before in (
+      rw (q .before .before .before .before .said3 .given .1) (q .put-numbered3 .ensures .0),
+      omega (arith, q .put-numbered3 .ensures .1),
+    )
 
 same-length-5 : tie.Need-same-length-5
 same-length-5 c = search needs
 
 returns-5 : tie.Need-returns-5
 returns-5 c =
-    let q = c .before .before in
-    (rw (q .before .before .before .before .said4 .given .1) (q .put-numbered4 .ensures .0), omega (arith, q .put-numbered4 .ensures .1))
+    let q = c .before .before in (
+      rw (q .before .before .before .before .said4 .given .1) (q .put-numbered4 .ensures .0),
+      omega (arith, q .put-numbered4 .ensures .1),
+    )
 
 same-length-6 : tie.Need-same-length-6
 same-length-6 c = search needs
 
 returns-6 : tie.Need-returns-6
 returns-6 c =
-    let q = c .before .before in
-    (rw (q .before .before .before .before .said5 .given .1) (q .put-numbered5 .ensures .0), omega (arith, q .put-numbered5 .ensures .1))
+    let q = c .before .before in (
+      rw (q .before .before .before .before .said5 .given .1) (q .put-numbered5 .ensures .0),
+      omega (arith, q .put-numbered5 .ensures .1),
+    )
 
 same-length-7 : tie.Need-same-length-7
 same-length-7 c = search needs
 
 returns-7 : tie.Need-returns-7
 returns-7 c =
-    let q = c .before .before in
-    (rw (q .before .before .before .before .said6 .given .1) (q .put-numbered6 .ensures .0), omega (arith, q .put-numbered6 .ensures .1))
+    let q = c .before .before in (
+      rw (q .before .before .before .before .said6 .given .1) (q .put-numbered6 .ensures .0),
+      omega (arith, q .put-numbered6 .ensures .1),
+    )
 
 same-length-8 : tie.Need-same-length-8
 same-length-8 c = search needs
 
 returns-8 : tie.Need-returns-8
 returns-8 c =
-    let q = c .before .before in
-    (rw (q .before .before .before .before .said7 .given .1) (q .put-numbered7 .ensures .0), omega (arith, q .put-numbered7 .ensures .1))
+    let q = c .before .before in (
+      rw (q .before .before .before .before .said7 .given .1) (q .put-numbered7 .ensures .0),
+      omega (arith, q .put-numbered7 .ensures .1),
+    )
 
 same-length-9 : tie.Need-same-length-9
 same-length-9 c = search needs
 
 returns-9 : tie.Need-returns-9
 returns-9 c =
-    let q = c .before .before in
-    (rw (q .before .before .before .before .said8 .given .1) (q .put-numbered8 .ensures .0), omega (arith, q .put-numbered8 .ensures .1))
+    let q = c .before .before in (
+      rw (q .before .before .before .before .said8 .given .1) (q .put-numbered8 .ensures .0),
+      omega (arith, q .put-numbered8 .ensures .1),
+    )
 
 same-length-10 : tie.Need-same-length-10
 same-length-10 c = search needs
 
 returns-10 : tie.Need-returns-10
 returns-10 c =
-    let q = c .before .before in
-    (rw (q .before .before .before .before .said9 .given .1) (q .put-numbered9 .ensures .0), omega (arith, q .put-numbered9 .ensures .1))
+    let q = c .before .before in (
+      rw (q .before .before .before .before .said9 .given .1) (q .put-numbered9 .ensures .0),
+      omega (arith, q .put-numbered9 .ensures .1),
+    )
 
 same-length-11 : tie.Need-same-length-11
 same-length-11 c = search needs
 
 returns-11 : tie.Need-returns-11
 returns-11 c =
-    let q = c .before .before in
-    (rw (q .before .before .before .before .said10 .given .1) (q .put-numbered10 .ensures .0), omega (arith, q .put-numbered10 .ensures .1))
+    let q = c .before .before in (
+      rw (q .before .before .before .before .said10 .given .1) (q .put-numbered10 .ensures .0),
+      omega (arith, q .put-numbered10 .ensures .1),
+    )
 
 same-length-12 : tie.Need-same-length-12
 same-length-12 c = search needs
 
 returns-12 : tie.Need-returns-12
 returns-12 c =
-    let q = c .before .before in
-    (rw (q .before .before .before .before .said11 .given .1) (q .put-numbered11 .ensures .0), omega (arith, q .put-numbered11 .ensures .1))
+    let q = c .before .before in (
+      rw (q .before .before .before .before .said11 .given .1) (q .put-numbered11 .ensures .0),
+      omega (arith, q .put-numbered11 .ensures .1),
+    )
 
 same-length-13 : tie.Need-same-length-13
 same-length-13 c = search needs
 
 returns-13 : tie.Need-returns-13
 returns-13 c =
-    let q = c .before .before in
-    (rw (q .before .before .before .enum-told2 .given .1) (q .put-alone2 .ensures .0), omega (arith, q .put-alone2 .ensures .1))
+    let q = c .before .before in (
+      rw (q .before .before .before .enum-told2 .given .1) (q .put-alone2 .ensures .0),
+      omega (arith, q .put-alone2 .ensures .1),
+    )
 
 same-length-14 : tie.Need-same-length-14
 same-length-14 c = search needs
 
 returns-14 : tie.Need-returns-14
 returns-14 c =
-    let q = c .before .before in
-    (rw (q .before .before .before .enum-told3 .given .1) (q .put-alone3 .ensures .0), omega (arith, q .put-alone3 .ensures .1))
+    let q = c .before .before in (
+      rw (q .before .before .before .enum-told3 .given .1) (q .put-alone3 .ensures .0),
+      omega (arith, q .put-alone3 .ensures .1),
+    )
 
 same-length-15 : tie.Need-same-length-15
 same-length-15 c = search needs
 
 returns-15 : tie.Need-returns-15
 returns-15 c =
-    let q = c .before .before in
-    (rw (q .before .before .before .enum-told4 .given .1) (q .put-alone4 .ensures .0), omega (arith, q .put-alone4 .ensures .1))
+    let q = c .before .before in (
+      rw (q .before .before .before .enum-told4 .given .1) (q .put-alone4 .ensures .0),
+      omega (arith, q .put-alone4 .ensures .1),
+    )
 
 same-length-16 : tie.Need-same-length-16
 same-length-16 c = search needs
 
 returns-16 : tie.Need-returns-16
 returns-16 c =
-    let q = c .before .before in
-    (rw (q .before .before .before .before .said12 .given .1) (q .put-numbered12 .ensures .0), omega (arith, q .put-numbered12 .ensures .1))
+    let q = c .before .before in (
+      rw (q .before .before .before .before .said12 .given .1) (q .put-numbered12 .ensures .0),
+      omega (arith, q .put-numbered12 .ensures .1),
+    )
 
 same-length-17 : tie.Need-same-length-17
 same-length-17 c = search needs
 
 returns-17 : tie.Need-returns-17
 returns-17 c =
-    let q = c .before .before in
-    (rw (q .before .before .before .enum-told5 .given .1) (q .put-alone5 .ensures .0), omega (arith, q .put-alone5 .ensures .1))
+    let q = c .before .before in (
+      rw (q .before .before .before .enum-told5 .given .1) (q .put-alone5 .ensures .0),
+      omega (arith, q .put-alone5 .ensures .1),
+    )
 
 same-length-18 : tie.Need-same-length-18
 same-length-18 c = search needs
 
 returns-18 : tie.Need-returns-18
 returns-18 c =
-    let q = c .before .before in
-    (rw (q .before .before .before .before .said13 .given .1) (q .put-numbered13 .ensures .0), omega (arith, q .put-numbered13 .ensures .1))
+    let q = c .before .before in (
+      rw (q .before .before .before .before .said13 .given .1) (q .put-numbered13 .ensures .0),
+      omega (arith, q .put-numbered13 .ensures .1),
+    )
 
 pub put-answer-spec : {M : Type 1} → statement M
 put-answer-spec =

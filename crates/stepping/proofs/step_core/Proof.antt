@@ -46,7 +46,8 @@ returns-2 c =
     let h = lent s in
     refused-plays t h (s .pre) i 13
     (by-state (tableOf t) (boardOf t h) i _ (d .sender-at .ensures (tableOf t) (h .columns) (h .matches)) l
-    ∙ refused-is (tableOf t) (boardOf t h) (d .sender-at .result) (sym (k .can-step .ensures) ∙ not-true _ (c .if2 .taken)))
+    ∙ refused-is (tableOf t) (boardOf t h) (d .sender-at .result)
+    (sym (k .can-step .ensures) ∙ not-true _ (c .if2 .taken)))
 
 step-sender-requires : tie.Need-step-sender-requires
 step-sender-requires c κs =

@@ -1,0 +1,80 @@
+"""Runs target/bin/gevnyusto and compares each printout.
+
+    python3 tests/program_test.py [SESSIONS]
+
+The examples, odd files and odd inputs, and SESSIONS random sessions (default 300), each on its own random
+table, against tests/oracle.py. The last line is `program: N passed, M failed`.
+"""
+
+import pathlib
+import subprocess
+import sys
+import tempfile
+
+import check_examples
+import oracle
+import random_session
+
+ROOT = pathlib.Path(__file__).resolve().parent.parent
+PROGRAM = ROOT / "target" / "bin" / "gevnyusto"
+TABLE_P = (ROOT / "examples" / "table-p" / "rules.bin").read_bytes()
+RUN_OF_P = (ROOT / "examples" / "table-p" / "input").read_bytes()
+
+
+def printed(table, lines):
+    """What the program prints in a folder with that `rules.bin`, or with none."""
+    with tempfile.TemporaryDirectory() as folder:
+        if table is not None:
+            (pathlib.Path(folder) / "rules.bin").write_bytes(table)
+        run = subprocess.run([PROGRAM], cwd=folder, input=lines, capture_output=True, timeout=120)
+        return run.stdout + run.stderr
+
+
+def example_cases():
+    for folder in sorted(check_examples.EXAMPLES.iterdir()):
+        yield f"example {folder.name}: its files", list(check_examples.faults(folder)), []
+        wanted = (folder / "printout").read_bytes()
+        got = printed((folder / "rules.bin").read_bytes(), (folder / "input").read_bytes())
+        yield f"example {folder.name}", got, wanted
+
+
+def odd_cases():
+    tables = {"no file": None, "an empty file": b"", "one byte less": TABLE_P[:-1], "one byte more": TABLE_P + b"\0"}
+    tables["413 bytes"] = TABLE_P + bytes(413 - len(TABLE_P))
+    tables["a long file"] = TABLE_P + bytes(100_000)
+    for name, table in tables.items():
+        yield name, printed(table, RUN_OF_P), oracle.printout((table or b"")[:413], RUN_OF_P)
+    inputs = {"no input": b"", "a line feed": b"\n", "no last line feed": RUN_OF_P.rstrip(b"\n")}
+    inputs["a line of 80 bytes"] = b"s " + b"0" * 78 + b"\n"
+    inputs["a line of 81 bytes"] = b"s " + b"0" * 79 + b"\n"
+    inputs["a line of 20,000 bytes"] = b"s " + b"0" * 20_000 + b"\ns 0\n"
+    inputs["unreadable lines"] = b"\n".join(random_session.UNREADABLE)
+    inputs["5,000 line feeds"] = b"\n" * 5_000
+    inputs["lines over the ends of reads"] = b"s 0\na 0 0 1 5\ns 12345\n" * 2_000
+    for name, lines in inputs.items():
+        yield name, printed(TABLE_P, lines), oracle.printout(TABLE_P, lines)
+
+
+def random_cases(count):
+    for seed in range(count):
+        table = random_session.random_table(seed)
+        lines = random_session.random_input(seed, 400, table)
+        yield f"random session {seed}", printed(table, lines), oracle.printout(table, lines)
+
+
+def main():
+    count = int(sys.argv[1]) if len(sys.argv) > 1 else 300
+    passed = failed = 0
+    for cases in (example_cases(), odd_cases(), random_cases(count)):
+        for name, got, wanted in cases:
+            if got == wanted:
+                passed += 1
+            else:
+                failed += 1
+                print(f"program: failed: {name}")
+    print(f"program: {passed} passed, {failed} failed")
+    sys.exit(1 if failed else 0)
+
+
+if __name__ == "__main__":
+    main()
