@@ -1,0 +1,2 @@
+-- What the proofs of the program share.
+pub mod Opened

@@ -1,0 +1,31 @@
+-- `gevnyusto::say_matches` is safe and ends: each part goes further.
+use Prim.Native.Nat.{_≤_, _-_}
+use borrow.Author.Needs.{needs}
+use Rattle.gevnyusto.proofs.say_matches.Statement.{statement}
+use Rattle.gevnyusto.proofs.say_matches.Tie as tie
+
+abbrev Inv-loop : tie.InvT-loop
+Inv-loop table b channels properties cents statuses matched wakers chords messages k₀ k = k ≤ b .matches
+
+abbrev μ-loop : tie.MeasureT-loop
+μ-loop table b channels properties cents statuses matched wakers chords messages k₀ k = b .matches - k
+
+loop-holds : tie.Need-loop-holds Inv-loop μ-loop
+loop-holds c = search needs
+
+say-some-matches-requires : tie.Need-say-some-matches-requires Inv-loop μ-loop
+say-some-matches-requires c κs = search needs
+
+loop-less : tie.Need-loop-less Inv-loop μ-loop
+loop-less c = search needs
+
+loop-again : tie.Need-loop-again Inv-loop μ-loop
+loop-again c = search needs
+
+returns : tie.Need-returns Inv-loop μ-loop
+returns c = search needs
+
+pub say-matches-spec : {M : Type 1} → statement M
+say-matches-spec =
+    tie.close
+    (tie.spec Inv-loop μ-loop loop-holds say-some-matches-requires loop-less loop-again returns)
