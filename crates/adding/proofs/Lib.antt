@@ -1,3 +1,2 @@
--- Laws of an opened board and of an add.
+-- Laws of an opened board.
 pub mod OpenLaws
-pub mod AddingLaws

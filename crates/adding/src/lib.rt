@@ -53,8 +53,8 @@ pub fn open_board(table: &[u8]) -> Opened
     }
 }
 
-// An add on a board that the first tests accept: its own refusals, then the message.
-pub fn add_core(
+// An add on a board that the first tests accept.
+fn add_core(
     table: &[u8],
     b: Board,
     i: u16,
@@ -80,30 +80,15 @@ pub fn add_core(
         (heldBy (r .board) (now (channels .exit)) (now (properties .exit)) (now (cents .exit)) (now (statuses .exit))
         (now (matched .exit)) (now (wakers .exit)) (now (chords .entry)) (now (messages .entry))) ⌝ }
 {
-    let number = adds::add_refusal(table, b, i, channel, amount);
-    if number != 0 {
-        return Answer {
-            said: Said::Refused(number),
-            board: b,
-        };
-    }
     let n = b.messages;
-    let r = adds::add(
-        table,
-        b,
-        i,
-        channel,
-        property,
-        amount,
-        channels,
-        properties,
-        cents,
-        statuses,
-        matched,
-        wakers,
-    );
+    let at = moves::place_of(i);
+    let d = b.senders[at as usize];
+    let m = moves::add_move(table, i, d, n, channel, property, amount);
+    moves::put_added(m, n, channels, properties, cents, statuses, matched, wakers);
+    let said = m.said;
+    let r = moves::moved(b, at, m);
     Answer {
-        said: Said::Item(n),
+        said: said,
         board: r,
     }
 }

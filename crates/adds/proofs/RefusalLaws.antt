@@ -1,12 +1,10 @@
 -- The refusals of an add, by what the code reads of the board.
 use mathlib.Core.Path.{_≡_}
 use Prim.Native.Nat.{ℕ}
-use lib.Dec.{ltb}
-use lib.ListN.{length, getD, List·getD-map}
-use Rattle.model.specs.Basics.{unless}
+use lib.ListN.{getD, List·getD-map}
 use Rattle.model.specs.Tables.{Table}
 use Rattle.model.specs.Boards.{Sent}
-use Rattle.model.specs.Adds.{addRefusal, centsOk}
+use Rattle.model.specs.Adds.{addRefusal}
 use Rattle.columns.specs.Columns.{Columns}
 use Rattle.columns.specs.MatchColumns.{MatchColumns}
 use Rattle.columns.proofs.Messages.{length-messages}
@@ -14,14 +12,12 @@ use Rattle.state.specs.Views.{senderIn, idleIs}
 use Rattle.state.proofs.StateLaws.{idle-is}
 use Rattle.boards.specs.declared.Board as DB
 use Rattle.boards.specs.Boards.{boardIn}
-use Rattle.boards.proofs.SenderLaws.{zeroSender}
+use Rattle.boards.specs.Boards.{zeroSender}
+use Rattle.adds.specs.Sends.{refusalBy}
 
 pub refusal-is : (t : Table) (b : DB.Board) (c : Columns) (m : MatchColumns) (i : ℕ) (x : Sent)
-    → addRefusal t (boardIn t b c m) i x ≡ unless (ltb i 32) 8
-    (unless (idleIs (getD (b .senders) i zeroSender .state)) 9
-    (unless (ltb (x .channel) (length (t .kinds))) 10
-    (unless (centsOk (x .cents)) 11
-    (unless (ltb (b .messages) 1024) 12 0))))
+    → addRefusal t (boardIn t b c m) i x
+    ≡ refusalBy t i (idleIs (getD (b .senders) i zeroSender .state)) (x .channel) (x .cents) (b .messages)
 unfolding addRefusal
 refusal-is t b c m i x =
     let d = getD (b .senders) i zeroSender in

@@ -1,6 +1,6 @@
 -- What a step's effect writes: to a message's columns, to the match columns, to the senders.
 use mathlib.Core.Bool.{_&&_, _||_, not}
-use mathlib.Core.List.{List}
+use mathlib.Core.List.{List, map}
 use Prim.Native.Nat.{ℕ, _+_, _*_, _<_, _≤_}
 use lib.Dec.{eqb}
 use lib.ListN.{getD, set}
@@ -11,6 +11,7 @@ use Rattle.state.specs.declared.Turn.the-variants as U
 use Rattle.state.specs.declared.Change as DG
 use Rattle.state.specs.declared.Change.the-variants as G
 use Rattle.state.specs.declared.Sender as DD
+use Rattle.state.specs.declared.Effect as DE
 use Rattle.state.specs.Views.{idleIs}
 use Rattle.boards.specs.declared.Board as DB
 
@@ -105,8 +106,30 @@ signalledBy n d = record {
   job = d .job;
 }
 
-abbrev pub boardWith : DB.Board → List DD.Sender → DB.Board
-boardWith b ds = record { messages = b .messages; matches = b .matches; senders = ds }
+-- the message whose sender a change signals, plus 1; 0 for none
+abbrev pub signalBy : DG.Change → ℕ
+signalBy G.None = 0
+signalBy (G.Turn n u) = 0
+signalBy (G.Record n) = 0
+signalBy (G.Signal n) = n + 1
 
-abbrev pub boardMatched : DB.Board → DB.Board
-boardMatched b = record { messages = b .messages; matches = b .matches + 1; senders = b .senders }
+abbrev pub SignalFits : DG.Change → Type 0
+SignalFits G.None = Unit {0}
+SignalFits (G.Turn n u) = Unit {0}
+SignalFits (G.Record n) = Unit {0}
+SignalFits (G.Signal n) = n < 1024
+
+-- the senders after a change
+abbrev pub sendersBy : DG.Change → List DD.Sender → List DD.Sender
+sendersBy G.None ds = ds
+sendersBy (G.Turn n u) ds = ds
+sendersBy (G.Record n) ds = ds
+sendersBy (G.Signal n) ds = map (signalledBy n) ds
+
+-- the board after an effect of sender i
+abbrev pub boardBy : DB.Board → ℕ → DE.Effect → DB.Board
+boardBy b i e = record {
+  messages = b .messages;
+  matches = matchesBy (e .change) (b .matches);
+  senders = sendersBy (e .change) (set (b .senders) i (e .sender));
+}

@@ -1,23 +1,14 @@
-// What a step's effect writes to the board and to the lent columns.
+// What a step's change writes to the lent columns and to the senders.
 ghost use mathlib.Core.Path.{_≡_};
-ghost use mathlib.Core.List.{List, map};
-ghost use Prim.Native.Nat.{ℕ, _+_, _*_, _<_, _≤_};
-ghost use lib.IntN.{ℤ};
+ghost use mathlib.Core.List.{map};
+ghost use Prim.Native.Nat.{_+_, _*_, _<_, _≤_};
 ghost use lib.ListN.{length, getD, set};
 ghost use lib.Seq.{paste};
-ghost use Rattle.model.specs.Tables.{Table};
-ghost use Rattle.model.specs.Boards as MB;
-ghost use Rattle.model.specs.Effects as ME;
-ghost use Rattle.columns.specs.Columns.{Columns, columnsOf};
-ghost use Rattle.columns.specs.MatchColumns.{MatchColumns, matchesOf};
-ghost use Rattle.state.specs.Views.{senderIn, effectIn};
-ghost use Rattle.boards.specs.Boards.{boardIn};
-ghost use Rattle.applies.specs.Writes.{ChordsFit, statusBy, matchBy, wakerBy, WakerFits};
+ghost use Rattle.applies.specs.Writes.{statusBy, matchBy, wakerBy, WakerFits};
 ghost use Rattle.applies.specs.Writes.{statusesBy, matchedBy, wakersBy, chordsBy, matchMessagesBy, matchesBy};
-ghost use Rattle.applies.specs.Writes.{Sure, signalledBy, boardWith, boardMatched};
-use boards::Board;
+ghost use Rattle.applies.specs.Writes.{Sure, SignalFits, signalBy, signalledBy};
 use state::Change;
-use state::Effect;
+use state::Job;
 use state::Sender;
 use state::State;
 use state::Turn;
@@ -129,102 +120,67 @@ pub fn record_match(chords: &mut [u8], messages: &mut [u16], k: u16, chord: u8, 
     chords[n] = chord;
 }
 
-// The sender at a place.
-pub fn sender_at(b: Board, i: u8) -> Sender
-    requires { ⌜ i < 32 ⌝ }
-    ensures { λ r. ⌜ ((t : Table) (c : Columns) (m : MatchColumns) →
-        senderIn t r ≡ MB.senderAt (boardIn t b c m) i) ⌝ }
+// The message whose sender a change signals, plus 1; 0 for none.
+pub fn signals(c: Change) -> u16
+    requires { ⌜ SignalFits c ⌝ }
+    ensures { λ r. ⌜ r ≡ signalBy c ⌝ }
 {
-    let k = i as usize;
-    b.senders[k]
+    match c {
+        Change::None => 0,
+        Change::Turn(_, _) => 0,
+        Change::Record(_) => 0,
+        Change::Signal(n) => n + 1,
+    }
 }
 
-// The board with another sender at a place.
-pub fn with_sender(b: Board, i: u8, d: Sender) -> Board
-    requires { ⌜ i < 32 ⌝ }
-    ensures { λ r. ⌜ r ≡ boardWith b (set (b .senders) i d) ⌝ }
+// How many matches there are after a change.
+pub fn matches_after(c: Change, k: u16) -> u16
+    requires { ⌜ k ≤ 1024 ⌝ }
+    ensures { λ r. ⌜ r ≡ matchesBy c k ⌝ }
 {
-    let k = i as usize;
-    let mut r = b;
-    r.senders[k] = d;
-    r
+    match c {
+        Change::None => k,
+        Change::Turn(_, _) => k,
+        Change::Record(_) => k + 1,
+        Change::Signal(_) => k,
+    }
 }
 
-// The board with the senders of message n signalled.
-pub fn with_signals(b: Board, n: u16) -> Board
-    requires { ⌜ n < 1024 ⌝ }
-    ensures { λ r. ⌜ r ≡ boardWith b (map (signalledBy n) (b .senders)) ⌝ }
-{
-    let ds = b.senders;
-    let es = signal_all(ds, n);
-    let mut r = b;
-    r.senders = es;
-    r
-}
-
-// The board with one match more.
-pub fn with_match(b: Board) -> Board
-    requires { ⌜ b .matches < 1024 ⌝ }
-    ensures { λ r. ⌜ r ≡ boardMatched b ⌝ }
-{
-    let mut r = b;
-    r.matches = b.matches + 1;
-    r
-}
-
-// What a step does is written: its sender, and one message, one match with its last claim, or the signals.
-pub fn apply(
-    b: Board,
-    i: u8,
-    e: Effect,
+// Writes what a step changes in the columns: one message turns, or match k is recorded with its last claim.
+pub fn write_change(
+    c: Change,
+    k: u16,
+    j: Job,
     statuses: &mut [u8],
     matched: &mut [u16],
     wakers: &mut [u16],
     chords: &mut [u8],
     messages: &mut [u16],
-) -> Board
-    requires { ⌜ (i < 32) × (b .messages ≤ 1024) × (b .matches ≤ 1024)
-        × (b .messages ≤ length (now statuses)) × (b .messages ≤ length (now matched))
-        × (b .messages ≤ length (now wakers)) × (length (now chords) ≡ 1024) × (length (now messages) ≡ 8192)
-        × Sure (b .messages) (b .matches) (e .change) ⌝ }
-    ensures { λ r. ⌜ ((t : Table) (channels properties : List ℕ) (cents : List ℤ) → ChordsFit t →
-        boardIn t r
-        (columnsOf channels properties cents (now (statuses .exit)) (now (matched .exit)) (now (wakers .exit)))
-        (matchesOf (now (chords .exit)) (now (messages .exit)))
-        ≡ ME.apply
-        (boardIn t b
-        (columnsOf channels properties cents (now (statuses .entry)) (now (matched .entry)) (now (wakers .entry)))
-        (matchesOf (now (chords .entry)) (now (messages .entry))))
-        i (effectIn t e)) ⌝ }
-    ensures { λ _. ⌜ (now (statuses .exit) ≡ statusesBy (e .change) (now (statuses .entry)))
-        × (now (matched .exit) ≡ matchedBy (e .change) (now (matched .entry)))
-        × (now (wakers .exit) ≡ wakersBy (e .change) (now (wakers .entry))) ⌝ }
-    ensures { λ r. ⌜ (now (chords .exit)
-        ≡ chordsBy (e .change) (b .matches) (e .sender .job .chord) (now (chords .entry)))
-        × (now (messages .exit)
-        ≡ matchMessagesBy (e .change) (b .matches) (e .sender .job .chosen) (now (messages .entry)))
-        × (r .messages ≡ b .messages) × (r .matches ≡ matchesBy (e .change) (b .matches)) ⌝ }
+)
+    requires { ⌜ Sure 1024 k c × (length (now statuses) ≡ 1024) × (length (now matched) ≡ 1024)
+        × (length (now wakers) ≡ 1024) × (length (now chords) ≡ 1024) × (length (now messages) ≡ 8192) ⌝ }
+    ensures { λ _. ⌜ (now (statuses .exit) ≡ statusesBy c (now (statuses .entry)))
+        × (now (matched .exit) ≡ matchedBy c (now (matched .entry)))
+        × (now (wakers .exit) ≡ wakersBy c (now (wakers .entry)))
+        × (now (chords .exit) ≡ chordsBy c k (j .chord) (now (chords .entry)))
+        × (now (messages .exit) ≡ matchMessagesBy c k (j .chosen) (now (messages .entry))) ⌝ }
 {
-    let d = e.sender;
-    let n = with_sender(b, i, d);
-    let c = e.change;
     match c {
         Change::None => {
-            return n;
+            return;
         }
-        Change::Turn(k, u) => {
-            turn_message(k, u, statuses, matched, wakers);
-            return n;
+        Change::Turn(n, u) => {
+            turn_message(n, u, statuses, matched, wakers);
+            return;
         }
-        Change::Record(k) => {
-            turn_message(k, Turn::Claims, statuses, matched, wakers);
-            let j = d.job;
+        Change::Record(n) => {
+            turn_message(n, Turn::Claims, statuses, matched, wakers);
             let chosen = j.chosen;
-            record_match(chords, messages, b.matches, j.chord, chosen);
-            return with_match(n);
+            record_match(chords, messages, k, j.chord, chosen);
+            return;
         }
-        Change::Signal(k) => {
-            return with_signals(n, k);
+        Change::Signal(_) => {
+            return;
         }
     }
 }

@@ -495,7 +495,7 @@ fn say_add(label: &[u8], table: &[u8], w: World, i: u16, channel: u16, property:
 fn reads_of(
     table: &[u8],
     b: Board,
-    i: u8,
+    i: u16,
     chan: &[u8],
     prop: &[u32],
     cent: &[i64],
@@ -517,7 +517,7 @@ fn reads_of(
     }
 }
 
-fn reads_in(table: &[u8], w: World, i: u8) -> Reads {
+fn reads_in(table: &[u8], w: World, i: u16) -> Reads {
     let b = w.board;
     let chan = w.chan;
     let prop = w.prop;
@@ -641,7 +641,7 @@ fn say_match(label: &[u8], table: &[u8], w: World, k: u16) {
     say(b"\n");
 }
 
-fn say_reply(label: &[u8], table: &[u8], w: World, i: u8) {
+fn say_reply(label: &[u8], table: &[u8], w: World, i: u16) {
     let b = w.board;
     let chan = w.chan;
     let prop = w.prop;
@@ -980,7 +980,7 @@ fn short_add(table: &[u8], i: u16, column: u8, len: usize) -> Tried {
     )
 }
 
-fn short_reads(table: &[u8], i: u8, column: u8, len: usize) -> Reads {
+fn short_reads(table: &[u8], i: u16, column: u8, len: usize) -> Reads {
     let chan = [170u8; 1025];
     let prop = [2863311530u32; 1025];
     let cent = [-1i64; 1025];
@@ -1013,9 +1013,9 @@ fn short_reads(table: &[u8], i: u8, column: u8, len: usize) -> Reads {
 }
 
 // All calls, by sender i, on an empty board with one column lent at another length.
-fn say_short(label: &[u8], table: &[u8], i: u8, column: u8, len: usize) {
-    let s = short_step(table, i as u16, column, len);
-    let a = short_add(table, i as u16, column, len);
+fn say_short(label: &[u8], table: &[u8], i: u16, column: u8, len: usize) {
+    let s = short_step(table, i, column, len);
+    let a = short_add(table, i, column, len);
     let r = short_reads(table, i, column, len);
     say_six(label, s.number, a.number, r);
     say_end(s.kept & a.kept);
@@ -1130,7 +1130,7 @@ fn say_steppers(w: World) {
 fn say_repliers(w: World) {
     say_reply(b"slip, desk 31", &P, w, 31);
     say_reply(b"slip, desk 32", &P, w, 32);
-    say_reply(b"slip, desk 255", &P, w, 255);
+    say_reply(b"slip, desk 65535", &P, w, 65535);
 }
 
 fn say_trays(w: World) {

@@ -95,7 +95,7 @@ pub fn read_reply(
     wakers: &[u16],
     chords: &[u8],
     messages: &[u16],
-    i: u8,
+    i: u16,
 ) -> ReplyRead
     ensures { λ r. ⌜ r .number ≡ replyNumber (now (table .entry)) b
         (columnsOf (now (channels .entry)) (now (properties .entry)) (now (cents .entry))

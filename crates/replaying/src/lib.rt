@@ -8,7 +8,6 @@ ghost use Rattle.boards.specs.Calls.{heldBy, callIn};
 ghost use Rattle.judges.specs.Calls.{refusalOf, Plays};
 ghost use Rattle.replaying.specs.Replays.{callColumns, callAt, columnsFit, answerNumber};
 ghost use Rattle.replaying.specs.Replays.{replayNumber, Fit, Plays-all, Replays};
-use boards::Answer;
 use boards::Board;
 use boards::Call;
 use state::Said;
@@ -128,67 +127,7 @@ fn call_at(
     Call::Add(i, targets[k], numbers[k], amounts[k])
 }
 
-// One call on a board that the first tests accept.
-pub fn play(
-    table: &[u8],
-    b: Board,
-    call: Call,
-    channels: &mut [u8],
-    properties: &mut [u32],
-    cents: &mut [i64],
-    statuses: &mut [u8],
-    matched: &mut [u16],
-    wakers: &mut [u16],
-    chords: &mut [u8],
-    messages: &mut [u16],
-) -> Answer
-    requires { ⌜ refusalOf (now table) (heldBy b (now channels) (now properties) (now cents)
-        (now statuses) (now matched) (now wakers) (now chords) (now messages)) ≡ 0 ⌝ }
-    ensures { λ r. ⌜ Plays (now (table .entry))
-        (heldBy b (now (channels .entry)) (now (properties .entry)) (now (cents .entry)) (now (statuses .entry))
-        (now (matched .entry)) (now (wakers .entry)) (now (chords .entry)) (now (messages .entry)))
-        (callIn call) (saidIn (r .said))
-        (heldBy (r .board) (now (channels .exit)) (now (properties .exit)) (now (cents .exit)) (now (statuses .exit))
-        (now (matched .exit)) (now (wakers .exit)) (now (chords .exit)) (now (messages .exit))) ⌝ }
-{
-    match call {
-        Call::Add(i, channel, property, amount) => {
-            adding::add_core(
-                table,
-                b,
-                i,
-                channel,
-                property,
-                amount,
-                channels,
-                properties,
-                cents,
-                statuses,
-                matched,
-                wakers,
-                chords,
-                messages,
-            )
-        }
-        Call::Step(i) => {
-            stepping::step_core(
-                table,
-                b,
-                i,
-                channels,
-                properties,
-                cents,
-                statuses,
-                matched,
-                wakers,
-                chords,
-                messages,
-            )
-        }
-    }
-}
-
-// The calls on a board that the first tests accept, with room for each answer.
+// The calls on a board that the first tests accept, with room for each answer; the board is altered in place.
 fn replay_core(
     table: &[u8],
     b: Board,
@@ -223,10 +162,26 @@ fn replay_core(
     let mut k: usize = 0;
     while k < kinds.len() {
         let call = call_at(kinds, callers, targets, numbers, amounts, k);
-        let a = play(
+        let at = moves::place_of(moves::caller_of(call)) as usize;
+        let d = r.senders[at];
+        let n = r.messages;
+        let count = r.matches;
+        let m = moves::move_of(
             table,
-            r,
             call,
+            d,
+            n,
+            count,
+            channels,
+            properties,
+            statuses,
+            matched,
+            wakers,
+        );
+        moves::write_move(
+            m,
+            n,
+            count,
             channels,
             properties,
             cents,
@@ -236,9 +191,19 @@ fn replay_core(
             chords,
             messages,
         );
-        let said = a.said;
+        let e = m.sender;
+        let c = m.change;
+        r.senders[at] = e;
+        r.messages = moves::messages_after(m.adds, n);
+        r.matches = applies::matches_after(c, count);
+        let x = applies::signals(c);
+        if x != 0 {
+            let ds = r.senders;
+            let es = applies::signal_all(ds, x - 1);
+            r.senders = es;
+        }
+        let said = m.said;
         answers[k] = answer_number(said);
-        r = a.board;
         k += 1;
     }
     r

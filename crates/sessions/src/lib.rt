@@ -61,7 +61,7 @@ pub fn serve_line(
         let e = prints::put_answer(out, at, Said::Refused(16));
         return Served { board: b, at: e };
     };
-    let a = replaying::play(
+    let a = moves::play(
         table,
         b,
         call,

@@ -4,7 +4,7 @@ use mir.ValLaws.{toZ-ofZ}
 use mir.Syntax.{w64}
 use Rattle.boards.specs.Calls.{Held, heldBy}
 use Rattle.judges.specs.Calls.{refusalOf}
-use Rattle.adding.proofs.AddingLaws.{by-cents}
+use Rattle.moves.proofs.AddLaws.{by-cents}
 use Rattle.judges.proofs.CallLaws.{plays-refused}
 use borrow.Author.Needs.{needs}
 use Rattle.adding.proofs.add.Statement.{statement}

@@ -1,100 +1,76 @@
--- `adding::add_core` meets its contract: refused as the model refuses, or written.
-use mathlib.Core.Path.{_≡_, sym, _∙_}
+-- `adding::add_core` meets its contract: the add's move, written.
+use mathlib.Core.Path.{_≡_, sym}
+use native.Mathlib.Omega.{arith}
+use borrow.Author.Needs.{needs}
 use mir.ValLaws.{toZ-ofZ}
 use mir.Syntax.{w64}
-use mir.Val.{toZ, ofZ}
-use Rattle.model.specs.Boards.{Sent}
-use Rattle.model.specs.Layout.{tableOf}
-use Rattle.model.specs.Adds.{addRefusal}
-use Rattle.columns.specs.Columns.{Columns, columnsOf}
-use Rattle.columns.specs.MatchColumns.{MatchColumns}
-use Rattle.boards.specs.Boards.{boardIn}
+use Rattle.model.specs.Pools.{adds}
 use Rattle.boards.specs.Calls.{Held, heldBy}
-use Rattle.judges.specs.Calls.{refusalOf}
-use Rattle.judges.proofs.Refusals.{table-accepted, lent-whole}
+use Rattle.judges.proofs.Refusals.{table-accepted, lent-whole, messages-few, matches-few}
 use Rattle.adds.specs.Sends.{sent}
-use Rattle.adding.proofs.AddingLaws.{by-cents, Wrote, add-refused, add-plays}
-use borrow.Author.Needs.{needs}
+use Rattle.moves.specs.Moves.{Fits}
+use Rattle.moves.proofs.AddLaws.{by-cents}
+use Rattle.moves.proofs.MoveLaws.{standsAt, moved-plays}
+use Rattle.moves.proofs.WriteLaws.{written-add}
 use Rattle.adding.proofs.add_core.Statement.{statement}
 use Rattle.adding.proofs.add_core.Tie as tie
 
--- what is lent, and what is sent
+-- the board that is lent
 abbrev lent : tie.Start → Held
 lent s =
     let a = s .args in
-    heldBy (a .b) (a .channels .now) (a .properties .now) (a .cents .now) (a .statuses .now) (a .matched .now)
+    heldBy (a .t2) (a .channels .now) (a .properties .now) (a .cents .now) (a .statuses .now) (a .matched .now)
     (a .wakers .now) (a .chords .now) (a .messages .now)
 
-abbrev new : tie.Start → Sent
-new s = let a = s .args in sent (a .channel) (a .property) (toZ w64 (ofZ w64 (a .amount)))
+-- where the function starts, and where the caller is placed
+abbrev begun : tie.After-place-of → tie.Start
+begun w = w .before .before .before .before .before .before .before .before .before
 
-cents-back : (s : tie.Start) → toZ w64 (ofZ w64 (s .args .amount)) ≡ s .args .amount
-cents-back s = toZ-ofZ w64 (s .args .amount) (s .fits .amount)
+abbrev placed : tie.After-add-move → tie.After-place-of
+placed q = q .before .before
 
-accepted : (s : tie.Start) → refusalOf (s .args .table .now) (lent s) ≡ 0
-accepted s = s .pre
+fits : (q : tie.After-add-move)
+    → let a = begun (placed q) .args in
+    Fits (a .t2 .messages) (a .t2 .matches) (q .add-move .result)
+fits q =
+    let a = begun (placed q) .args in
+    q .add-move .ensures .0 (a .t2 .matches) (a .channels .now) (a .properties .now) (a .statuses .now) (a .matched .now)
+    (a .wakers .now) .1
 
--- where the function starts
-abbrev start : tie.After-add-refusal → tie.Start
-start c = c .before .before .before .before .before .before .before .before .before
+place-of-requires : tie.Need-place-of-requires
+place-of-requires c κs = search needs
 
-abbrev passed : tie.After-add → tie.Else1
-passed c = c .before .before .before .before .before .before .before
+cast-d : tie.Need-cast-d
+cast-d c = search needs
 
-abbrev from : tie.After-add → tie.Start
-from c = start (passed c .before)
+mul-d : tie.Need-mul-d
+mul-d c = search needs
 
--- an add that is not refused
-unrefused : (c : tie.Else1) (cs : Columns) (m : MatchColumns) → let s = start (c .before) in
-    let t = tableOf (s .args .table .now) in
-    addRefusal t (boardIn t (s .args .b) cs m) (s .args .i) (new s) ≡ 0
-unrefused c cs m =
-    sym (c .before .add-refusal .ensures cs m (start (c .before) .args .property)) ∙ c .if1 .left
+element-copy-out-d : tie.Need-element-copy-out-d
+element-copy-out-d c = search needs
 
--- the columns after the add
-abbrev exits : tie.After-add → Columns
-exits c =
-    let l = c .add .last .1 .1 .1 .1 .1 .1 in
-    columnsOf (l .0) (l .1 .0) (l .1 .1 .0) (l .1 .1 .1 .0) (l .1 .1 .1 .1 .0) (l .1 .1 .1 .1 .1 .0)
+add-move-requires : tie.Need-add-move-requires
+add-move-requires c κs = let s = c .before .before .before .before .before .before .before .before .before .before in table-accepted _ _ _ _ (s .pre)
 
-wrote : (c : tie.After-add)
-    → Wrote (lent (from c) .columns) (exits c) (from c .args .b .messages) (new (from c))
-wrote c =
-    let e = c .add .ensures .1 .0 in
-    record {
-      channels = e .0;
-      properties = e .1;
-      cents = e .2;
-      statuses = e .3;
-      matched = e .4;
-      wakers = e .5;
-    }
-
-add-refusal-requires : tie.Need-add-refusal-requires
-add-refusal-requires c κs =
-    let s = c .before .before .before .before .before .before .before .before in
-    table-accepted _ _ _ _ (accepted s)
-
-returns : tie.Need-returns
-returns c =
-    let q = c .before in
-    let s = start q in
-    let a = s .args in
-    by-cents (cents-back s) (add-refused (a .table .now) (lent s) (a .i) (new s) (accepted s)
-    (q .add-refusal .result) (q .add-refusal .ensures (lent s .columns) (lent s .matches) (a .property))
-    (c .if1 .taken))
-
-add-requires : tie.Need-add-requires
-add-requires c κs =
-    let e = c .before .before .before .before .before .before in
-    let s = start (e .before) in
-    let l = lent-whole _ _ _ _ (accepted s) in (
-      table-accepted _ _ _ _ (accepted s),
-      (
-        unrefused e,
-        ((l .channels-len, l .properties-len, l .cents-len), (l .statuses-len, l .matched-len, l .wakers-len)),
-      ),
+put-added-requires : tie.Need-put-added-requires
+put-added-requires c κs =
+    let q = c .before .before .before .before .before .before in
+    let l = lent-whole _ _ _ _ (begun (placed q) .pre) in (
+      fits q .room,
+      l .channels-len,
+      l .properties-len,
+      l .cents-len,
+      l .statuses-len,
+      l .matched-len,
+      l .wakers-len,
     )
+
+moved-requires : tie.Need-moved-requires
+moved-requires c κs =
+    let q = c .before .before .before .before .before .before .before .before .before .before .before .before .before .before .before .before .before .before in
+    let w = placed q in
+    let e = begun w .pre in
+    (w .place-of .ensures .1, messages-few _ _ _ _ e, matches-few _ _ _ _ e, fits q)
 
 same-length : tie.Need-same-length
 same-length c = search needs
@@ -114,28 +90,38 @@ same-length-5 c = search needs
 same-length-6 : tie.Need-same-length-6
 same-length-6 c = search needs
 
-returns-2 : tie.Need-returns-2
-returns-2 c =
-    let w = c .before .before .before .before .before .before .before .before .before .before .before in
-    let s = from w in
+returns : tie.Need-returns
+returns c =
+    let u = c .before .before .before .before .before .before .before .before .before .before .before .before in
+    let q = u .before .before .before .before .before .before .before in
+    let w = placed q in
+    let s = begun w in
     let a = s .args in
-    let e = w .add .ensures in
-    by-cents (cents-back s) (add-plays (a .table .now) (lent s) (a .i) (new s) (accepted s)
-    (w .add .result) (exits w) (wrote w) (e .1 .1 .0) (e .1 .1 .1)
-    (unrefused (passed w) (lent s .columns) (lent s .matches))
-    (e .0 (lent s .matches)))
+    let t = a .table .now in
+    let i = w .place-of .ensures .0 in
+    let e = q .add-move .ensures in
+    by-cents (toZ-ofZ w64 (a .amount) (s .fits .amount))
+    (moved-plays t (lent s) (adds (a .i) (sent (a .channel) (a .property) _)) _ (q .add-move .result) _ _ _ _ _ (sym i)
+    (e .0 (a .t2 .matches) (a .channels .now) (a .properties .now) (a .statuses .now) (a .matched .now) (a .wakers .now) .0
+    (standsAt t (lent s) _ _ (s .pre) i))
+    (written-add (a .t2) _ (q .add-move .result) _ _ _ _ _ _ _ _ _ _ _ _ _ _ (e .1) (u .put-added .ensures))
+    (c .moved .ensures))
 
 pub add-core-spec : {M : Type 1} → statement M
 add-core-spec =
     tie.close
     (tie.spec
-    add-refusal-requires
-    returns
-    add-requires
+    place-of-requires
+    cast-d
+    mul-d
+    element-copy-out-d
+    add-move-requires
+    put-added-requires
+    moved-requires
     same-length
     same-length-2
     same-length-3
     same-length-4
     same-length-5
     same-length-6
-    returns-2)
+    returns)

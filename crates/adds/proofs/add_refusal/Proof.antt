@@ -4,16 +4,13 @@ use mathlib.Core.Bool.{true}
 use native.Mathlib.Omega.{arith}
 use borrow.Author.Tests.{lt-ltb, le-ltb, not-true, not-false}
 use lib.Dec.{ltb}
-use lib.ListN.{length, getD}
+use lib.ListN.{length}
 use mir.ValLaws.{toZ-ofZ}
 use mir.Syntax.{w64}
 use mir.Val.{toZ, ofZ}
 use Rattle.model.specs.Layout.{tableOf}
 use Rattle.model.specs.Adds.{centsOk}
 use Rattle.state.specs.Views.{idleIs}
-use Rattle.boards.proofs.SenderLaws.{zeroSender}
-use Rattle.adds.specs.Sends.{sent}
-use Rattle.adds.proofs.RefusalLaws.{refusal-is}
 use borrow.Author.Needs.{needs}
 use Rattle.adds.proofs.add_refusal.Statement.{statement}
 use Rattle.adds.proofs.add_refusal.Tie as tie
@@ -22,10 +19,10 @@ abbrev start : tie.Else1 → tie.Start
 start c = c .before .before
 
 abbrev start2 : tie.Else2 → tie.Start
-start2 c = start (c .before .before .before)
+start2 c = start (c .before .before)
 
 -- the tests that are passed: the sender is idle, the channel is of the table, the cents are in range
-idle : (c : tie.Else2) → idleIs (getD (start2 c .args .t2 .senders) (start2 c .args .i) zeroSender .state) ≡ true
+idle : (c : tie.Else2) → idleIs (start2 c .args .s) ≡ true
 idle c = sym (c .before .is-idle .ensures) ∙ not-false _ (c .if2 .left)
 
 known : (c : tie.Else3) → ltb (start2 (c .before .before) .args .channel)
@@ -47,26 +44,16 @@ cents-in c = sym (tested (c .before)) ∙ not-false _ (c .if4 .left)
 returns : tie.Need-returns
 returns c =
     let a = c .before .before .args in
-    λ cs m property. rw (
-      refusal-is (tableOf (a .table .now)) (a .t2) cs m (a .i) (sent (a .channel) property (a .cents)),
-      le-ltb (a .i) 32 (omega arith),
-    )
-
-mul-d : tie.Need-mul-d
-mul-d c = search needs
-
-element-copy-out-d : tie.Need-element-copy-out-d
-element-copy-out-d c = search needs
+    rw (le-ltb (a .i) 32 (omega arith))
 
 is-idle-requires : tie.Need-is-idle-requires
 is-idle-requires c κs = search needs
 
 returns-2 : tie.Need-returns-2
 returns-2 c =
-    let s = start (c .before .before .before) in
+    let s = start (c .before .before) in
     let a = s .args in
-    λ cs m property. rw (
-      refusal-is (tableOf (a .table .now)) (a .t2) cs m (a .i) (sent (a .channel) property (a .cents)),
+    rw (
       lt-ltb (a .i) 32 (omega arith),
       sym (c .before .is-idle .ensures) ∙ not-true _ (c .if2 .taken),
     )
@@ -81,8 +68,7 @@ returns-3 : tie.Need-returns-3
 returns-3 c =
     let p = c .before .before in
     let a = start2 p .args in
-    λ cs m property. rw (
-      refusal-is (tableOf (a .table .now)) (a .t2) cs m (a .i) (sent (a .channel) property (a .cents)),
+    rw (
       lt-ltb (a .i) 32 (omega arith),
       idle p,
       le-ltb (a .channel) (length (tableOf (a .table .now) .kinds)) (omega (arith, c .before .channels-len .ensures)),
@@ -95,8 +81,7 @@ returns-4 : tie.Need-returns-4
 returns-4 c =
     let p = c .before .before .before .before in
     let a = start2 p .args in
-    λ cs m property. rw (
-      refusal-is (tableOf (a .table .now)) (a .t2) cs m (a .i) (sent (a .channel) property (a .cents)),
+    rw (
       lt-ltb (a .i) 32 (omega arith),
       idle p,
       known (c .before .before),
@@ -107,26 +92,24 @@ returns-5 : tie.Need-returns-5
 returns-5 c =
     let p = c .before .before .before .before .before in
     let a = start2 p .args in
-    λ cs m property. rw (
-      refusal-is (tableOf (a .table .now)) (a .t2) cs m (a .i) (sent (a .channel) property (a .cents)),
+    rw (
       lt-ltb (a .i) 32 (omega arith),
       idle p,
       known (c .before .before .before),
       cents-in (c .before),
-      le-ltb (a .t2 .messages) 1024 (omega arith),
+      le-ltb (a .n) 1024 (omega arith),
     )
 
 returns-6 : tie.Need-returns-6
 returns-6 c =
     let p = c .before .before .before .before .before in
     let a = start2 p .args in
-    λ cs m property. rw (
-      refusal-is (tableOf (a .table .now)) (a .t2) cs m (a .i) (sent (a .channel) property (a .cents)),
+    rw (
       lt-ltb (a .i) 32 (omega arith),
       idle p,
       known (c .before .before .before),
       cents-in (c .before),
-      lt-ltb (a .t2 .messages) 1024 (omega arith),
+      lt-ltb (a .n) 1024 (omega arith),
     )
 
 pub add-refusal-spec : {M : Type 1} → statement M
@@ -134,8 +117,6 @@ add-refusal-spec =
     tie.close
     (tie.spec
     returns
-    mul-d
-    element-copy-out-d
     is-idle-requires
     returns-2
     channels-len-requires

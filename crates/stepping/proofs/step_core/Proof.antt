@@ -1,14 +1,11 @@
--- `stepping::step_core` meets its contract: the two refusals, and the step of a sender that may step.
-use mathlib.Core.Path.{sym, _∙_}
-use Prim.Native.Nat.{_<_}
-use native.Mathlib.Omega.{arith}
+-- `stepping::step_core` meets its contract: the step's move, written.
+use mathlib.Core.Path.{_≡_, sym}
 use borrow.Author.Needs.{needs}
-use borrow.Author.Tests.{not-true, not-false}
-use Rattle.model.specs.Layout.{tableOf}
+use Rattle.model.specs.Pools.{steps}
 use Rattle.boards.specs.Calls.{Held, heldBy}
-use Rattle.judges.specs.Calls.{boardOf}
-use Rattle.steps.proofs.StateSteps.{refused-is}
-use Rattle.stepping.proofs.Stepping.{past-senders, by-state, refused-plays}
+use Rattle.judges.proofs.Refusals.{lent-whole, messages-few, matches-few}
+use Rattle.moves.proofs.MoveLaws.{standsAt, moved-plays}
+use Rattle.moves.proofs.WriteLaws.{sure-all, written-step}
 use Rattle.stepping.proofs.step_core.Statement.{statement}
 use Rattle.stepping.proofs.step_core.Tie as tie
 
@@ -16,51 +13,52 @@ use Rattle.stepping.proofs.step_core.Tie as tie
 abbrev lent : tie.Start → Held
 lent s =
     let a = s .args in
-    heldBy (a .b) (a .channels .now) (a .properties .now) (a .cents .now) (a .statuses .now) (a .matched .now)
+    heldBy (a .t2) (a .channels .now) (a .properties .now) (a .cents .now) (a .statuses .now) (a .matched .now)
     (a .wakers .now) (a .chords .now) (a .messages .now)
 
-returns : tie.Need-returns
-returns c =
-    let s = c .before .before .before .before .before .before .before .before .before in
-    let t = s .args .table .now in
-    let i = s .args .i in
-    refused-plays t (lent s) (s .pre) i 8 (past-senders (tableOf t) (boardOf t (lent s)) i (c .if1 .taken))
+-- where the function starts, and where the caller is placed
+abbrev begun : tie.After-place-of → tie.Start
+begun w = w .before .before .before .before .before .before .before .before .before
 
-cast-k : tie.Need-cast-k
-cast-k c = search needs
+abbrev placed : tie.After-step-move → tie.After-place-of
+placed q = q .before .before .before .before .before
 
-sender-at-requires : tie.Need-sender-at-requires
-sender-at-requires c κs = search needs
+place-of-requires : tie.Need-place-of-requires
+place-of-requires c κs = search needs
 
-can-step-requires : tie.Need-can-step-requires
-can-step-requires c κs = search needs
+cast-d : tie.Need-cast-d
+cast-d c = search needs
 
-returns-2 : tie.Need-returns-2
-returns-2 c =
-    let k = c .before in
-    let d = k .before in
-    let s = d .before .before .before .before .before .before .before .before .before .before in
-    let t = s .args .table .now in
-    let i = s .args .i in
-    let l : i < 32 = omega (arith, d .before .if1 .left) in
-    let h = lent s in
-    refused-plays t h (s .pre) i 13
-    (by-state (tableOf t) (boardOf t h) i _ (d .sender-at .ensures (tableOf t) (h .columns) (h .matches)) l
-    ∙ refused-is (tableOf t) (boardOf t h) (d .sender-at .result)
-    (sym (k .can-step .ensures) ∙ not-true _ (c .if2 .taken)))
+mul-d : tie.Need-mul-d
+mul-d c = search needs
 
-step-sender-requires : tie.Need-step-sender-requires
-step-sender-requires c κs =
-    let y = c .before .before .before .before .before in
-    let k = y .before in
-    let d = k .before in
-    let s = d .before .before .before .before .before .before .before .before .before .before in (
-      s .pre,
-      (
-        (omega (arith, d .before .if1 .left), sym (k .can-step .ensures) ∙ not-false _ (y .if2 .left)),
-        d .sender-at .ensures,
-      ),
+element-copy-out-d : tie.Need-element-copy-out-d
+element-copy-out-d c = search needs
+
+step-move-requires : tie.Need-step-move-requires
+step-move-requires c κs =
+    let w = c .before .before .before .before in
+    standsAt _ (lent (begun w)) _ _ (begun w .pre) (w .place-of .ensures .0)
+
+write-change-requires : tie.Need-write-change-requires
+write-change-requires c κs =
+    let q = c .before .before .before .before .before .before .before in
+    let s = begun (placed q) in
+    let l = lent-whole _ _ _ _ (s .pre) in (
+      sure-all (s .args .t2 .messages) (s .args .t2 .matches) (q .step-move .result .change) (messages-few _ _ _ _ (s .pre)) (q .step-move .ensures .0 .1 .sure),
+      l .statuses-len,
+      l .matched-len,
+      l .wakers-len,
+      l .chords-len,
+      l .messages-len,
     )
+
+moved-requires : tie.Need-moved-requires
+moved-requires c κs =
+    let q = c .before .before .before .before .before .before .before .before .before .before .before .before .before .before .before .before .before .before in
+    let w = placed q in
+    let e = begun w .pre in
+    (w .place-of .ensures .1, messages-few _ _ _ _ e, matches-few _ _ _ _ e, q .step-move .ensures .0 .1)
 
 same-length : tie.Need-same-length
 same-length c = search needs
@@ -77,22 +75,35 @@ same-length-4 c = search needs
 same-length-5 : tie.Need-same-length-5
 same-length-5 c = search needs
 
-returns-3 : tie.Need-returns-3
-returns-3 c = c .before .before .before .before .before .before .before .before .before .before .step-sender .ensures
+returns : tie.Need-returns
+returns c =
+    let u = c .before .before .before .before .before .before .before .before .before .before .before in
+    let q = u .before .before .before .before .before .before .before .before in
+    let w = placed q in
+    let s = begun w in
+    let a = s .args in
+    let t = a .table .now in
+    let i = w .place-of .ensures .0 in
+    let e = q .step-move .ensures in
+    moved-plays t (lent s) (steps (a .i)) _ (q .step-move .result) _ _ _ _ _ (sym i)
+    (e .0 .0 (standsAt t (lent s) _ _ (s .pre) i))
+    (written-step (a .t2) _ (q .step-move .result) _ _ _ _ _ _ _ _ _ _ _ _ _ (e .1) (u .write-change .ensures))
+    (c .moved .ensures)
 
 pub step-core-spec : {M : Type 1} → statement M
 step-core-spec =
     tie.close
     (tie.spec
-    returns
-    cast-k
-    sender-at-requires
-    can-step-requires
-    returns-2
-    step-sender-requires
+    place-of-requires
+    cast-d
+    mul-d
+    element-copy-out-d
+    step-move-requires
+    write-change-requires
+    moved-requires
     same-length
     same-length-2
     same-length-3
     same-length-4
     same-length-5
-    returns-3)
+    returns)

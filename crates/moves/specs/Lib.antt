@@ -1,0 +1,2 @@
+-- What a call does, and what is held after it.
+pub mod Moves

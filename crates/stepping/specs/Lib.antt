@@ -1,2 +1,0 @@
--- The sender that steps.
-pub mod Stepped
