@@ -71,7 +71,7 @@ fn value_of(said: Said) -> u16
 }
 
 // The refusal; 0 where the call was accepted.
-fn number_of(said: Said) -> u8
+pub fn number_of(said: Said) -> u8
     ensures { λ r. ⌜ r ≡ numberOf (saidIn said) ⌝ }
 {
     match said {

@@ -1,0 +1,101 @@
+/* The scope paper's table P over the host library: a tenant waits for a payment, the payment comes, the two match.
+ *
+ *     cc table_p.c -L ../../target/staticlib -lhost -o table_p && ./table_p
+ */
+#include <stddef.h>
+#include <stdint.h>
+#include <stdio.h>
+
+#if defined(__has_include)
+#if __has_include("gevnyusto.h")
+#include "gevnyusto.h"
+#define HAVE_HEADER
+#endif
+#endif
+
+#ifndef HAVE_HEADER
+#define COLUMNS_DECLARED(POINTER)                                                                                      \
+    uint8_t POINTER channels, size_t channels_len, uint32_t POINTER properties, size_t properties_len,                 \
+        int64_t POINTER cents, size_t cents_len, uint8_t POINTER statuses, size_t statuses_len,                        \
+        uint16_t POINTER matched, size_t matched_len, uint16_t POINTER wakers, size_t wakers_len,                      \
+        uint8_t POINTER chords, size_t chords_len, uint16_t POINTER messages, size_t messages_len
+
+uint8_t gv_open(const uint8_t *table, size_t table_len, uint16_t *board, size_t board_len);
+uint32_t gv_add(const uint8_t *table, size_t table_len, uint16_t *board, size_t board_len, COLUMNS_DECLARED(*),
+                uint16_t sender, uint16_t channel, uint32_t property, int64_t cents_added);
+uint32_t gv_step(const uint8_t *table, size_t table_len, uint16_t *board, size_t board_len, COLUMNS_DECLARED(*),
+                 uint16_t sender);
+uint8_t gv_read_match(const uint8_t *table, size_t table_len, const uint16_t *board, size_t board_len,
+                      COLUMNS_DECLARED(const *), uint16_t number, int64_t *out, size_t out_len);
+uint8_t gv_read_reply(const uint8_t *table, size_t table_len, const uint16_t *board, size_t board_len,
+                      COLUMNS_DECLARED(const *), uint16_t sender, int64_t *out, size_t out_len);
+uint8_t gv_quiet(const uint8_t *table, size_t table_len, const uint16_t *board, size_t board_len,
+                 COLUMNS_DECLARED(const *), int64_t *out, size_t out_len);
+#endif
+
+enum { REFUSED = 17 };
+
+/* Channel 0 leaves, channel 1 waits; chord 0 joins one of each with equal property numbers. */
+static const uint8_t table[20] = {2, 0, 1, 0, 2, 0, 12, 0, 14, 0, 18, 0, 0, 1, 0, 0, 2, 1, 0, 1};
+static uint16_t board[674];
+static uint8_t channels[1024], statuses[1024], chords[1024];
+static uint32_t properties[1024];
+static int64_t cents[1024];
+static uint16_t matched[1024], wakers[1024], messages[8192];
+
+#define BOARD table, sizeof table, board, 674
+#define COLUMNS                                                                                                        \
+    channels, 1024, properties, 1024, cents, 1024, statuses, 1024, matched, 1024, wakers, 1024, chords, 1024,          \
+        messages, 8192
+
+static const char *const words[18] = {"item",     "looked", "missed", "claimed",   "lost",  "reverted",
+                                      "matched",  "consumed", "told", "woke",      "freed", "signalled",
+                                      "again",    "ended",  "rested", "answered",  "resumed", "refused"};
+
+/* Prints an answer, with its number where the word has one; returns whether it is a refusal. */
+static int say(uint16_t sender, uint32_t answer) {
+    unsigned word = answer >> 16, value = answer & 65535;
+    int plain = word == 2 || (word >= 12 && word <= 14) || word == 16;
+    if (plain)
+        printf("  sender %u: %s\n", (unsigned)sender, words[word]);
+    else
+        printf("  sender %u: %s %u\n", (unsigned)sender, words[word], value);
+    return word == REFUSED;
+}
+
+/* Steps a sender until a step is refused. */
+static void run(uint16_t sender) {
+    while (!say(sender, gv_step(BOARD, COLUMNS, sender))) {
+    }
+}
+
+static int refused(uint8_t number) {
+    if (number != 0)
+        printf("refused %u\n", (unsigned)number);
+    return number != 0;
+}
+
+int main(void) {
+    int64_t slip, quiet, match[11];
+    if (refused(gv_open(BOARD)))
+        return 1;
+    puts("sender 0 waits at channel 1 for property 7");
+    say(0, gv_add(BOARD, COLUMNS, 0, 1, 7, 0));
+    run(0);
+    puts("sender 1 leaves 5000 cents for property 7");
+    say(1, gv_add(BOARD, COLUMNS, 1, 0, 7, 5000));
+    run(1);
+    puts("sender 0 was signalled");
+    run(0);
+    if (refused(gv_read_reply(BOARD, COLUMNS, 0, &slip, 1)) || slip == 0)
+        return 1;
+    if (refused(gv_read_match(BOARD, COLUMNS, (uint16_t)(slip - 1), match, 11)))
+        return 1;
+    printf("match %d rule %d cents %lld items", (int)(slip - 1), (int)match[0], (long long)match[2]);
+    for (int64_t at = 0; at < match[1]; at++)
+        printf(" %d", (int)match[3 + at]);
+    if (refused(gv_quiet(BOARD, COLUMNS, &quiet, 1)))
+        return 1;
+    printf("\nquiet %s\n", quiet ? "yes" : "no");
+    return 0;
+}

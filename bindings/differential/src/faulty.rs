@@ -1,0 +1,72 @@
+//! The reference with a fault put in, to see that the comparison finds it.
+
+use crate::calls::{Call, Calls, Plain, Read};
+use crate::plain_rust::Reference;
+use crate::world::World;
+
+/// Kinds of faults by name.
+pub const FAULTS: [&str; 7] = ["answer", "column", "board", "refusal", "read", "replay", "table"];
+
+pub struct Faulty {
+    inner: Reference,
+    fault: String,
+    calls: u64,
+}
+
+impl Faulty {
+    pub fn new(fault: &str) -> Faulty {
+        Faulty { inner: Reference::default(), fault: fault.to_string(), calls: 0 }
+    }
+
+    fn due(&self, fault: &str) -> bool {
+        self.fault == fault && self.calls >= 1_234
+    }
+}
+
+impl Calls for Faulty {
+    fn table_refusal(&mut self, table: &[u8]) -> u8 {
+        let refusal = self.inner.table_refusal(table);
+        if self.due("table") && refusal == 5 { 6 } else { refusal }
+    }
+
+    fn open(&mut self, table: &[u8], board: &mut [u16]) -> u8 {
+        self.inner.open(table, board)
+    }
+
+    fn call(&mut self, table: &[u8], world: &mut World, call: Call) -> u32 {
+        self.calls += 1;
+        let answer = self.inner.call(table, world, call);
+        if self.due("column") && answer >> 16 == 3 {
+            world.columns.statuses[answer as u16 as usize] = 0;
+        }
+        if self.due("board") && answer >> 16 == 12 {
+            world.board[2 + 21 * sender_of(call) + 12] += 1;
+        }
+        if self.due("refusal") && answer >> 16 == 17 {
+            world.columns.wakers[1023] ^= 1;
+        }
+        if self.due("answer") && answer >> 16 == 13 { 12 << 16 } else { answer }
+    }
+
+    fn replay(&mut self, table: &[u8], world: &mut World, calls: &Plain, answers: &mut [u32]) -> u8 {
+        let refusal = self.inner.replay(table, world, calls, answers);
+        if self.due("replay") && refusal == 0 {
+            answers[0] += 1;
+        }
+        refusal
+    }
+
+    fn read(&mut self, table: &[u8], world: &World, read: Read, out: &mut [i64]) -> u8 {
+        let refusal = self.inner.read(table, world, read, out);
+        if self.due("read") && refusal == 0 {
+            out[0] += 1;
+        }
+        refusal
+    }
+}
+
+fn sender_of(call: Call) -> usize {
+    match call {
+        Call::Add { sender, .. } | Call::Step { sender } => sender.into(),
+    }
+}

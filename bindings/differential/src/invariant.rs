@@ -1,0 +1,143 @@
+//! What holds on every board of a schedule, checked on the plain numbers.
+
+use crate::pair::Checked;
+use crate::world::World;
+use reference::board::{CLAIMED, CONSUMED, PENDING, WOKEN};
+use reference::{Phase, SENDER_NUMBERS, Sender, State, Table};
+use std::collections::HashMap;
+
+/// The channel, property and cents of each message, as the adds said; and which are in a match.
+#[derive(Default)]
+pub struct Pool {
+    pub added: Vec<(u8, u32, i64)>,
+    pub matched: Vec<bool>,
+    matches: usize,
+}
+
+pub fn senders(world: &World) -> Vec<Sender> {
+    world.board[2..].chunks_exact(SENDER_NUMBERS).filter_map(Sender::from_numbers).collect()
+}
+
+impl Pool {
+    pub fn add(&mut self, number: u16, channel: u16, property: u32, cents: i64) -> Checked<()> {
+        self.added.push((channel as u8, property, cents));
+        self.matched.push(false);
+        ensure(usize::from(number) + 1 == self.added.len(), || format!("item {number} is not the next"))
+    }
+
+    /// A match as read: chord, length, cents and messages. They meet the chord, and leave.
+    pub fn take(&mut self, number: u16, table: &Table, read: &[i64]) -> Checked<()> {
+        ensure(usize::from(number) == self.matches, || format!("match {number} is not the next"))?;
+        self.matches += 1;
+        let chord = table.chord(read[0] as u8);
+        let messages: Vec<usize> = read[3..].iter().map(|&message| message as usize).collect();
+        ensure(messages.len() == chord.len.into(), || format!("match {number} has {} messages", messages.len()))?;
+        for (&message, &channel) in messages.iter().zip(chord.members()) {
+            ensure(!self.matched[message], || format!("message {message} is in two matches"))?;
+            self.matched[message] = true;
+            ensure(self.added[message].0 == channel, || format!("message {message} is not of channel {channel}"))?;
+            let alike = self.added[message].1 == self.added[messages[0]].1;
+            ensure(alike || !chord.equal, || format!("message {message} has another property number"))?;
+        }
+        let cents: i64 = messages.iter().map(|&message| self.added[message].2).sum();
+        ensure(cents == read[2], || format!("match {number} reads {} cents, not {cents}", read[2]))
+    }
+
+    /// The board against the pool, and the invariant of the board itself.
+    pub fn check(&self, table: &Table, world: &World) -> Checked<()> {
+        let counts = (self.added.len(), self.matches);
+        ensure((world.board[0].into(), world.board[1].into()) == counts, || format!("counts are not {counts:?}"))?;
+        let senders = senders(world);
+        self.check_messages(table, world, &senders)?;
+        check_owners(&senders)?;
+        if senders.iter().all(Sender::at_rest) { self.check_quiet(table, world) } else { Ok(()) }
+    }
+
+    fn check_messages(&self, table: &Table, world: &World, senders: &[Sender]) -> Checked<()> {
+        let mut holders = vec![0u8; self.added.len()];
+        for sender in senders {
+            for message in held_by(table, sender) {
+                holders[usize::from(message)] += 1;
+            }
+        }
+        let columns = &world.columns;
+        for (message, &holding) in holders.iter().enumerate() {
+            let sent = (columns.channels[message], columns.properties[message], columns.cents[message]);
+            ensure(sent == self.added[message], || format!("message {message} is not as it was sent"))?;
+            let status = columns.statuses[message];
+            let fine = match status {
+                CLAIMED => holding == 1,
+                WOKEN => !self.matched[message] && holding == 0 && columns.wakers[message] != 0,
+                CONSUMED => self.matched[message] && holding == 0 && in_its_match(table, world, message),
+                _ => !self.matched[message] && holding == 0,
+            };
+            ensure(fine, || format!("message {message} has status {status}, {holding} holders"))?;
+        }
+        Ok(())
+    }
+
+    /// On a quiet board nothing is claimed or woken, and no chord can be met from the pool.
+    fn check_quiet(&self, table: &Table, world: &World) -> Checked<()> {
+        let pending = |status: &u8| *status == PENDING || *status == CONSUMED;
+        let statuses = &world.columns.statuses[..self.added.len()];
+        ensure(statuses.iter().all(pending), || "a quiet board has a claimed or woken message".to_string())?;
+        let mut groups: HashMap<u32, [usize; 16]> = HashMap::new();
+        let mut all = [0; 16];
+        for (sent, _) in self.added.iter().zip(&self.matched).filter(|(_, matched)| !**matched) {
+            groups.entry(sent.1).or_insert([0; 16])[usize::from(sent.0)] += 1;
+            all[usize::from(sent.0)] += 1;
+        }
+        for number in 0..table.chord_count {
+            let chord = table.chord(number);
+            let met = |left: &[usize; 16]| {
+                let wanted = |channel: &u8| chord.members().iter().filter(|member| *member == channel).count();
+                chord.members().iter().all(|channel| left[usize::from(*channel)] >= wanted(channel))
+            };
+            let can_be_met = if chord.equal { groups.values().any(met) } else { met(&all) };
+            ensure(!can_be_met, || format!("the board is quiet and chord {number} can be met"))?;
+        }
+        Ok(())
+    }
+}
+
+fn in_its_match(table: &Table, world: &World, message: usize) -> bool {
+    let Some(number) = world.columns.matched[message].checked_sub(1).filter(|&k| k < world.board[1]) else {
+        return false;
+    };
+    let len = table.chord(world.columns.chords[usize::from(number)]).len;
+    world.columns.messages[8 * usize::from(number)..][..len.into()].contains(&(message as u16))
+}
+
+fn check_owners(senders: &[Sender]) -> Checked<()> {
+    let mut owned: Vec<u16> =
+        senders.iter().filter(|sender| sender.state != State::Idle).filter_map(|sender| sender.own).collect();
+    let count = owned.len();
+    owned.sort_unstable();
+    owned.dedup();
+    ensure(owned.len() == count, || "two senders own one message".to_string())
+}
+
+/// The messages that a sender has claimed and neither put back nor turned further.
+fn held_by(table: &Table, sender: &Sender) -> Vec<u16> {
+    if sender.state != State::Working {
+        return Vec::new();
+    }
+    let place = |at: u8| usize::from(at);
+    let chosen = &sender.chosen;
+    let len = if sender.chord < table.chord_count { usize::from(table.chord(sender.chord).len) } else { 0 };
+    match sender.phase {
+        Phase::Claim(at) => chosen[..place(at)].to_vec(),
+        Phase::Revert { at, made } => chosen[place(at)..place(made)].to_vec(),
+        Phase::Consume { at, .. } => chosen[place(at)..len].to_vec(),
+        Phase::Wake => chosen[..len].to_vec(),
+        Phase::Free(at) => {
+            let woken = table.chord(sender.chord).waiting.map(usize::from);
+            (0..len).filter(|&at| Some(at) != woken).skip(place(at)).map(|at| chosen[at]).collect()
+        }
+        _ => Vec::new(),
+    }
+}
+
+fn ensure(holds: bool, fault: impl Fn() -> String) -> Checked<()> {
+    if holds { Ok(()) } else { Err(format!("invariant: {}", fault())) }
+}

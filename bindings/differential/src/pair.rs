@@ -1,0 +1,175 @@
+//! Two implementations side by side: every call goes to both, and what each says and leaves is compared.
+
+use crate::calls::{Call, Calls, Plain, Read};
+use crate::world::World;
+use reference::Table;
+
+const REFUSED: u32 = 17;
+
+pub type Checked<T> = Result<T, String>;
+
+/// What was compared so far.
+pub struct Tally {
+    pub calls: u64,
+    pub words: [u64; 18],
+    pub refusals: [u64; 256],
+    /// Calls on sound boards that no schedule made, on damaged boards and tables, and reads and replays.
+    pub unreached: u64,
+    pub damaged: u64,
+    pub reads: u64,
+    pub replays: u64,
+}
+
+impl Default for Tally {
+    fn default() -> Tally {
+        let (words, refusals) = ([0; 18], [0; 256]);
+        Tally { calls: 0, words, refusals, unreached: 0, damaged: 0, reads: 0, replays: 0 }
+    }
+}
+
+pub struct Pair {
+    left: Box<dyn Calls>,
+    right: Box<dyn Calls>,
+    pub table: Vec<u8>,
+    pub ours: World,
+    pub theirs: World,
+    ours_before: World,
+    theirs_before: World,
+    pub tally: Tally,
+}
+
+impl Pair {
+    pub fn new(left: Box<dyn Calls>, right: Box<dyn Calls>) -> Pair {
+        let world = World::new();
+        Pair {
+            left,
+            right,
+            table: Vec::new(),
+            ours: world.clone(),
+            theirs: world.clone(),
+            ours_before: world.clone(),
+            theirs_before: world,
+            tally: Tally::default(),
+        }
+    }
+
+    pub fn parsed(&self) -> Option<Table> {
+        Table::read(&self.table).ok()
+    }
+
+    /// Opens a board for that table in both worlds.
+    pub fn open(&mut self, table: Vec<u8>) -> Checked<u8> {
+        self.table = table;
+        let (one, two) = (self.left.table_refusal(&self.table), self.right.table_refusal(&self.table));
+        same("refusal of the table", one, two)?;
+        self.keep_before();
+        let one = self.left.open(&self.table, &mut self.ours.board);
+        let two = self.right.open(&self.table, &mut self.theirs.board);
+        same("refusal of open", one, two)?;
+        if one == 0 {
+            self.compare_worlds()?
+        } else {
+            self.unchanged()?
+        }
+        Ok(one)
+    }
+
+    /// Both worlds as given.
+    pub fn set(&mut self, world: &World) {
+        self.ours.copy(world);
+        self.theirs.copy(world);
+    }
+
+    pub fn call(&mut self, call: Call) -> Checked<u32> {
+        self.checked_call(call).map_err(|difference| format!("{call:?}: {difference}"))
+    }
+
+    fn checked_call(&mut self, call: Call) -> Checked<u32> {
+        self.keep_before();
+        let one = self.left.call(&self.table, &mut self.ours, call);
+        let two = self.right.call(&self.table, &mut self.theirs, call);
+        if one != two {
+            return Err(format!("answer: {} and {}", shown(one), shown(two)));
+        }
+        if one >> 16 == REFUSED {
+            self.unchanged()?
+        } else {
+            self.compare_worlds()?
+        }
+        self.tally.calls += 1;
+        Ok(one)
+    }
+
+    fn keep_before(&mut self) {
+        self.ours_before.copy(&self.ours);
+        self.theirs_before.copy(&self.theirs);
+    }
+
+    /// Counts an answer of a schedule.
+    pub fn count(&mut self, answer: u32) {
+        self.tally.words[(answer >> 16) as usize] += 1;
+        if answer >> 16 == REFUSED {
+            self.tally.refusals[answer as u8 as usize] += 1;
+        }
+    }
+
+    fn unchanged(&self) -> Checked<()> {
+        let ours = self.ours_before.difference(&self.ours, None).map(|change| format!("ours: {change}"));
+        let theirs = || self.theirs_before.difference(&self.theirs, None).map(|change| format!("theirs: {change}"));
+        ours.or_else(theirs).map_or(Ok(()), |change| Err(format!("a refused call changed {change}")))
+    }
+
+    fn compare_worlds(&self) -> Checked<()> {
+        self.ours.difference(&self.theirs, self.parsed().as_ref()).map_or(Ok(()), Err)
+    }
+
+    /// Reads with room for `room` numbers; returns what was read.
+    pub fn read(&mut self, read: Read, room: usize) -> Checked<(u8, Vec<i64>)> {
+        let (mut one, mut two) = (vec![-1; room], vec![-1; room]);
+        let first = self.left.read(&self.table, &self.ours, read, &mut one);
+        let second = self.right.read(&self.table, &self.theirs, read, &mut two);
+        self.tally.reads += 1;
+        let what = format!("{read:?} with room for {room}");
+        same(&what, first, second)?;
+        if let Read::Match(_) = read
+            && first == 0
+        {
+            // The numbers past the chord's size are open.
+            let len = one[1].clamp(0, 8) as usize;
+            one.truncate(3 + len);
+            two.truncate(3 + len);
+        }
+        if one != two {
+            return Err(format!("{what}: {one:?} and {two:?}"));
+        }
+        Ok((first, one))
+    }
+
+    /// Plays the calls again on the worlds as they are, into answers with that much room.
+    pub fn replay(&mut self, calls: &Plain, room: usize) -> Checked<(u8, Vec<u32>)> {
+        let (mut one, mut two) = (vec![u32::MAX; room], vec![u32::MAX; room]);
+        self.keep_before();
+        let first = self.left.replay(&self.table, &mut self.ours, calls, &mut one);
+        let second = self.right.replay(&self.table, &mut self.theirs, calls, &mut two);
+        self.tally.replays += 1;
+        same("refusal of replay", first, second)?;
+        if let Some(at) = (0..room).find(|&at| one[at] != two[at]) {
+            return Err(format!("replayed answer {at}: {} and {}", shown(one[at]), shown(two[at])));
+        }
+        if first == 0 {
+            self.compare_worlds()?
+        } else {
+            self.unchanged()?
+        }
+        Ok((first, one))
+    }
+}
+
+fn same<T: PartialEq + std::fmt::Display>(what: &str, one: T, two: T) -> Checked<()> {
+    if one == two { Ok(()) } else { Err(format!("{what}: {one} and {two}")) }
+}
+
+fn shown(answer: u32) -> String {
+    let word = reference::answer::WORDS.get((answer >> 16) as usize).unwrap_or(&"no word");
+    format!("{word} {}", answer as u16)
+}

@@ -1,0 +1,187 @@
+//! Random schedules over random accepted tables, with the pool and the invariant beside them.
+
+use crate::calls::{Call, Read, plain};
+use crate::invariant::{Pool, senders};
+use crate::pair::{Checked, Pair};
+use crate::random::{Random, random_table};
+use crate::strays;
+use crate::world::World;
+use reference::board::{MESSAGES, MOST_CENTS, PENDING};
+use reference::{Sender, State, Table};
+
+const ITEM: u32 = 0;
+const MATCHED: u32 = 6;
+
+/// How a schedule chooses its calls.
+struct Habits {
+    /// Senders below this are chosen while one of them can be.
+    favoured: usize,
+    properties: usize,
+    adding: usize,
+    run_on: usize,
+    length: usize,
+    /// Adds of leaving messages, until the board is full.
+    filling: bool,
+    last: usize,
+    /// Steps only, until the board is quiet.
+    draining: bool,
+}
+
+impl Habits {
+    fn new(random: &mut Random, number: u64) -> Habits {
+        let filling = number % 12 == 1;
+        Habits {
+            favoured: random.pick(&[2, 3, 6, 12, 32]),
+            properties: random.pick(&[1, 2, 2, 3, 5]),
+            adding: if filling { 90 } else { random.pick(&[10, 20, 35, 50]) },
+            run_on: random.pick(&[0, 30, 70, 95]),
+            length: if filling { 6_000 } else { random.pick(&[100, 300, 600, 1_500]) },
+            filling,
+            last: 0,
+            draining: false,
+        }
+    }
+
+    /// A table; to be filled, a board wants few chords and a channel that lets its senders go.
+    fn table(&self, random: &mut Random) -> Vec<u8> {
+        loop {
+            let table = random_table(random);
+            let fillable = |table: Table| table.chord_count <= 2 && leaving(&table).next().is_some();
+            if !self.filling || Table::read(&table).is_ok_and(fillable) {
+                return table;
+            }
+        }
+    }
+
+    fn choose(&mut self, random: &mut Random, table: &Table, world: &World) -> Call {
+        let senders = senders(world);
+        if !self.draining && random.chance(2) {
+            return odd_call(random, table);
+        }
+        let idle = self.those(&senders, |sender| sender.state == State::Idle);
+        let busy = self.those(&senders, |sender| !sender.at_rest());
+        if !busy.is_empty() && (self.draining || idle.is_empty() || !random.chance(self.adding)) {
+            if !busy.contains(&self.last) || !random.chance(self.run_on) {
+                self.last = random.pick(&busy);
+            }
+            return Call::Step { sender: self.last as u16 };
+        }
+        if idle.is_empty() || self.draining {
+            return Call::Step { sender: random.below(32) as u16 };
+        }
+        let (sender, channel) = (random.pick(&idle) as u16, self.channel(random, table, world));
+        Call::Add { sender, channel, property: self.property(random), cents: cents(random) }
+    }
+
+    /// The favoured senders that are as wanted; if none is, any such sender.
+    fn those(&self, senders: &[Sender], wanted: impl Fn(&Sender) -> bool) -> Vec<usize> {
+        let all: Vec<usize> = (0..senders.len()).filter(|&i| wanted(&senders[i])).collect();
+        let favoured: Vec<usize> = all.iter().copied().filter(|&i| i < self.favoured).collect();
+        if favoured.is_empty() { all } else { favoured }
+    }
+
+    /// A channel of some chord, often the one that the chord is shortest of.
+    fn channel(&self, random: &mut Random, table: &Table, world: &World) -> u16 {
+        if self.filling {
+            return random.pick(&leaving(table).collect::<Vec<u8>>()).into();
+        }
+        let dice = random.below(10);
+        if dice < 2 || table.chord_count == 0 {
+            return random.below(table.channel_count.into()) as u16;
+        }
+        let members = table.chord(random.below(table.chord_count.into()) as u8).members();
+        if dice < 5 {
+            return random.pick(members).into();
+        }
+        let count = usize::from(world.board[0]);
+        let pending = |channel: u8| {
+            let kinds = &world.columns.channels[..count];
+            let states = &world.columns.statuses[..count];
+            kinds.iter().zip(states).filter(|&(&kind, &state)| kind == channel && state == PENDING).count()
+        };
+        members.iter().copied().min_by_key(|&channel| pending(channel)).unwrap_or(0).into()
+    }
+
+    fn property(&self, random: &mut Random) -> u32 {
+        if random.chance(2) { u32::MAX } else { random.below(self.properties) as u32 }
+    }
+}
+
+fn leaving(table: &Table) -> impl Iterator<Item = u8> {
+    (0..table.channel_count).filter(|&channel| !table.is_waiting(channel))
+}
+
+fn cents(random: &mut Random) -> i64 {
+    if random.chance(3) { random.pick(&[MOST_CENTS, -MOST_CENTS, 0]) } else { random.below(200_000) as i64 - 100_000 }
+}
+
+/// A call that is mostly refused.
+pub fn odd_call(random: &mut Random, table: &Table) -> Call {
+    let sender = if random.chance(80) { random.below(32) as u16 } else { random.pick(&[32, 33, 255, 65_535]) };
+    let channels = u16::from(table.channel_count);
+    let channel = random.pick(&[0, channels - 1, channels - 1, channels, 65_535]);
+    let cents = random.pick(&[0, 1, MOST_CENTS, MOST_CENTS + 1, -MOST_CENTS - 1, i64::MAX, i64::MIN]);
+    if random.chance(30) { Call::Step { sender } } else { Call::Add { sender, channel, property: 0, cents } }
+}
+
+/// The schedule of that number, on a table of its own; with excursions to boards that it does not reach.
+pub fn run(pair: &mut Pair, random: &mut Random, number: u64, most: u64) -> Checked<()> {
+    let mut habits = Habits::new(random, number);
+    pair.set(&strays::lent_anything(random));
+    pair.open(habits.table(random))?;
+    let table = pair.parsed().ok_or("a random table is refused")?;
+    let (opened, mut pool) = (pair.ours.clone(), Pool::default());
+    let (mut calls, mut answers) = (Vec::new(), Vec::new());
+    let draining = if random.chance(50) { habits.length / 3 } else { 0 };
+    for turn in 0..habits.length {
+        habits.draining = turn >= habits.length - draining;
+        let call = habits.choose(random, &table, &pair.ours);
+        let answer = pair.call(call)?;
+        pair.count(answer);
+        calls.push(call);
+        answers.push(answer);
+        feed(pair, &mut pool, &table, call, answer)?;
+        pool.check(&table, &pair.ours)?;
+        if random.chance(2) {
+            strays::compare_reads(pair, random)?;
+        }
+        if random.chance(10) {
+            strays::excursion(pair, random)?;
+        }
+        let quiet = senders(&pair.ours).iter().all(Sender::at_rest);
+        let full = usize::from(pair.ours.board[0]) == MESSAGES && random.chance(10);
+        if pair.tally.calls >= most || (quiet && (habits.draining || full)) {
+            break;
+        }
+    }
+    play_again(pair, &opened, &calls, &answers)
+}
+
+/// The pool is fed the call, its answer, and the match that was made.
+fn feed(pair: &mut Pair, pool: &mut Pool, table: &Table, call: Call, answer: u32) -> Checked<()> {
+    let value = answer as u16;
+    match (answer >> 16, call) {
+        (ITEM, Call::Add { channel, property, cents, .. }) => pool.add(value, channel, property, cents),
+        (MATCHED, _) => {
+            let (_, read) = pair.read(Read::Match(value), 11)?;
+            pool.take(value, table, &read)
+        }
+        _ => Ok(()),
+    }
+}
+
+/// A replay from the opened board answers and leaves the same as the calls did.
+fn play_again(pair: &mut Pair, opened: &World, calls: &[Call], answers: &[u32]) -> Checked<()> {
+    let left = pair.ours.clone();
+    let list = plain(calls);
+    pair.set(opened);
+    let (number, _) = pair.replay(&list, calls.len() - 1)?;
+    if number != 31 {
+        return Err(format!("a replay with too little room answered {number}"));
+    }
+    let (number, again) = pair.replay(&list, calls.len() + 1)?;
+    if number != 0 || again[..calls.len()] != *answers || again[calls.len()] != u32::MAX {
+        return Err(format!("a replay answered {number} or otherwise than its calls"));
+    }
+    pair.ours.difference(&left, pair.parsed().as_ref()).map_or(Ok(()), |it| Err(format!("after a replay: {it}")))
+}

@@ -1,0 +1,81 @@
+//! How fast the reference is: rendezvous pairs replayed, full public steps, and the soundness test of a full board.
+
+use reference::{Answer, Board, Call, Replay, Table, calls};
+use std::hint::black_box;
+use std::time::Instant;
+
+/// Two waiting channels, one chord of both with equal property numbers.
+const RENDEZVOUS: [u8; 20] = [2, 0, 1, 0, 2, 0, 12, 0, 14, 0, 18, 0, 1, 1, 0, 0, 2, 1, 0, 1];
+const PAIRS: u16 = 512;
+
+/// Calls of pairs that meet one after the other, until the board is full.
+fn rendezvous() -> Vec<Call> {
+    let table = Table::read(&RENDEZVOUS).unwrap();
+    let (mut board, mut calls) = (Board::default(), Vec::new());
+    for pair in 0..PAIRS {
+        for sender in [0, 1] {
+            let call = Call::Add { sender, channel: sender, property: pair.into(), cents: 1 };
+            calls.push(call);
+            board.core_call(&table, call);
+            while let Some(sender) = board.first_busy() {
+                calls.push(Call::Step { sender });
+                assert!(!matches!(board.core_step(&table, sender), Answer::Refused(_)));
+            }
+        }
+    }
+    assert_eq!(board.matches, PAIRS);
+    calls
+}
+
+/// Nanoseconds of one of `count` runs, the best of seven.
+fn nanoseconds(count: u32, mut run: impl FnMut()) -> f64 {
+    let time = |_| {
+        let start = Instant::now();
+        (0..count).for_each(|_| run());
+        start.elapsed().as_nanos() as f64 / f64::from(count)
+    };
+    (0..7).map(time).fold(f64::MAX, f64::min)
+}
+
+fn main() {
+    let table = Table::read(&RENDEZVOUS).unwrap();
+    let list = rendezvous();
+    let (mut kinds, mut callers, mut targets) = (Vec::new(), Vec::new(), Vec::new());
+    let (mut numbers, mut amounts, mut answers) = (Vec::new(), Vec::new(), vec![0; list.len()]);
+    for call in &list {
+        let (kind, caller, target, number, amount) = match *call {
+            Call::Add { sender, channel, property, cents } => (1, sender, channel, property, cents),
+            Call::Step { sender } => (0, sender, 0, 0, 0),
+        };
+        kinds.push(kind);
+        callers.push(caller);
+        targets.push(target);
+        numbers.push(number);
+        amounts.push(amount);
+    }
+    let calls = Replay { kinds: &kinds, callers: &callers, targets: &targets, numbers: &numbers, amounts: &amounts };
+    let mut board = Board::default();
+    let replay = nanoseconds(200, || {
+        (board.messages, board.matches, board.senders) = Default::default();
+        calls::replay(&RENDEZVOUS, &mut board, black_box(calls), &mut answers).unwrap();
+        black_box(&answers);
+    });
+    let (pairs, count) = (f64::from(PAIRS), list.len());
+    println!("replay of {PAIRS} pairs, {count} calls: {:.2} million matches a second", pairs * 1e3 / replay);
+    println!("  {:.1} ns a call", replay / count as f64);
+
+    let public = nanoseconds(10, || {
+        let mut board = Board::default();
+        for call in &list {
+            black_box(calls::call(&RENDEZVOUS, &mut board, *call));
+        }
+    });
+    println!("public calls, each with all tests: {:.1} ns a call", public / count as f64);
+
+    let full = board;
+    assert_eq!(full.messages, 1024);
+    let sound = nanoseconds(20_000, || assert!(black_box(&full).is_sound(black_box(&table))));
+    println!("soundness of a full board: {sound:.0} ns");
+    let table_time = nanoseconds(100_000, || drop(black_box(Table::read(black_box(&RENDEZVOUS)))));
+    println!("reading the table: {table_time:.0} ns");
+}

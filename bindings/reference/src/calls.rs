@@ -1,0 +1,148 @@
+//! The public calls: each gives the table's refusal first, then 30 for a board that is not sound.
+
+use crate::answer::{Answer, Refusal};
+use crate::board::{Board, held};
+use crate::table::Table;
+
+#[derive(Clone, Copy, Debug, PartialEq, Eq)]
+pub struct Message {
+    pub channel: u8,
+    pub property: u32,
+    pub cents: i64,
+    pub status: u8,
+    pub matched: Option<u16>,
+    pub waker: Option<u16>,
+}
+
+#[derive(Clone, Copy, Debug, PartialEq, Eq)]
+pub struct Match {
+    pub chord: u8,
+    pub len: u8,
+    pub cents: i64,
+    pub messages: [u16; 8],
+}
+
+#[derive(Clone, Copy, Debug, PartialEq, Eq)]
+pub enum Call {
+    Add { sender: u16, channel: u16, property: u32, cents: i64 },
+    Step { sender: u16 },
+}
+
+/// The calls of a replay in columns, as the host interface has them; a kind of 0 is a step, any other an add.
+#[derive(Clone, Copy)]
+pub struct Replay<'a> {
+    pub kinds: &'a [u8],
+    pub callers: &'a [u16],
+    pub targets: &'a [u16],
+    pub numbers: &'a [u32],
+    pub amounts: &'a [i64],
+}
+
+/// The table, if it is accepted and the board sound.
+fn judged(table: &[u8], board: &Board) -> Result<Table, Refusal> {
+    let table = Table::read(table)?;
+    if board.is_sound(&table) { Ok(table) } else { Err(30) }
+}
+
+pub fn open(table: &[u8]) -> Result<Board, Refusal> {
+    Table::read(table).map(|_| Board::default())
+}
+
+pub fn call(table: &[u8], board: &mut Board, call: Call) -> Answer {
+    match judged(table, board) {
+        Ok(table) => board.core_call(&table, call),
+        Err(number) => Answer::Refused(number),
+    }
+}
+
+pub fn add(table: &[u8], board: &mut Board, sender: u16, channel: u16, property: u32, cents: i64) -> Answer {
+    call(table, board, Call::Add { sender, channel, property, cents })
+}
+
+pub fn step(table: &[u8], board: &mut Board, sender: u16) -> Answer {
+    call(table, board, Call::Step { sender })
+}
+
+pub fn message(table: &[u8], board: &Board, number: u16) -> Result<Message, Refusal> {
+    judged(table, board)?;
+    if number < board.messages { Ok(board.message(number)) } else { Err(14) }
+}
+
+pub fn match_(table: &[u8], board: &Board, number: u16) -> Result<Match, Refusal> {
+    let table = judged(table, board)?;
+    if number < board.matches { Ok(board.match_(&table, number)) } else { Err(15) }
+}
+
+/// What the sender's slip reads.
+pub fn reply(table: &[u8], board: &Board, sender: u16) -> Result<Option<u16>, Refusal> {
+    judged(table, board)?;
+    board.senders.get(sender as usize).map(|sender| sender.reply).ok_or(8)
+}
+
+pub fn quiet(table: &[u8], board: &Board) -> Result<bool, Refusal> {
+    judged(table, board)?;
+    Ok(board.is_quiet())
+}
+
+/// Plays the calls in order and writes each answer as a number.
+pub fn replay(table: &[u8], board: &mut Board, calls: Replay, answers: &mut [u32]) -> Result<(), Refusal> {
+    let table = judged(table, board)?;
+    let count = calls.kinds.len();
+    let lengths = [calls.callers.len(), calls.targets.len(), calls.numbers.len(), calls.amounts.len()];
+    if lengths.iter().any(|&length| length != count) {
+        return Err(30);
+    }
+    if answers.len() < count {
+        return Err(31);
+    }
+    for (at, answer) in answers[..count].iter_mut().enumerate() {
+        *answer = board.core_call(&table, calls.at(at)).number();
+    }
+    Ok(())
+}
+
+impl Replay<'_> {
+    fn at(&self, at: usize) -> Call {
+        let (sender, channel, property, cents) =
+            (self.callers[at], self.targets[at], self.numbers[at], self.amounts[at]);
+        if self.kinds[at] == 0 { Call::Step { sender } } else { Call::Add { sender, channel, property, cents } }
+    }
+}
+
+impl Board {
+    /// A call on a sound board, without the tests.
+    pub fn core_call(&mut self, table: &Table, call: Call) -> Answer {
+        match call {
+            Call::Add { sender, channel, property, cents } => self.core_add(table, sender, channel, property, cents),
+            Call::Step { sender } => self.core_step(table, sender),
+        }
+    }
+
+    /// A counted message.
+    pub fn message(&self, number: u16) -> Message {
+        let at = number as usize;
+        Message {
+            channel: self.columns.channels[at],
+            property: self.columns.properties[at],
+            cents: self.columns.cents[at],
+            status: self.columns.statuses[at],
+            matched: held(self.columns.matched[at]),
+            waker: held(self.columns.wakers[at]),
+        }
+    }
+
+    /// A counted match, with 0 for the messages that its chord does not have.
+    pub fn match_(&self, table: &Table, number: u16) -> Match {
+        let chord = self.columns.chords[number as usize];
+        let len = table.chord(chord).len;
+        let mut messages = [0; 8];
+        messages[..len.into()].copy_from_slice(&self.columns.messages[number as usize][..len.into()]);
+        let cents = messages[..len.into()].iter().map(|&message| self.columns.cents[message as usize]).sum();
+        Match { chord, len, cents, messages }
+    }
+
+    /// The first sender whose step would not be refused 13.
+    pub fn first_busy(&self) -> Option<u16> {
+        self.senders.iter().position(|sender| !sender.at_rest()).map(|sender| sender as u16)
+    }
+}

@@ -1,0 +1,24 @@
+//! The matching board in plain Rust, written from the prose of the scope paper (01) and not from the proved code.
+//!
+//! It serves as the second opinion of the differential test and as the baseline of the benchmarks. Where 01 is silent
+//! it follows docs/DECISIONS.md and the host interface, so that boards can be compared number by number: going idle
+//! clears the signal and keeps the other numbers; the match of the own message is noted when that is consumed; tell
+//! and free count what is told and freed; a backoff counts the rests after the next one; a rest clears the retry mark.
+
+pub mod answer;
+pub mod board;
+pub mod calls;
+pub mod look;
+pub mod numbers;
+pub mod sound;
+pub mod step;
+pub mod table;
+
+pub use answer::{Answer, Refusal};
+pub use board::{Board, Columns, Phase, Sender, State};
+pub use calls::{Call, Match, Message, Replay};
+pub use numbers::{NUMBERS, SENDER_NUMBERS};
+pub use table::{Chord, Table};
+
+#[cfg(test)]
+mod tests;

@@ -1,0 +1,113 @@
+//! The board as the host interface's 674 numbers.
+
+use crate::board::{Board, Columns, Phase, SENDERS, Sender, State, held, kept};
+
+/// Numbers a sender takes.
+pub const SENDER_NUMBERS: usize = 21;
+/// Numbers a board takes: the two counts and the senders.
+pub const NUMBERS: usize = 2 + SENDER_NUMBERS * SENDERS;
+
+impl Board {
+    pub fn to_numbers(&self) -> [u16; NUMBERS] {
+        let mut numbers = [0; NUMBERS];
+        numbers[..2].copy_from_slice(&[self.messages, self.matches]);
+        for (part, sender) in numbers[2..].chunks_exact_mut(SENDER_NUMBERS).zip(&self.senders) {
+            part.copy_from_slice(&sender.to_numbers());
+        }
+        numbers
+    }
+
+    /// None if the numbers are no board's.
+    pub fn from_numbers(numbers: &[u16], columns: Columns) -> Option<Board> {
+        let numbers: &[u16; NUMBERS] = numbers.try_into().ok()?;
+        let mut board = Board { messages: numbers[0], matches: numbers[1], columns, ..Board::default() };
+        for (part, sender) in numbers[2..].chunks_exact(SENDER_NUMBERS).zip(&mut board.senders) {
+            *sender = Sender::from_numbers(part)?;
+        }
+        Some(board)
+    }
+}
+
+impl Sender {
+    pub fn to_numbers(&self) -> [u16; SENDER_NUMBERS] {
+        let mut numbers = [0; SENDER_NUMBERS];
+        let (phase, at, second) = self.phase.to_numbers();
+        numbers[..13].copy_from_slice(&[
+            self.state as u16,
+            self.signalled.into(),
+            kept(self.own),
+            kept(self.waker),
+            kept(self.reply),
+            kept(self.matched),
+            self.subject,
+            self.chord.into(),
+            phase,
+            at,
+            second,
+            self.retry.into(),
+            self.retries.into(),
+        ]);
+        numbers[13..].copy_from_slice(&self.chosen);
+        numbers
+    }
+
+    pub fn from_numbers(numbers: &[u16]) -> Option<Sender> {
+        let numbers: &[u16; SENDER_NUMBERS] = numbers.try_into().ok()?;
+        Some(Sender {
+            state: *[State::Idle, State::Working, State::Blocked].get(numbers[0] as usize)?,
+            signalled: flag(numbers[1])?,
+            own: held(numbers[2]),
+            waker: held(numbers[3]),
+            reply: held(numbers[4]),
+            matched: held(numbers[5]),
+            subject: numbers[6],
+            chord: numbers[7].try_into().ok()?,
+            phase: Phase::from_numbers(numbers[8], numbers[9], numbers[10])?,
+            retry: flag(numbers[11])?,
+            retries: numbers[12].try_into().ok()?,
+            chosen: numbers[13..].try_into().ok()?,
+        })
+    }
+}
+
+impl Phase {
+    fn to_numbers(self) -> (u16, u16, u16) {
+        let (phase, at, second) = match self {
+            Phase::Look(at) => (0, at, 0),
+            Phase::Claim(at) => (1, at, 0),
+            Phase::Revert { at, made } => (2, at, made.into()),
+            Phase::Consume { at, matched } => (3, at, kept(matched)),
+            Phase::Tell(nth) => (4, nth, 0),
+            Phase::Wake => (5, 0, 0),
+            Phase::Free(nth) => (6, nth, 0),
+            Phase::Signal => (7, 0, 0),
+            Phase::PassEnd => (8, 0, 0),
+            Phase::Backoff(left) => (9, left, 0),
+        };
+        (phase, at.into(), second)
+    }
+
+    fn from_numbers(phase: u16, at: u16, second: u16) -> Option<Phase> {
+        match (phase, u8::try_from(at).ok()?, second) {
+            (0, at, 0) => Some(Phase::Look(at)),
+            (1, at, 0) => Some(Phase::Claim(at)),
+            (2, at, made) => Some(Phase::Revert { at, made: made.try_into().ok()? }),
+            (3, at, matched) => Some(Phase::Consume { at, matched: held(matched) }),
+            (4, nth, 0) => Some(Phase::Tell(nth)),
+            (5, 0, 0) => Some(Phase::Wake),
+            (6, nth, 0) => Some(Phase::Free(nth)),
+            (7, 0, 0) => Some(Phase::Signal),
+            (8, 0, 0) => Some(Phase::PassEnd),
+            (9, left, 0) => Some(Phase::Backoff(left)),
+            _ => None,
+        }
+    }
+}
+
+fn flag(number: u16) -> Option<bool> {
+    match number {
+        0 => Some(false),
+        1 => Some(true),
+        _ => None,
+    }
+}

@@ -1,0 +1,125 @@
+//! 01's printed run of table P, its edge items, and the numbers of a board.
+
+use crate::board::{CLAIMED, MESSAGES, WOKEN};
+use crate::calls::{add, match_, open, quiet, reply, step};
+use crate::table::table_refusal;
+use crate::{Answer, Board};
+
+const P: &[u8] = &[2, 0, 1, 0, 2, 0, 12, 0, 14, 0, 18, 0, 0, 1, 0, 0, 2, 1, 0, 1];
+/// One leave channel, named twice by one chord.
+const TWICE: &[u8] = &[1, 0, 1, 0, 2, 0, 12, 0, 13, 0, 17, 0, 0, 0, 0, 2, 0, 0, 0];
+
+fn steps(table: &[u8], board: &mut Board, sender: u16, count: usize) -> String {
+    let said: Vec<String> = (0..count).map(|_| step(table, board, sender).to_string()).collect();
+    said.join(" / ")
+}
+
+#[test]
+fn printed_run_of_table_p() {
+    let mut board = open(P).unwrap();
+    assert_eq!(add(P, &mut board, 0, 1, 7, 0), Answer::Item(0));
+    assert_eq!(steps(P, &mut board, 0, 3), "missed / ended / refused 13");
+    assert_eq!(add(P, &mut board, 1, 0, 7, 5000), Answer::Item(1));
+    assert_eq!(
+        steps(P, &mut board, 1, 7),
+        "looked 1 / looked 0 / claimed 1 / claimed 0 / woke 0 / freed 1 / signalled 0"
+    );
+    assert_eq!(
+        steps(P, &mut board, 0, 8),
+        "resumed / looked 1 / looked 0 / claimed 1 / matched 0 / consumed 1 / consumed 0 / refused 13"
+    );
+    let read = match_(P, &board, 0).unwrap();
+    assert_eq!((read.chord, read.len, read.cents, &read.messages[..2]), (0, 2, 5000, &[1, 0][..]));
+    assert_eq!((reply(P, &board, 0), reply(P, &board, 1)), (Ok(Some(0)), Ok(None)));
+    assert_eq!(quiet(P, &board), Ok(true));
+}
+
+#[test]
+fn tables_refused() {
+    assert_eq!(table_refusal(P), 0);
+    assert_eq!(table_refusal(&P[..19]), 3);
+    assert_eq!(table_refusal(&P[..11]), 1);
+    let changed = |at: usize, byte: u8| {
+        let mut table = P.to_vec();
+        table[at] = byte;
+        table_refusal(&table)
+    };
+    assert_eq!(changed(0, 17), 2);
+    assert_eq!(changed(12, 2), 4);
+    assert_eq!(changed(16, 9), 5);
+    assert_eq!(changed(16, 1), 6);
+    assert_eq!(changed(19, 2), 7);
+    assert_eq!(table_refusal(&[1, 0, 0, 0, 0, 0, 12, 0, 13, 0, 13, 0, 1]), 0);
+}
+
+#[test]
+fn edge_items() {
+    let mut board = open(P).unwrap();
+    add(P, &mut board, 0, 1, 7, 0);
+    steps(P, &mut board, 0, 2);
+    assert_eq!(add(P, &mut board, 1, 0, 8, 999_999_999_999), Answer::Item(1));
+    assert_eq!(steps(P, &mut board, 1, 3), "looked 1 / missed / ended");
+    assert_eq!(add(P, &mut board, 1, 0, 8, 1_000_000_000_000), Answer::Refused(11));
+    assert_eq!(add(P, &mut board, 1, 2, 8, 0), Answer::Refused(10));
+    assert_eq!(add(P, &mut board, 0, 0, 8, 0), Answer::Refused(9));
+    assert_eq!(step(P, &mut board, 32), Answer::Refused(8));
+}
+
+#[test]
+fn a_chord_naming_a_channel_twice() {
+    let mut board = open(TWICE).unwrap();
+    add(TWICE, &mut board, 0, 0, 1, 5);
+    assert_eq!(steps(TWICE, &mut board, 0, 3), "looked 0 / missed / ended");
+    add(TWICE, &mut board, 0, 0, 2, 6);
+    assert_eq!(
+        steps(TWICE, &mut board, 0, 7),
+        "looked 1 / looked 0 / claimed 1 / matched 0 / consumed 1 / consumed 0 / refused 13"
+    );
+}
+
+#[test]
+fn a_full_board() {
+    let mut board = open(TWICE).unwrap();
+    board.messages = MESSAGES as u16 - 1;
+    assert_eq!(add(TWICE, &mut board, 3, 0, 0, 0), Answer::Item(1023));
+    assert_eq!(add(TWICE, &mut board, 4, 0, 0, 0), Answer::Refused(12));
+    board.messages = MESSAGES as u16 + 1;
+    assert_eq!(add(TWICE, &mut board, 4, 0, 0, 0), Answer::Refused(30));
+}
+
+#[test]
+fn a_lost_claim_is_tried_again() {
+    let mut board = open(TWICE).unwrap();
+    add(TWICE, &mut board, 0, 0, 0, 0);
+    add(TWICE, &mut board, 1, 0, 0, 0);
+    assert_eq!(steps(TWICE, &mut board, 0, 3), "looked 0 / looked 1 / claimed 0");
+    assert_eq!(steps(TWICE, &mut board, 1, 4), "looked 1 / missed / again / looked 1");
+    assert_eq!(steps(TWICE, &mut board, 1, 3), "missed / again / rested");
+    assert_eq!(steps(TWICE, &mut board, 0, 1), "matched 0");
+}
+
+#[test]
+fn numbers_and_back() {
+    let mut board = open(P).unwrap();
+    add(P, &mut board, 0, 1, 7, 0);
+    steps(P, &mut board, 0, 2);
+    add(P, &mut board, 1, 0, 7, 5000);
+    for _ in 0..16 {
+        assert_eq!(Board::from_numbers(&board.to_numbers(), board.columns.clone()), Some(board.clone()));
+        let sender = board.first_busy().unwrap_or(0);
+        step(P, &mut board, sender);
+    }
+    let mut numbers = board.to_numbers();
+    numbers[2] = 3;
+    assert_eq!(Board::from_numbers(&numbers, board.columns.clone()), None);
+}
+
+#[test]
+fn unsound_boards() {
+    let mut board = open(P).unwrap();
+    add(P, &mut board, 0, 1, 7, 0);
+    for (status, fine) in [(CLAIMED, true), (WOKEN, false), (4, false)] {
+        board.columns.statuses[0] = status;
+        assert_eq!(quiet(P, &board).is_ok(), fine);
+    }
+}

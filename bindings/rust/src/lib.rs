@@ -1,0 +1,148 @@
+//! The matching board, a join-pattern matcher after Russo and Turon, proved; here for Rust.
+//!
+//! A [`Matcher`] owns a table of chords and a board. Senders add messages and take steps; the matcher says what each
+//! step did. A refused call alters nothing.
+
+mod answer;
+pub mod host;
+mod refusal;
+
+pub use answer::Answer;
+pub use refusal::Refusal;
+
+use host::Columns;
+
+/// A message's status.
+#[derive(Clone, Copy, Debug, PartialEq, Eq)]
+pub enum Status {
+    Pending,
+    Claimed,
+    Woken,
+    Consumed,
+}
+
+/// A message as it reads now.
+#[derive(Clone, Copy, Debug, PartialEq, Eq)]
+pub struct Message {
+    pub channel: u8,
+    pub property: u32,
+    pub cents: i64,
+    pub status: Status,
+    pub matched: Option<u16>,
+    pub waker: Option<u16>,
+}
+
+/// A match: its chord, the sum of its cents, its messages in member order.
+#[derive(Clone, Debug, PartialEq, Eq)]
+pub struct Match {
+    pub chord: u8,
+    pub cents: i64,
+    pub messages: Vec<u16>,
+}
+
+/// A call of a replay.
+#[derive(Clone, Copy, Debug, PartialEq, Eq)]
+pub enum Call {
+    Add { sender: u16, channel: u16, property: u32, cents: i64 },
+    Step { sender: u16 },
+}
+
+#[derive(Clone, Debug)]
+pub struct Matcher {
+    table: Vec<u8>,
+    board: Vec<u16>,
+    columns: Columns,
+}
+
+impl Matcher {
+    /// An empty board for that table, or what is wrong with the table.
+    pub fn open(table: impl Into<Vec<u8>>) -> Result<Matcher, Refusal> {
+        let (table, mut board) = (table.into(), vec![0; host::BOARD_NUMBERS]);
+        refused(host::open(&table, &mut board))?;
+        Ok(Matcher { table, board, columns: Columns::default() })
+    }
+
+    /// Adds a message of an idle sender; it answers [`Answer::Item`].
+    pub fn add(&mut self, sender: u16, channel: u16, property: u32, cents: i64) -> Result<Answer, Refusal> {
+        let number = host::add(&self.table, &mut self.board, &mut self.columns, sender, channel, property, cents);
+        Answer::from_number(number)
+    }
+
+    /// One step of a sender.
+    pub fn step(&mut self, sender: u16) -> Result<Answer, Refusal> {
+        Answer::from_number(host::step(&self.table, &mut self.board, &mut self.columns, sender))
+    }
+
+    pub fn message(&self, number: u16) -> Result<Message, Refusal> {
+        let mut out = [0; 6];
+        refused(host::read_message(&self.table, &self.board, &self.columns, number, &mut out))?;
+        let statuses = [Status::Pending, Status::Claimed, Status::Woken, Status::Consumed];
+        Ok(Message {
+            channel: out[0] as u8,
+            property: out[1] as u32,
+            cents: out[2],
+            status: statuses[out[3] as usize],
+            matched: held(out[4]),
+            waker: held(out[5]),
+        })
+    }
+
+    pub fn match_(&self, number: u16) -> Result<Match, Refusal> {
+        let mut out = [0; 11];
+        refused(host::read_match(&self.table, &self.board, &self.columns, number, &mut out))?;
+        let messages = out[3..][..out[1] as usize].iter().map(|&message| message as u16).collect();
+        Ok(Match { chord: out[0] as u8, cents: out[2], messages })
+    }
+
+    /// The match on the sender's slip.
+    pub fn reply(&self, sender: u16) -> Result<Option<u16>, Refusal> {
+        let mut out = [0];
+        refused(host::read_reply(&self.table, &self.board, &self.columns, sender, &mut out))?;
+        Ok(held(out[0]))
+    }
+
+    /// Whether every sender is idle, or blocked without a signal.
+    pub fn quiet(&self) -> Result<bool, Refusal> {
+        let mut out = [0];
+        refused(host::quiet(&self.table, &self.board, &self.columns, &mut out))?;
+        Ok(out[0] != 0)
+    }
+
+    /// Plays the calls in order, with the tests of the board made once.
+    pub fn replay(&mut self, calls: &[Call]) -> Result<Vec<Result<Answer, Refusal>>, Refusal> {
+        let plain: Vec<_> = calls.iter().map(|call| call.numbers()).collect();
+        let kinds: Vec<u8> = plain.iter().map(|call| call.0).collect();
+        let callers: Vec<u16> = plain.iter().map(|call| call.1).collect();
+        let targets: Vec<u16> = plain.iter().map(|call| call.2).collect();
+        let numbers: Vec<u32> = plain.iter().map(|call| call.3).collect();
+        let amounts: Vec<i64> = plain.iter().map(|call| call.4).collect();
+        let calls =
+            host::Replay { kinds: &kinds, callers: &callers, targets: &targets, numbers: &numbers, amounts: &amounts };
+        let mut answers = vec![0; kinds.len()];
+        refused(host::replay(&self.table, &mut self.board, calls, &mut answers, &mut self.columns))?;
+        Ok(answers.into_iter().map(Answer::from_number).collect())
+    }
+
+    /// How many messages and matches there are; they are numbered from 0.
+    pub fn counts(&self) -> (u16, u16) {
+        (self.board[0], self.board[1])
+    }
+}
+
+impl Call {
+    fn numbers(self) -> (u8, u16, u16, u32, i64) {
+        match self {
+            Call::Add { sender, channel, property, cents } => (host::ADD, sender, channel, property, cents),
+            Call::Step { sender } => (host::STEP, sender, 0, 0, 0),
+        }
+    }
+}
+
+fn refused(number: u8) -> Result<(), Refusal> {
+    if number == 0 { Ok(()) } else { Err(Refusal::from_number(number)) }
+}
+
+/// A number kept plus 1, 0 for none.
+fn held(number: i64) -> Option<u16> {
+    (number > 0).then(|| (number - 1) as u16)
+}

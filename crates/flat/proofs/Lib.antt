@@ -1,0 +1,5 @@
+-- Laws of a board's numbers.
+pub mod PhaseLaws
+pub mod SenderLaws
+pub mod WalkLaws
+pub mod Encoded

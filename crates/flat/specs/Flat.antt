@@ -1,0 +1,74 @@
+-- The board as 674 plain numbers: how many messages and matches there are, then 21 numbers for each of 32 senders.
+use mathlib.Core.Bool.{Bool, true, _&&_, _||_, not}
+use mathlib.Core.List.{List, [], _∷_, _++_}
+use Prim.Native.Nat.{ℕ, zero, suc}
+use lib.Dec.{eqb, leb}
+use lib.ListN.{length, getD, drop, take}
+use Rattle.model.specs.Basics.{allOf}
+use Rattle.model.specs.Layout.{flag}
+use Rattle.state.specs.declared.Phase as DP
+use Rattle.state.specs.declared.Phase.the-variants as P
+use Rattle.state.specs.declared.State as DS
+use Rattle.state.specs.declared.State.the-variants as S
+use Rattle.state.specs.declared.Sender as DD
+use Rattle.boards.specs.declared.Board as DB
+
+abbrev pub stateNumber : DS.State → ℕ
+stateNumber S.Idle = 0
+stateNumber S.Working = 1
+stateNumber S.Blocked = 2
+
+-- which phase, its place, and its second number; 0 for what it has not
+abbrev pub phaseNumbers : DP.Phase → List ℕ
+phaseNumbers (P.Look k) = 0 ∷ k ∷ 0 ∷ []
+phaseNumbers (P.Claim k) = 1 ∷ k ∷ 0 ∷ []
+phaseNumbers (P.Revert k claims) = 2 ∷ k ∷ claims ∷ []
+phaseNumbers (P.Consume k match) = 3 ∷ k ∷ match ∷ []
+phaseNumbers (P.Tell k) = 4 ∷ k ∷ 0 ∷ []
+phaseNumbers P.Wake = 5 ∷ 0 ∷ 0 ∷ []
+phaseNumbers (P.Free k) = 6 ∷ k ∷ 0 ∷ []
+phaseNumbers P.Signal = 7 ∷ 0 ∷ 0 ∷ []
+phaseNumbers P.PassEnd = 8 ∷ 0 ∷ 0 ∷ []
+phaseNumbers (P.Backoff k) = 9 ∷ k ∷ 0 ∷ []
+
+-- 0 state, 1 signalled, 2 own, 3 waker, 4 reply, 5 matched, 6 subject, 7 chord, 8 to 10 the phase, 11 retry,
+-- 12 retries, 13 to 20 the chosen messages
+unfoldable pub senderNumbers : DD.Sender → List ℕ
+senderNumbers d =
+    stateNumber (d .state) ∷ flag (d .signalled) ∷ d .own ∷ d .waker ∷ d .reply ∷ d .matched ∷ d .job .subject ∷
+    d .job .chord ∷ (phaseNumbers (d .job .phase) ++ (flag (d .job .retry) ∷ d .job .retries ∷ d .job .chosen))
+
+unfoldable pub sendersNumbers : List DD.Sender → List ℕ
+sendersNumbers [] = []
+sendersNumbers (d ∷ ds) = senderNumbers d ++ sendersNumbers ds
+
+-- 0 messages, 1 matches, then the senders
+unfoldable pub boardNumbers : DB.Board → List ℕ
+boardNumbers b = b .messages ∷ b .matches ∷ sendersNumbers (b .senders)
+
+-- wake, signal and pass end have no place
+abbrev pub placeless : ℕ → Bool
+placeless phase = eqb phase 5 || (eqb phase 7 || eqb phase 8)
+
+-- these are the numbers of a phase: a second number that is not 0 is a consume's, or a revert's, which fits a byte
+unfoldable pub phaseOk : ℕ → ℕ → ℕ → Bool
+phaseOk phase place second =
+    allOf
+    (leb phase 9 ∷ leb place 255 ∷ (not (placeless phase) || eqb place 0) ∷
+    (eqb phase 3 || (eqb second 0 || (eqb phase 2 && leb second 255))) ∷ [])
+
+-- 21 numbers are those of a sender
+unfoldable pub senderOk : List ℕ → Bool
+senderOk a =
+    allOf
+    (leb (getD a 0 0) 2 ∷ leb (getD a 1 0) 1 ∷ leb (getD a 7 0) 255 ∷
+    phaseOk (getD a 8 0) (getD a 9 0) (getD a 10 0) ∷ leb (getD a 11 0) 1 ∷ leb (getD a 12 0) 255 ∷ [])
+
+-- n senders, one after another
+unfoldable pub sendersOk : ℕ → List ℕ → Bool
+sendersOk zero s = true
+sendersOk (suc n) s = senderOk (take 21 s) && sendersOk n (drop 21 s)
+
+-- numbers, each below 65,536, that are those of a board
+unfoldable pub flatOk : List ℕ → Bool
+flatOk s = eqb (length s) 674 && sendersOk 32 (drop 2 s)

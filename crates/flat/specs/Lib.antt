@@ -1,0 +1,3 @@
+-- The board as plain numbers.
+pub mod Flat
+pub mod Fits

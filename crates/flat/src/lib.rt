@@ -1,0 +1,343 @@
+// The board as plain numbers, which a host in another language can hold: read from a lent slice, and written to one.
+ghost use mathlib.Core.Path.{_≡_};
+ghost use mathlib.Core.Bool.{true};
+ghost use mathlib.Core.List.{[], _∷_, _++_};
+ghost use Prim.Native.Nat.{_+_, _≤_};
+ghost use lib.ListN.{length, take, drop};
+ghost use lib.Seq.{paste};
+ghost use Rattle.model.specs.Layout.{flag};
+ghost use Rattle.flat.specs.Flat.{stateNumber, phaseNumbers, senderNumbers, sendersNumbers, boardNumbers};
+ghost use Rattle.flat.specs.Fits.{PhaseFits, SenderFits, SendersFit, BoardFits};
+ghost use Rattle.flat.specs.Flat.{phaseOk, senderOk, sendersOk, flatOk};
+use boards::Board;
+use state::Job;
+use state::Phase;
+use state::Sender;
+use state::State;
+
+// Whether the numbers are those of a board, and that board.
+pub struct Decoded {
+    pub ok: bool,
+    pub board: Board,
+}
+
+// A sender's state by its number.
+fn state_of(n: u16) -> State
+    requires { ⌜ n ≤ 2 ⌝ }
+    ensures { λ r. ⌜ stateNumber r ≡ n ⌝ }
+{
+    if n == 0 {
+        return State::Idle;
+    }
+    if n == 1 {
+        return State::Working;
+    }
+    State::Blocked
+}
+
+// The number of a sender's state.
+fn state_number(s: State) -> u16
+    ensures { λ r. ⌜ r ≡ stateNumber s ⌝ }
+{
+    match s {
+        State::Idle => 0,
+        State::Working => 1,
+        State::Blocked => 2,
+    }
+}
+
+// A yes or no by its number.
+fn flag_of(n: u16) -> bool
+    requires { ⌜ n ≤ 1 ⌝ }
+    ensures { λ r. ⌜ flag r ≡ n ⌝ }
+{
+    n == 1
+}
+
+// The number of a yes or no.
+fn flag_number(b: bool) -> u16
+    ensures { λ r. ⌜ r ≡ flag b ⌝ }
+{
+    b as u16
+}
+
+// A number that fits a byte.
+fn byte_of(n: u16) -> u8
+    requires { ⌜ n ≤ 255 ⌝ }
+    ensures { λ r. ⌜ r ≡ n ⌝ }
+{
+    n as u8
+}
+
+// Whether three numbers are those of a phase.
+fn phase_ok(phase: u16, place: u16, second: u16) -> bool
+    ensures { λ r. ⌜ r ≡ phaseOk phase place second ⌝ }
+{
+    let placeless = (phase == 5) | ((phase == 7) | (phase == 8));
+    let placed = !placeless | (place == 0);
+    let seconded = (phase == 3) | ((second == 0) | ((phase == 2) & (second <= 255)));
+    (phase <= 9) & ((place <= 255) & (placed & seconded))
+}
+
+// The phase by its three numbers.
+fn phase_of(phase: u16, place: u16, second: u16) -> Phase
+    requires { ⌜ phaseOk phase place second ≡ true ⌝ }
+    ensures { λ r. ⌜ phaseNumbers r ≡ phase ∷ place ∷ second ∷ [] ⌝ }
+{
+    let k = byte_of(place);
+    if phase == 0 {
+        return Phase::Look(k);
+    }
+    if phase == 1 {
+        return Phase::Claim(k);
+    }
+    if phase == 2 {
+        return Phase::Revert(k, byte_of(second));
+    }
+    if phase == 3 {
+        return Phase::Consume(k, second);
+    }
+    if phase == 4 {
+        return Phase::Tell(k);
+    }
+    if phase == 5 {
+        return Phase::Wake;
+    }
+    if phase == 6 {
+        return Phase::Free(k);
+    }
+    if phase == 7 {
+        return Phase::Signal;
+    }
+    if phase == 8 {
+        return Phase::PassEnd;
+    }
+    Phase::Backoff(k)
+}
+
+// The three numbers of a phase.
+fn phase_numbers(p: Phase) -> [u16; 3]
+    ensures { λ r. ⌜ (r ≡ phaseNumbers p) × PhaseFits p ⌝ }
+{
+    match p {
+        Phase::Look(k) => [0, k as u16, 0],
+        Phase::Claim(k) => [1, k as u16, 0],
+        Phase::Revert(k, claims) => [2, k as u16, claims as u16],
+        Phase::Consume(k, m) => [3, k as u16, m],
+        Phase::Tell(k) => [4, k as u16, 0],
+        Phase::Wake => [5, 0, 0],
+        Phase::Free(k) => [6, k as u16, 0],
+        Phase::Signal => [7, 0, 0],
+        Phase::PassEnd => [8, 0, 0],
+        Phase::Backoff(k) => [9, k as u16, 0],
+    }
+}
+
+// Whether 21 numbers are those of a sender.
+fn sender_ok(a: &[u16]) -> bool
+    requires { ⌜ length (now a) ≡ 21 ⌝ }
+    ensures { λ r. ⌜ r ≡ senderOk (now (a .entry)) ⌝ }
+{
+    let phase = phase_ok(a[8], a[9], a[10]);
+    let job = (a[7] <= 255) & (phase & ((a[11] <= 1) & (a[12] <= 255)));
+    (a[0] <= 2) & ((a[1] <= 1) & job)
+}
+
+// The eight messages that a sender has chosen.
+fn chosen_of(a: &[u16]) -> [u16; 8]
+    requires { ⌜ length (now a) ≡ 21 ⌝ }
+    ensures { λ r. ⌜ r ≡ drop 13 (now (a .entry)) ⌝ }
+{
+    [a[13], a[14], a[15], a[16], a[17], a[18], a[19], a[20]]
+}
+
+// The sender by its 21 numbers.
+fn sender_of(a: &[u16]) -> Sender
+    requires { ⌜ (length (now a) ≡ 21) × (senderOk (now a) ≡ true) ⌝ }
+    ensures { λ r. ⌜ (senderNumbers r ≡ now (a .entry)) × SenderFits r ⌝ }
+{
+    let job = Job {
+        subject: a[6],
+        chord: byte_of(a[7]),
+        phase: phase_of(a[8], a[9], a[10]),
+        chosen: chosen_of(a),
+        retry: flag_of(a[11]),
+        retries: byte_of(a[12]),
+    };
+    Sender {
+        state: state_of(a[0]),
+        signalled: flag_of(a[1]),
+        own: a[2],
+        waker: a[3],
+        reply: a[4],
+        matched: a[5],
+        job: job,
+    }
+}
+
+// The 21 numbers of a sender.
+fn sender_numbers(d: Sender) -> [u16; 21]
+    ensures { λ r. ⌜ (r ≡ senderNumbers d) × SenderFits d ⌝ }
+{
+    let state = d.state;
+    let s = state_number(state);
+    let signalled = flag_number(d.signalled);
+    let job = d.job;
+    let phase = job.phase;
+    let n = phase_numbers(phase);
+    let retry = flag_number(job.retry);
+    let c = job.chosen;
+    [
+        s,
+        signalled,
+        d.own,
+        d.waker,
+        d.reply,
+        d.matched,
+        job.subject,
+        job.chord as u16,
+        n[0],
+        n[1],
+        n[2],
+        retry,
+        job.retries as u16,
+        c[0],
+        c[1],
+        c[2],
+        c[3],
+        c[4],
+        c[5],
+        c[6],
+        c[7],
+    ]
+}
+
+// A sender's numbers from a place on.
+fn put_sender(d: Sender, s: &mut [u16], at: usize)
+    requires { ⌜ at + 21 ≤ length (now s) ⌝ }
+    ensures { λ _. ⌜ (now (s .exit) ≡ paste (now (s .entry)) at (senderNumbers d) 21)
+        × SenderFits d ⌝ }
+{
+    let a = sender_numbers(d);
+    let mut i = 0;
+    while i < 21 {
+        s[at + i] = a[i];
+        i += 1;
+    }
+}
+
+// The senders' numbers, one after another.
+fn put_senders(senders: [Sender; 32], s: &mut [u16])
+    requires { ⌜ length (now s) ≡ 674 ⌝ }
+    ensures { λ _. ⌜ (now (s .exit) ≡ take 2 (now (s .entry)) ++ sendersNumbers senders) × SendersFit senders ⌝ }
+{
+    let mut i: usize = 0;
+    while i < 32 {
+        let d = senders[i];
+        put_sender(d, s, 2 + 21 * i);
+        i += 1;
+    }
+}
+
+// The board's numbers.
+pub fn put_board(b: Board, s: &mut [u16])
+    requires { ⌜ length (now s) ≡ 674 ⌝ }
+    ensures { λ _. ⌜ (now (s .exit) ≡ boardNumbers b) × BoardFits b ⌝ }
+{
+    let senders = b.senders;
+    put_senders(senders, s);
+    s[0] = b.messages;
+    s[1] = b.matches;
+}
+
+// An idle sender.
+fn idle_sender() -> Sender {
+    let job = Job {
+        subject: 0,
+        chord: 0,
+        phase: Phase::PassEnd,
+        chosen: [0; 8],
+        retry: false,
+        retries: 0,
+    };
+    Sender {
+        state: State::Idle,
+        signalled: false,
+        own: 0,
+        waker: 0,
+        reply: 0,
+        matched: 0,
+        job: job,
+    }
+}
+
+// Whether the numbers from the third on are those of 32 senders.
+fn senders_ok(s: &[u16]) -> bool
+    requires { ⌜ length (now s) ≡ 674 ⌝ }
+    ensures { λ r. ⌜ r ≡ sendersOk 32 (drop 2 (now (s .entry))) ⌝ }
+{
+    let mut i: usize = 0;
+    while i < 32 {
+        let at = 2 + 21 * i;
+        if !sender_ok(&s[at..at + 21]) {
+            return false;
+        }
+        i += 1;
+    }
+    true
+}
+
+// Whether the numbers are those of a board.
+fn numbers_ok(s: &[u16]) -> bool
+    ensures { λ r. ⌜ r ≡ flatOk (now (s .entry)) ⌝ }
+{
+    if s.len() != 674 {
+        return false;
+    }
+    senders_ok(s)
+}
+
+// The 32 senders.
+fn senders_of(s: &[u16]) -> [Sender; 32]
+    requires { ⌜ (length (now s) ≡ 674) × (sendersOk 32 (drop 2 (now s)) ≡ true) ⌝ }
+    ensures { λ r. ⌜ (sendersNumbers r ≡ drop 2 (now (s .entry))) × SendersFit r × (length r ≡ 32) ⌝ }
+{
+    let idle = idle_sender();
+    let mut senders = [idle; 32];
+    let mut i: usize = 0;
+    while i < 32 {
+        let at = 2 + 21 * i;
+        let d = sender_of(&s[at..at + 21]);
+        senders[i] = d;
+        i += 1;
+    }
+    senders
+}
+
+// The board by its numbers; no board where they are not those of one.
+pub fn board_of(s: &[u16]) -> Decoded
+    ensures { λ r. ⌜ r .ok ≡ flatOk (now (s .entry)) ⌝ }
+    ensures { λ r. ⌜ (r .ok ≡ true → (boardNumbers (r .board) ≡ now (s .entry)) × BoardFits (r .board)) ⌝ }
+{
+    let ok = numbers_ok(s);
+    if !ok {
+        let idle = idle_sender();
+        return Decoded {
+            ok: false,
+            board: Board {
+                messages: 0,
+                matches: 0,
+                senders: [idle; 32],
+            },
+        };
+    }
+    let senders = senders_of(s);
+    Decoded {
+        ok: true,
+        board: Board {
+            messages: s[0],
+            matches: s[1],
+            senders: senders,
+        },
+    }
+}

@@ -1,0 +1,4 @@
+-- Laws of the host calls.
+pub mod HostLaws
+pub mod ReadLaws
+pub mod Chains

@@ -1,0 +1,482 @@
+// The calls of a host in another language, on any bytes and numbers: the board comes and goes as plain numbers.
+ghost use mathlib.Core.Path.{_≡_};
+ghost use mathlib.Core.List.{[], _∷_, map};
+ghost use Prim.Native.Nat.{_≤_};
+ghost use lib.IntN.{pos};
+ghost use lib.ListN.{length, drop, replicate};
+ghost use lib.Seq.{paste};
+ghost use Rattle.model.specs.Layout.{tableRefusal};
+ghost use Rattle.model.specs.Pools.{adds, steps};
+ghost use Rattle.adds.specs.Sends.{sent};
+ghost use Rattle.reads.specs.Reads.{messageOf, readOf};
+ghost use Rattle.replaying.specs.Replays.{callColumns};
+ghost use Rattle.host.specs.Host.{lent, noBoard, Flat-plays, Flat-replays, Flat-opens};
+ghost use Rattle.host.specs.Host.{messageNumbers, matchNumbers, stored, ofMessage, ofMatch, ofReply, ofQuiet};
+ghost use Rattle.host.specs.Host.{Flat-reads};
+use reads::MatchRead;
+use reads::MessageRead;
+use state::Said;
+
+// The number for a board's numbers that are none.
+fn no_board(table: &[u8]) -> u8
+    ensures { λ r. ⌜ r ≡ noBoard (now (table .entry)) ⌝ }
+{
+    let number = table::table_refusal(table);
+    if number != 0 {
+        return number;
+    }
+    30
+}
+
+// The number that refuses a table, 0 for none.
+#[no_mangle]
+pub extern "C" fn gv_table_refusal(table: &[u8]) -> u8
+    ensures { λ r. ⌜ r ≡ tableRefusal (now (table .entry)) ⌝ }
+{
+    table::table_refusal(table)
+}
+
+// Opens an empty board.
+#[no_mangle]
+pub extern "C" fn gv_open(table: &[u8], board: &mut [u16]) -> u8
+    ensures { λ r. ⌜ Flat-opens (now (table .entry)) (now (board .entry)) r (now (board .exit)) ⌝ }
+{
+    let opened = adding::open_board(table);
+    let number = opened.number;
+    if number != 0 {
+        return number;
+    }
+    if board.len() != 674 {
+        return 30;
+    }
+    let empty = opened.board;
+    flat::put_board(empty, board);
+    0
+}
+
+// A step of a sender.
+#[no_mangle]
+pub extern "C" fn gv_step(
+    table: &[u8],
+    board: &mut [u16],
+    channels: &[u8],
+    properties: &[u32],
+    cents: &[i64],
+    statuses: &mut [u8],
+    matched: &mut [u16],
+    wakers: &mut [u16],
+    chords: &mut [u8],
+    messages: &mut [u16],
+    sender: u16,
+) -> u32
+    ensures { λ r. ⌜ Flat-plays (now (table .entry))
+        (lent (now (board .entry)) (now (channels .entry)) (now (properties .entry)) (now (cents .entry))
+        (now (statuses .entry)) (now (matched .entry)) (now (wakers .entry)) (now (chords .entry))
+        (now (messages .entry)))
+        (steps sender) r
+        (lent (now (board .exit)) (now (channels .entry)) (now (properties .entry)) (now (cents .entry))
+        (now (statuses .exit)) (now (matched .exit)) (now (wakers .exit)) (now (chords .exit))
+        (now (messages .exit))) ⌝ }
+{
+    let d = flat::board_of(board);
+    if !d.ok {
+        let number = no_board(table);
+        return replaying::answer_number(Said::Refused(number));
+    }
+    let b = d.board;
+    let a = stepping::step(
+        table,
+        b,
+        sender,
+        channels,
+        properties,
+        cents,
+        statuses,
+        matched,
+        wakers,
+        chords,
+        messages,
+    );
+    let said = a.said;
+    let answer = replaying::answer_number(said);
+    if replaying::number_of(said) != 0 {
+        return answer;
+    }
+    let after = a.board;
+    flat::put_board(after, board);
+    answer
+}
+
+// An add by a sender.
+#[no_mangle]
+pub extern "C" fn gv_add(
+    table: &[u8],
+    board: &mut [u16],
+    channels: &mut [u8],
+    properties: &mut [u32],
+    cents: &mut [i64],
+    statuses: &mut [u8],
+    matched: &mut [u16],
+    wakers: &mut [u16],
+    chords: &[u8],
+    messages: &[u16],
+    sender: u16,
+    channel: u16,
+    property: u32,
+    amount: i64,
+) -> u32
+    ensures { λ r. ⌜ Flat-plays (now (table .entry))
+        (lent (now (board .entry)) (now (channels .entry)) (now (properties .entry)) (now (cents .entry))
+        (now (statuses .entry)) (now (matched .entry)) (now (wakers .entry)) (now (chords .entry))
+        (now (messages .entry)))
+        (adds sender (sent channel property amount)) r
+        (lent (now (board .exit)) (now (channels .exit)) (now (properties .exit)) (now (cents .exit))
+        (now (statuses .exit)) (now (matched .exit)) (now (wakers .exit)) (now (chords .entry))
+        (now (messages .entry))) ⌝ }
+{
+    let d = flat::board_of(board);
+    if !d.ok {
+        let number = no_board(table);
+        return replaying::answer_number(Said::Refused(number));
+    }
+    let b = d.board;
+    let a = adding::add(
+        table,
+        b,
+        sender,
+        channel,
+        property,
+        amount,
+        channels,
+        properties,
+        cents,
+        statuses,
+        matched,
+        wakers,
+        chords,
+        messages,
+    );
+    let said = a.said;
+    let answer = replaying::answer_number(said);
+    if replaying::number_of(said) != 0 {
+        return answer;
+    }
+    let after = a.board;
+    flat::put_board(after, board);
+    answer
+}
+
+// A list of calls, one after another.
+#[no_mangle]
+pub extern "C" fn gv_replay(
+    table: &[u8],
+    board: &mut [u16],
+    kinds: &[u8],
+    callers: &[u16],
+    targets: &[u16],
+    numbers: &[u32],
+    amounts: &[i64],
+    answers: &mut [u32],
+    channels: &mut [u8],
+    properties: &mut [u32],
+    cents: &mut [i64],
+    statuses: &mut [u8],
+    matched: &mut [u16],
+    wakers: &mut [u16],
+    chords: &mut [u8],
+    messages: &mut [u16],
+) -> u8
+    ensures { λ r. ⌜ Flat-replays (now (table .entry))
+        (lent (now (board .entry)) (now (channels .entry)) (now (properties .entry)) (now (cents .entry))
+        (now (statuses .entry)) (now (matched .entry)) (now (wakers .entry)) (now (chords .entry))
+        (now (messages .entry)))
+        (callColumns (now (kinds .entry)) (now (callers .entry)) (now (targets .entry)) (now (numbers .entry))
+        (now (amounts .entry))) (now (answers .entry)) (now (answers .exit)) r
+        (lent (now (board .exit)) (now (channels .exit)) (now (properties .exit)) (now (cents .exit))
+        (now (statuses .exit)) (now (matched .exit)) (now (wakers .exit)) (now (chords .exit))
+        (now (messages .exit))) ⌝ }
+{
+    let d = flat::board_of(board);
+    if !d.ok {
+        return no_board(table);
+    }
+    let b = d.board;
+    let r = replaying::replay(
+        table,
+        b,
+        kinds,
+        callers,
+        targets,
+        numbers,
+        amounts,
+        answers,
+        channels,
+        properties,
+        cents,
+        statuses,
+        matched,
+        wakers,
+        chords,
+        messages,
+    );
+    let number = r.number;
+    if number != 0 {
+        return number;
+    }
+    let after = r.board;
+    flat::put_board(after, board);
+    number
+}
+
+// A message's six numbers.
+fn put_message(out: &mut [i64], m: MessageRead)
+    requires { ⌜ 6 ≤ length (now out) ⌝ }
+    requires { ⌜ m .status ≤ 3 ⌝ }
+    ensures { λ _. ⌜ now (out .exit) ≡ stored (messageNumbers (messageOf m)) (now (out .entry)) ⌝ }
+{
+    let cents = m.cents;
+    out[0] = m.channel as i64;
+    out[1] = m.property as i64;
+    out[2] = cents;
+    out[3] = m.status as i64;
+    out[4] = m.matched as i64;
+    out[5] = m.waker as i64;
+}
+
+// One number.
+fn put_one(out: &mut [i64], n: u16)
+    requires { ⌜ 1 ≤ length (now out) ⌝ }
+    ensures { λ _. ⌜ now (out .exit) ≡ stored (pos n ∷ []) (now (out .entry)) ⌝ }
+{
+    out[0] = n as i64;
+}
+
+// Eight numbers, from the fourth on.
+fn put_eight(out: &mut [i64], messages: &[u16])
+    requires { ⌜ (11 ≤ length (now out)) × (length (now messages) ≡ 8) ⌝ }
+    ensures { λ _. ⌜ now (out .exit) ≡ paste (now (out .entry)) 3 (map pos (now (messages .entry))) 8 ⌝ }
+{
+    let mut i: usize = 0;
+    while i < 8 {
+        out[3 + i] = messages[i] as i64;
+        i += 1;
+    }
+}
+
+// A match's eleven numbers.
+fn put_match(out: &mut [i64], m: MatchRead)
+    requires { ⌜ 11 ≤ length (now out) ⌝ }
+    requires { ⌜ (m .len ≤ 8) × (drop (m .len) (m .messages) ≡ drop (m .len) (replicate 8 0)) ⌝ }
+    ensures { λ _. ⌜ now (out .exit) ≡ stored (matchNumbers (readOf m)) (now (out .entry)) ⌝ }
+{
+    let messages = m.messages;
+    let cents = m.cents;
+    put_eight(out, &messages);
+    out[0] = m.chord as i64;
+    out[1] = m.len as i64;
+    out[2] = cents;
+}
+
+// Reads a message: channel, property, cents, status, match plus 1, waker plus 1.
+#[no_mangle]
+pub extern "C" fn gv_read_message(
+    table: &[u8],
+    board: &[u16],
+    channels: &[u8],
+    properties: &[u32],
+    cents: &[i64],
+    statuses: &[u8],
+    matched: &[u16],
+    wakers: &[u16],
+    chords: &[u8],
+    messages: &[u16],
+    n: u16,
+    out: &mut [i64],
+) -> u8
+    ensures { λ r. ⌜ Flat-reads (now (table .entry))
+        (lent (now (board .entry)) (now (channels .entry)) (now (properties .entry)) (now (cents .entry))
+        (now (statuses .entry)) (now (matched .entry)) (now (wakers .entry)) (now (chords .entry))
+        (now (messages .entry)))
+        (ofMessage n) r (now (out .entry)) (now (out .exit)) ⌝ }
+{
+    let d = flat::board_of(board);
+    if !d.ok {
+        return no_board(table);
+    }
+    let b = d.board;
+    let a = reading::read_message(
+        table,
+        b,
+        channels,
+        properties,
+        cents,
+        statuses,
+        matched,
+        wakers,
+        chords,
+        messages,
+        n,
+    );
+    let number = a.number;
+    if number != 0 {
+        return number;
+    }
+    if out.len() < 6 {
+        return 31;
+    }
+    let m = a.message;
+    put_message(out, m);
+    0
+}
+
+// Reads a match: chord, how many messages, cents, and eight messages, 0 past the last.
+#[no_mangle]
+pub extern "C" fn gv_read_match(
+    table: &[u8],
+    board: &[u16],
+    channels: &[u8],
+    properties: &[u32],
+    cents: &[i64],
+    statuses: &[u8],
+    matched: &[u16],
+    wakers: &[u16],
+    chords: &[u8],
+    messages: &[u16],
+    k: u16,
+    out: &mut [i64],
+) -> u8
+    ensures { λ r. ⌜ Flat-reads (now (table .entry))
+        (lent (now (board .entry)) (now (channels .entry)) (now (properties .entry)) (now (cents .entry))
+        (now (statuses .entry)) (now (matched .entry)) (now (wakers .entry)) (now (chords .entry))
+        (now (messages .entry)))
+        (ofMatch k) r (now (out .entry)) (now (out .exit)) ⌝ }
+{
+    let d = flat::board_of(board);
+    if !d.ok {
+        return no_board(table);
+    }
+    let b = d.board;
+    let a = reading::read_match(
+        table,
+        b,
+        channels,
+        properties,
+        cents,
+        statuses,
+        matched,
+        wakers,
+        chords,
+        messages,
+        k,
+    );
+    let number = a.number;
+    if number != 0 {
+        return number;
+    }
+    if out.len() < 11 {
+        return 31;
+    }
+    let m = a.read;
+    put_match(out, m);
+    0
+}
+
+// Reads a sender's reply: the match plus 1, 0 for none.
+#[no_mangle]
+pub extern "C" fn gv_read_reply(
+    table: &[u8],
+    board: &[u16],
+    channels: &[u8],
+    properties: &[u32],
+    cents: &[i64],
+    statuses: &[u8],
+    matched: &[u16],
+    wakers: &[u16],
+    chords: &[u8],
+    messages: &[u16],
+    sender: u16,
+    out: &mut [i64],
+) -> u8
+    ensures { λ r. ⌜ Flat-reads (now (table .entry))
+        (lent (now (board .entry)) (now (channels .entry)) (now (properties .entry)) (now (cents .entry))
+        (now (statuses .entry)) (now (matched .entry)) (now (wakers .entry)) (now (chords .entry))
+        (now (messages .entry)))
+        (ofReply sender) r (now (out .entry)) (now (out .exit)) ⌝ }
+{
+    let d = flat::board_of(board);
+    if !d.ok {
+        return no_board(table);
+    }
+    let b = d.board;
+    let a = reading::read_reply(
+        table,
+        b,
+        channels,
+        properties,
+        cents,
+        statuses,
+        matched,
+        wakers,
+        chords,
+        messages,
+        sender,
+    );
+    let number = a.number;
+    if number != 0 {
+        return number;
+    }
+    if out.len() < 1 {
+        return 31;
+    }
+    put_one(out, a.reply);
+    0
+}
+
+// Reads whether the board is quiet: 1 or 0.
+#[no_mangle]
+pub extern "C" fn gv_quiet(
+    table: &[u8],
+    board: &[u16],
+    channels: &[u8],
+    properties: &[u32],
+    cents: &[i64],
+    statuses: &[u8],
+    matched: &[u16],
+    wakers: &[u16],
+    chords: &[u8],
+    messages: &[u16],
+    out: &mut [i64],
+) -> u8
+    ensures { λ r. ⌜ Flat-reads (now (table .entry))
+        (lent (now (board .entry)) (now (channels .entry)) (now (properties .entry)) (now (cents .entry))
+        (now (statuses .entry)) (now (matched .entry)) (now (wakers .entry)) (now (chords .entry))
+        (now (messages .entry)))
+        ofQuiet r (now (out .entry)) (now (out .exit)) ⌝ }
+{
+    let d = flat::board_of(board);
+    if !d.ok {
+        return no_board(table);
+    }
+    let b = d.board;
+    let a = reading::quiet_read(
+        table,
+        b,
+        channels,
+        properties,
+        cents,
+        statuses,
+        matched,
+        wakers,
+        chords,
+        messages,
+    );
+    let number = a.number;
+    if number != 0 {
+        return number;
+    }
+    if out.len() < 1 {
+        return 31;
+    }
+    put_one(out, a.quiet as u16);
+    0
+}
