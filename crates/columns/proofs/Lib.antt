@@ -1,4 +1,5 @@
 -- Laws of messages by columns, and of the walks over them.
 pub mod ListFrom
 pub mod Messages
+pub mod Firsts
 pub mod Walks

@@ -1,15 +1,15 @@
 -- Laws of messages by columns.
 use mathlib.Core.Path.{_≡_, refl, ap, sym}
-use mathlib.Core.List.{[], _∷_}
-use Prim.Native.Nat.{ℕ, zero, suc, _+_, _-_, _<_, _≤_}
+use mathlib.Core.List.{List}
+use Prim.Native.Nat.{ℕ, zero, suc, _<_, _≤_}
 use mathlib.Core.Bool.{_&&_, not}
 use lib.Dec.{eqb, ltb, leb}
 use lib.ListN.{length, getD}
 use native.Mathlib.Omega.{arith}
 use borrow.Author.Tests.{ne-eqb, le-ltb, le-leb}
 use Rattle.model.specs.Boards.{Message, noMessage, isPending, isClaimed, isConsumed, isOpen}
-use Rattle.columns.specs.Columns.{Columns, statusOf, messageIn, messagesFrom}
-use Rattle.columns.proofs.ListFrom.{length-from, nth-from, left-from, none-from}
+use Rattle.columns.specs.Columns.{Columns, Lent, statusOf, messageIn, messagesFrom}
+use Rattle.columns.proofs.ListFrom.{length-from, nth-from}
 
 pub length-messages : (c : Columns) (i n : ℕ) → length (messagesFrom c i n) ≡ n
 length-messages c = length-from (messageIn c)
@@ -23,13 +23,15 @@ pub nth-channel : (c : Columns) (n k : ℕ) → k < n
 unfolding messageIn
 nth-channel c n k h = ap (λ (x : Message). x .sent .channel) (nth-message c n k h)
 
--- what is left of n messages from number i on
-pub left-step : (c : Columns) (i n : ℕ) → i < n
-    → messagesFrom c i (n - i) ≡ messageIn c i ∷ messagesFrom c (i + 1) (n - (i + 1))
-left-step c = left-from (messageIn c)
-
-pub left-none : (c : Columns) (i n : ℕ) → n ≤ i → messagesFrom c i (n - i) ≡ []
-left-none c = none-from (messageIn c)
+-- columns long enough for n messages are for fewer
+pub lent-less : {channels properties statuses : List ℕ} (k n : ℕ) → k ≤ n → Lent n channels properties statuses
+    → Lent k channels properties statuses
+lent-less k n h l = record {
+  few = omega arith;
+  channels-all = omega arith;
+  properties-all = omega arith;
+  statuses-all = omega arith;
+}
 
 -- the status that a byte stands for
 pub pending-is : (s : ℕ) → isPending (statusOf s) ≡ eqb s 0

@@ -1,19 +1,21 @@
--- Walks over what is left from i on: of a list of numbers, and of messages by columns.
-use mathlib.Core.Path.{_≡_, refl, sym}
+-- Walks over what is left from i on of a list of numbers, and the tests of a message by columns.
+use mathlib.Core.Path.{_≡_, refl, sym, _∙_}
 use mathlib.Core.Bool.{Bool, true, false, _&&_, _||_, not}
-use mathlib.Core.List.{List, [], _∷_}
-use Prim.Native.Nat.{ℕ, suc, _+_, _-_, _<_, _≤_}
+use mathlib.Core.List.{List, []}
+use Prim.Native.Nat.{ℕ, _+_, _-_, _<_, _≤_}
 use native.Mathlib.Numerals.{add-one}
 use lib.Dec.{eqb}
 use lib.ListN.{length, getD, drop, drop-of-length-le}
 use lib.Seq.{drop-cons}
 use borrow.Author.Tests.{eq-eqb, ne-eqb}
-use Rattle.model.specs.Basics.{pick, isIn}
+use Rattle.model.specs.Basics.{isIn, pick}
 use Rattle.model.specs.Tables.{Chord}
-use Rattle.model.specs.Boards.{Sent, Message, isClaimed}
+use Rattle.model.specs.Boards.{Sent, isClaimed}
 use Rattle.model.specs.Looks.{alike, fits, isFree, lowest, someClaimed}
 use Rattle.columns.specs.Columns.{Columns, messageIn, messagesFrom}
-use Rattle.columns.proofs.Messages.{left-step, pending-is, claimed-is}
+use Rattle.columns.specs.Firsts.{firstFrom, found, ofKind, suiting, eligible}
+use Rattle.columns.proofs.Firsts.{first-step, first-skip, first-lowest, first-found}
+use Rattle.columns.proofs.Messages.{pending-is, claimed-is}
 
 module _ (s : List ℕ) (i x : ℕ) (h : i < length s) where
   pub in-here : getD s i 0 ≡ x → isIn x (drop i s) ≡ true
@@ -30,11 +32,6 @@ pub alike-is : (c : Chord) (s x : Sent) → alike c s x ≡ (not (c .equal) || e
 unfolding alike
 alike-is c s x = refl
 
-low-cons : (f : ℕ → Message → Bool) (i : ℕ) (x : Message) (xs : List Message) (b : Bool) → f i x ≡ b
-    → lowest f i (x ∷ xs) ≡ pick b (suc i) (lowest f (suc i) xs)
-low-cons f i x xs true e = rw (e, lowest)
-low-cons f i x xs false e = rw (e, lowest)
-
 split : (a b d : Bool) → (a && (b && d)) ≡ ((a && b) && d)
 split true b d = refl
 split false b d = refl
@@ -47,40 +44,63 @@ pub and-true : (a : Bool) → (a && true) ≡ a
 and-true true = refl
 and-true false = refl
 
--- message i as a look tests it: it would fit, and it is of the status
-abbrev pub suiting : Columns → ℕ → ℕ → Bool → ℕ → ℕ → Bool
-suiting m i wanted equal property status =
-    (eqb (getD (m .channels) i 0) wanted && (not equal || eqb (getD (m .properties) i 0) property))
-    && eqb (getD (m .statuses) i 0) status
+module _ (channels properties statuses : List ℕ) (wanted status : ℕ) (equal : Bool) (property : ℕ)
+    (chosen : List ℕ) (k : ℕ) where
+  eligible-is : (t u : Bool) → suiting channels properties statuses wanted status equal property k ≡ t
+      → isIn k chosen ≡ u → eligible channels properties statuses wanted status equal property chosen k ≡ (t && not u)
+  unfolding eligible
+  eligible-is t u e f = rw (e, f)
 
-module _ (m : Columns) (i n : ℕ) (h : i < n) (wanted : ℕ) (c : Chord) (s : Sent) (equal : Bool) (property : ℕ)
+  -- the first is message k, or one of those after it
+  pub eligible-step : (n : ℕ) → k < n → (t u : Bool)
+      → suiting channels properties statuses wanted status equal property k ≡ t → isIn k chosen ≡ u →
+      let q = eligible channels properties statuses wanted status equal property chosen in
+      firstFrom q k (n - k) ≡ pick (t && not u) (k + 1) (firstFrom q (k + 1) (n - (k + 1)))
+  eligible-step n h t u e f = first-step _ k n h ∙ rw (eligible-is t u e f)
+
+  -- of another channel or status it is not eligible
+  other-kind : ofKind channels statuses wanted status k ≡ false
+      → eligible channels properties statuses wanted status equal property chosen k ≡ false
+  unfolding ofKind eligible
+  other-kind e =
+      go (eqb (getD channels k 0) wanted) (not equal || eqb (getD properties k 0) property)
+      (eqb (getD statuses k 0) status) (not (isIn k chosen)) e
+    where
+      go : (a b d f : Bool) → (a && d) ≡ false → (((a && b) && d) && f) ≡ false
+      go false b d f e = refl
+      go true false d f e = refl
+      go true true d f e = rw e
+
+-- messages of other channels or statuses are passed over
+pub kind-skip : (channels properties statuses : List ℕ) (wanted status : ℕ) (equal : Bool) (property : ℕ)
+    (chosen : List ℕ) (i j n : ℕ) → i ≤ j → j ≤ n
+    → firstFrom (ofKind channels statuses wanted status) i (j - i) ≡ 0 →
+    let q = eligible channels properties statuses wanted status equal property chosen in
+    firstFrom q i (n - i) ≡ firstFrom q j (n - j)
+kind-skip channels properties statuses wanted status equal property chosen =
+    first-skip _ (ofKind channels statuses wanted status)
+    (other-kind channels properties statuses wanted status equal property chosen)
+
+module _ (m : Columns) (n wanted : ℕ) (c : Chord) (s : Sent) (equal : Bool) (property : ℕ)
     (e : c .equal ≡ equal) (p : s .property ≡ property) where
-  free-is : (chosen : List ℕ) (t u : Bool) → suiting m i wanted equal property 0 ≡ t → isIn i chosen ≡ u
-      → isFree c wanted s chosen i (messageIn m i) ≡ (t && not u)
-  unfolding messageIn
-  free-is chosen t u f g = rw (alike-is, e, p, g, pending-is (getD (m .statuses) i 0), split, f)
+  free-is : (chosen : List ℕ) (k : ℕ) → isFree c wanted s chosen k (messageIn m k)
+      ≡ eligible (m .channels) (m .properties) (m .statuses) wanted 0 equal property chosen k
+  unfolding messageIn eligible
+  free-is chosen k = rw (alike-is, e, p, pending-is (getD (m .statuses) k 0), split)
 
-  -- the lowest is message i, or one of those after it
-  pub lowest-step : (chosen : List ℕ) (t u : Bool) → suiting m i wanted equal property 0 ≡ t → isIn i chosen ≡ u
-      → lowest (isFree c wanted s chosen) i (messagesFrom m i (n - i))
-      ≡ pick (t && not u) (i + 1) (lowest (isFree c wanted s chosen) (i + 1) (messagesFrom m (i + 1) (n - (i + 1))))
-  lowest-step chosen t u f g =
-      rw (left-step m i n h, add-one i)
-      (low-cons (isFree c wanted s chosen) i (messageIn m i) (messagesFrom m (suc i) (n - suc i)) (t && not u)
-      (free-is chosen t u f g))
+  pub lowest-is : (chosen : List ℕ)
+      → firstFrom (eligible (m .channels) (m .properties) (m .statuses) wanted 0 equal property chosen) 0 n
+      ≡ lowest (isFree c wanted s chosen) 0 (messagesFrom m 0 n)
+  lowest-is chosen = first-lowest _ (messageIn m) (isFree c wanted s chosen) (free-is chosen) 0 n
 
-  claiming : (t : Bool) → suiting m i wanted equal property 1 ≡ t
-      → (fits c wanted s (messageIn m i) && isClaimed (messageIn m i .status)) ≡ t
-  unfolding messageIn
-  claiming t f = rw (alike-is, e, p, claimed-is (getD (m .statuses) i 0)) f
+  claiming : (k : ℕ) → (fits c wanted s (messageIn m k) && isClaimed (messageIn m k .status))
+      ≡ eligible (m .channels) (m .properties) (m .statuses) wanted 1 equal property [] k
+  unfolding messageIn eligible
+  claiming k = rw (alike-is, e, p, claimed-is (getD (m .statuses) k 0), and-true)
 
-  -- message i would fit and is claimed, or one of those after it
-  pub claimed-step : (t : Bool) → suiting m i wanted equal property 1 ≡ t
-      → someClaimed c wanted s (messagesFrom m i (n - i))
-      ≡ (t || someClaimed c wanted s (messagesFrom m (i + 1) (n - (i + 1))))
+  pub some-claimed-is :
+      found (firstFrom (eligible (m .channels) (m .properties) (m .statuses) wanted 1 equal property []) 0 n)
+      ≡ someClaimed c wanted s (messagesFrom m 0 n)
   unfolding someClaimed
-  claimed-step t f = rw (left-step m i n h, claiming t f)
-
-pub claimed-none : (c : Chord) (wanted : ℕ) (s : Sent) (is : List Message) → is ≡ [] → someClaimed c wanted s is ≡ false
-unfolding someClaimed
-claimed-none c wanted s is e = rw e
+  some-claimed-is =
+      first-found _ (messageIn m) (λ x. fits c wanted s x && isClaimed (x .status)) claiming 0 n

@@ -1,3 +1,4 @@
--- The lent columns as the model's messages.
+-- The lent columns as the model's messages, and what a look tests of them.
 pub mod Columns
+pub mod Firsts
 pub mod MatchColumns

@@ -1,6 +1,7 @@
 // What a look reads of the lent messages: a column for each field, the first n messages of them.
 ghost use mathlib.Core.Path.{_≡_};
-ghost use Prim.Native.Nat.{_<_, _≤_};
+ghost use mathlib.Core.Logic.{_⊎_};
+ghost use Prim.Native.Nat.{_-_, _<_, _≤_};
 ghost use mathlib.Core.Bool.{_&&_, _||_, not};
 ghost use lib.Dec.{eqb};
 ghost use lib.ListN.{length, getD};
@@ -9,6 +10,7 @@ ghost use Rattle.model.specs.Tables.{Chord};
 ghost use Rattle.model.specs.Boards.{Sent};
 ghost use Rattle.model.specs.Looks.{isFree, lowest, someClaimed};
 ghost use Rattle.columns.specs.Columns.{Lent, Unread, columnsBy, messagesFrom};
+ghost use Rattle.columns.specs.Firsts.{firstFrom, found, ofKind, eligible};
 
 // The numbers hold x.
 pub fn is_in(x: u16, s: &[u16]) -> bool
@@ -49,6 +51,129 @@ fn suits(
     !equal | (properties[k] == property)
 }
 
+// One of the messages of the numbers `from` up to `to` is of the channel and of the status.
+fn any_in(channels: &[u8], statuses: &[u8], from: usize, to: usize, wanted: u8, status: u8) -> bool
+    requires { ⌜ (from ≤ to) × (to ≤ length (now channels)) × (to ≤ length (now statuses)) ⌝ }
+    ensures { λ r. ⌜ r ≡ found (firstFrom (ofKind (now (channels .entry)) (now (statuses .entry)) wanted status) from
+        (to - from)) ⌝ }
+{
+    let mut any = false;
+    let mut i = from;
+    while i < to {
+        any = any | ((channels[i] == wanted) & (statuses[i] == status));
+        i += 1;
+    }
+    any
+}
+
+// The next block of 32 of the n messages, from number `from` on, that has one of the channel and of the status; where
+// none has, those left over.
+fn next_block(channels: &[u8], statuses: &[u8], from: u16, n: u16, wanted: u8, status: u8) -> u16
+    requires { ⌜ (from ≤ n) × (n ≤ 1024) × (n ≤ length (now channels)) × (n ≤ length (now statuses)) ⌝ }
+    ensures { λ r. ⌜ (from ≤ r) × (r ≤ n) × (firstFrom
+        (ofKind (now (channels .entry)) (now (statuses .entry)) wanted status) from (r - from) ≡ 0) ⌝ }
+{
+    let mut at = from;
+    while n - at >= 32 {
+        let k = at as usize;
+        if any_in(channels, statuses, k, k + 32, wanted, status) {
+            return at;
+        }
+        at += 32;
+    }
+    at
+}
+
+// Where the block at number `at` ends.
+fn block_end(at: u16, n: u16) -> u16
+    requires { ⌜ (at ≤ n) × (n ≤ 1024) ⌝ }
+    ensures { λ r. ⌜ (at ≤ r) × (r ≤ n) × ((r ≡ n) ⊎ (at < r)) ⌝ }
+{
+    if n - at < 32 {
+        return n;
+    }
+    at + 32
+}
+
+// The first message of the numbers `from` up to `to` that is eligible: its number plus 1, 0 for none.
+fn first_in(
+    channels: &[u8],
+    properties: &[u32],
+    statuses: &[u8],
+    from: u16,
+    to: u16,
+    wanted: u8,
+    status: u8,
+    equal: bool,
+    property: u32,
+    chosen: &[u16],
+) -> u16
+    requires { ⌜ (from ≤ to) × Lent to (now channels) (now properties) (now statuses) ⌝ }
+    ensures { λ r. ⌜ r ≡ firstFrom (eligible (now (channels .entry)) (now (properties .entry)) (now (statuses .entry))
+        wanted status equal property (now (chosen .entry))) from (to - from) ⌝ }
+{
+    let mut i = from;
+    while i < to {
+        let k = i as usize;
+        if suits(
+            channels,
+            properties,
+            statuses,
+            k,
+            wanted,
+            status,
+            equal,
+            property,
+        ) {
+            if !is_in(i, chosen) {
+                return i + 1;
+            }
+        }
+        i += 1;
+    }
+    0
+}
+
+// The same of the first n messages, block by block.
+fn first(
+    channels: &[u8],
+    properties: &[u32],
+    statuses: &[u8],
+    n: u16,
+    wanted: u8,
+    status: u8,
+    equal: bool,
+    property: u32,
+    chosen: &[u16],
+) -> u16
+    requires { ⌜ Lent n (now channels) (now properties) (now statuses) ⌝ }
+    ensures { λ r. ⌜ r ≡ firstFrom (eligible (now (channels .entry)) (now (properties .entry)) (now (statuses .entry))
+        wanted status equal property (now (chosen .entry))) 0 n ⌝ }
+{
+    let mut at: u16 = 0;
+    while at < n {
+        let from = next_block(channels, statuses, at, n, wanted, status);
+        let to = block_end(from, n);
+        let r = first_in(
+            channels,
+            properties,
+            statuses,
+            from,
+            to,
+            wanted,
+            status,
+            equal,
+            property,
+            chosen,
+        );
+        if r != 0 {
+            return r;
+        }
+        at = to;
+    }
+    0
+}
+
 // The lowest of the first n messages that a look takes for a member, pending and not chosen yet: its number plus 1, 0
 // for none.
 pub fn lowest(
@@ -66,29 +191,20 @@ pub fn lowest(
         → r ≡ lowest (isFree c wanted s (now (chosen .entry))) 0
         (messagesFrom (columnsBy (now (channels .entry)) (now (properties .entry)) (now (statuses .entry)) o) 0 n)) ⌝ }
 {
-    let mut i: u16 = 0;
-    while i < n {
-        let k = i as usize;
-        if suits(
-            channels,
-            properties,
-            statuses,
-            k,
-            wanted,
-            0,
-            equal,
-            property,
-        ) {
-            if !is_in(i, chosen) {
-                return i + 1;
-            }
-        }
-        i += 1;
-    }
-    0
+    first(
+        channels,
+        properties,
+        statuses,
+        n,
+        wanted,
+        0,
+        equal,
+        property,
+        chosen,
+    )
 }
 
-// One of the first n messages would fit a member and is claimed.
+// One of the first n messages would fit a member and is claimed, chosen or not.
 pub fn some_claimed(
     channels: &[u8],
     properties: &[u32],
@@ -103,21 +219,17 @@ pub fn some_claimed(
         → r ≡ someClaimed c wanted s
         (messagesFrom (columnsBy (now (channels .entry)) (now (properties .entry)) (now (statuses .entry)) o) 0 n)) ⌝ }
 {
-    let mut i: u16 = 0;
-    while i < n {
-        if suits(
-            channels,
-            properties,
-            statuses,
-            i as usize,
-            wanted,
-            1,
-            equal,
-            property,
-        ) {
-            return true;
-        }
-        i += 1;
-    }
-    false
+    let chosen = [0u16; 1];
+    let r = first(
+        channels,
+        properties,
+        statuses,
+        n,
+        wanted,
+        1,
+        equal,
+        property,
+        &chosen[..0],
+    );
+    r != 0
 }

@@ -13,18 +13,18 @@ use lib.Seq.{drop-cons, drop-drop, take-all}
 use Rattle.model.specs.Basics.{firstBy}
 use Rattle.model.specs.Lines.{cutAt, fieldsOf, addBy, stepBy}
 use Rattle.model.specs.Lines.Line.{unreadable}
-use Rattle.lines.specs.Views.{spaceAt}
+use Rattle.lines.specs.Views.{byteAt, spaceAt}
 
--- the walk to the first space
-module _ (s : List ℕ) (i : ℕ) where
-  pub space-here : i < length s → getD s i 0 ≡ 32 → spaceAt (drop i s) ≡ 0
-  space-here h e = rw (drop-cons s i 0 h, eq-eqb (getD s i 0) 32 e, firstBy)
+-- the walk to the first such byte
+module _ (s : List ℕ) (i b : ℕ) where
+  pub byte-here : i < length s → getD s i 0 ≡ b → byteAt b (drop i s) ≡ 0
+  byte-here h e = rw (drop-cons s i 0 h, eq-eqb (getD s i 0) b e, firstBy)
 
-  pub space-next : i < length s → (getD s i 0 ≡ 32 → ⊥) → spaceAt (drop i s) ≡ suc (spaceAt (drop (i + 1) s))
-  space-next h e = rw (drop-cons s i 0 h, add-one i, ne-eqb (getD s i 0) 32 e, firstBy)
+  pub byte-next : i < length s → (getD s i 0 ≡ b → ⊥) → byteAt b (drop i s) ≡ suc (byteAt b (drop (i + 1) s))
+  byte-next h e = rw (drop-cons s i 0 h, add-one i, ne-eqb (getD s i 0) b e, firstBy)
 
-  pub space-none : length s ≤ i → spaceAt (drop i s) ≡ 0
-  space-none h = rw (drop-of-length-le s h)
+  pub byte-none : length s ≤ i → byteAt b (drop i s) ≡ 0
+  byte-none h = rw (drop-of-length-le s h)
 
 -- bytes cut at their first space, or left whole
 cut-more : (xs : List ℕ) → spaceAt xs < length xs

@@ -17,6 +17,10 @@ lineIn L.Unreadable = ML.unreadable
 unfoldable pub plusOne : Bool → ℕ → ℕ
 plusOne c n = pick c (suc n) 0
 
+-- the place of the first such byte; the length for none
+abbrev pub byteAt : ℕ → List ℕ → ℕ
+byteAt b s = firstBy (λ x. eqb x b) s
+
 -- where the first field ends
 abbrev pub spaceAt : List ℕ → ℕ
-spaceAt s = firstBy (λ x. eqb x 32) s
+spaceAt s = byteAt 32 s

@@ -7,22 +7,22 @@ ghost use lib.ListN.{length, drop};
 ghost use Rattle.model.specs.Basics.{pick};
 ghost use Rattle.model.specs.Lines.{fieldsOf, isDigit, valueOf, isNumber, isMagnitude, isMinus, digitsOf, isCents};
 ghost use Rattle.model.specs.Lines.{addOf, addBy, stepBy, lineOf};
-ghost use Rattle.lines.specs.Views.{lineIn, plusOne, spaceAt};
+ghost use Rattle.lines.specs.Views.{lineIn, plusOne, byteAt};
 
 pub enum Line {
     Reads(Call),
     Unreadable,
 }
 
-// The place of the first space from a place on; the length for none.
-fn space_from(s: &[u8], at: usize) -> usize
+// The place of the first such byte from a place on; the length for none.
+pub fn byte_from(s: &[u8], at: usize, byte: u8) -> usize
     requires { ⌜ at ≤ length (now s) ⌝ }
-    ensures { λ r. ⌜ r ≡ at + spaceAt (drop at (now (s .entry))) ⌝ }
+    ensures { λ r. ⌜ r ≡ at + byteAt byte (drop at (now (s .entry))) ⌝ }
     ensures { λ r. ⌜ (at ≤ r) × (r ≤ length (now (s .entry))) ⌝ }
 {
     let mut i = at;
     while i < s.len() {
-        if s[i] == 32 {
+        if s[i] == byte {
             return i;
         }
         i += 1;
@@ -143,22 +143,22 @@ fn read_add(s: &[u8], at: usize) -> Line
     requires { ⌜ at ≤ length (now s) ⌝ }
     ensures { λ r. ⌜ lineIn r ≡ addBy (fieldsOf (drop at (now (s .entry)))) ⌝ }
 {
-    let i = space_from(s, at);
+    let i = byte_from(s, at, b' ');
     if i == s.len() {
         return Line::Unreadable;
     }
     let channel = i + 1;
-    let j = space_from(s, channel);
+    let j = byte_from(s, channel, b' ');
     if j == s.len() {
         return Line::Unreadable;
     }
     let property = j + 1;
-    let k = space_from(s, property);
+    let k = byte_from(s, property, b' ');
     if k == s.len() {
         return Line::Unreadable;
     }
     let cents = k + 1;
-    if space_from(s, cents) < s.len() {
+    if byte_from(s, cents, b' ') < s.len() {
         return Line::Unreadable;
     }
     add_of(&s[at..i], &s[channel..j], &s[property..k], &s[cents..])
@@ -169,7 +169,7 @@ fn read_step(s: &[u8], at: usize) -> Line
     requires { ⌜ at ≤ length (now s) ⌝ }
     ensures { λ r. ⌜ lineIn r ≡ stepBy (fieldsOf (drop at (now (s .entry)))) ⌝ }
 {
-    if space_from(s, at) < s.len() {
+    if byte_from(s, at, b' ') < s.len() {
         return Line::Unreadable;
     }
     let d = number(&s[at..], 65535);

@@ -1,5 +1,5 @@
 -- The model refuses a call by 8 to 13 and nothing else.
-use mathlib.Core.Path.{_≡_, refl, ap, _∙_}
+use mathlib.Core.Path.{_≡_, refl}
 use mathlib.Core.Bool.{Bool, true, false}
 use Prim.Native.Nat.{ℕ, zero, suc, _≤_}
 use native.Mathlib.Omega.{arith}
@@ -7,7 +7,7 @@ use lib.Dec.{eqb, leb, ltb}
 use lib.ListN.{length}
 use Rattle.model.specs.Basics.{unless}
 use Rattle.model.specs.Tables.{Table}
-use Rattle.model.specs.Boards.{Board, Sent, Sender, State, idle, working, blocked, senderAt, isIdle}
+use Rattle.model.specs.Boards.{Board, Sent, State, idle, working, blocked, senderAt, isIdle}
 use Rattle.model.specs.Effects.{Said, Outcome, refused, does, numberOf, wordOf}
 use Rattle.model.specs.Effects.{Item, Looked, Claimed, Lost, Reverted, Matched, Consumed, Told, Woke, Freed}
 use Rattle.model.specs.Effects.{Signalled, Answered, Refused, Missed, Again, Ended, Rested, Resumed}

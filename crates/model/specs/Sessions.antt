@@ -1,5 +1,4 @@
 -- The program: what it prints for the bytes of `rules.bin` and of standard input (01, "The program's printout").
-use mathlib.Core.Bool.{Bool, true, false}
 use mathlib.Core.List.{List, [], _∷_, _++_}
 use Prim.Native.Nat.{ℕ, zero, suc}
 use lib.Dec.{eqb}
@@ -10,7 +9,7 @@ use Rattle.model.specs.Layout.{tableOf, tableRefusal}
 use Rattle.model.specs.Boards.{Board, Message, emptyBoard, builtinBackoffs, isConsumed}
 use Rattle.model.specs.Effects.{Refused}
 use Rattle.model.specs.Pools.{Answer, answerTo, MatchRead, matchReads, quiet}
-use Rattle.model.specs.Lines.{Line, reads, unreadable, lineOf, linesOf}
+use Rattle.model.specs.Lines.{Line, reads, unreadable, lineOf}
 use Rattle.model.specs.Printing.{answerLine, matchLine, openLine, quietLine}
 
 -- "A line that does not read as one of these [..] prints `refused 16`"

@@ -1,20 +1,18 @@
 -- What an accepted board gives to a step of its sender, and what the model answers to each way out of a step.
 use mathlib.Core.Path.{_≡_, refl, sym, subst, ap, _∙_}
-use mathlib.Core.Logic.{_≢_}
 use mathlib.Core.Bool.{Bool, true, false}
 use mathlib.Core.List.{List, [], _∷_, map}
 use Prim.Native.Nat.{ℕ, zero, suc, _<_, _≤_}
 use borrow.Author.Tests.{le-leb, lt-leb}
-use lib.Dec.{eqb, leb}
+use lib.Dec.{leb}
 use lib.ListN.{length, getD}
 use native.Mathlib.Omega.{arith}
 use Rattle.model.specs.Tables.{Table, Chord, size, noChord}
 use Rattle.model.specs.Boards.{Board, Sender, senderAt, builtinBackoffs}
-use Rattle.model.specs.Effects.{Effect, does, refused, apply, numberOf, wordOf}
-use Rattle.model.specs.Effects.{Said, Item, Looked, Claimed, Lost, Reverted, Matched, Consumed, Told, Woke, Freed}
-use Rattle.model.specs.Effects.{Signalled, Answered, Refused, Missed, Again, Ended, Rested, Resumed}
+use Rattle.model.specs.Effects.{Effect, does, refused, apply, numberOf}
+use Rattle.model.specs.Effects.{Refused}
 use Rattle.model.specs.Layout.{tableRefusal, tableOf}
-use Rattle.model.specs.Pools.{Call, answerTo, steps}
+use Rattle.model.specs.Pools.{answerTo, steps}
 use Rattle.model.specs.Steps.{stepBy, stateStep}
 use Rattle.model.proofs.Tests.{tests}
 use Rattle.model.proofs.SoundFacts.{SenderFacts}

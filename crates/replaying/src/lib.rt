@@ -5,7 +5,7 @@ ghost use lib.ListN.{length};
 ghost use Rattle.model.specs.Effects.{wordOf, valueOf, numberOf};
 ghost use Rattle.state.specs.Views.{saidIn};
 ghost use Rattle.boards.specs.Calls.{heldBy, callIn};
-ghost use Rattle.judges.specs.Calls.{refusalOf, Plays};
+ghost use Rattle.judges.specs.Calls.{refusalOf};
 ghost use Rattle.replaying.specs.Replays.{callColumns, callAt, columnsFit, answerNumber};
 ghost use Rattle.replaying.specs.Replays.{replayNumber, Fit, Plays-all, Replays};
 use boards::Board;

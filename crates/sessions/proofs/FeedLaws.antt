@@ -4,28 +4,16 @@ use mathlib.Core.Bool.{Bool, true, false}
 use mathlib.Core.List.{List, [], _∷_, _++_, append-nil}
 use Prim.Native.Nat.{ℕ, zero, suc, _+_, _<_, _≤_}
 use native.Mathlib.Nat.{not-suc-le-zero, le-of-suc-le-suc}
-use native.Mathlib.Numerals.{add-one}
 use native.Mathlib.Omega.{arith}
-use borrow.Author.Tests.{eq-eqb, ne-eqb, leb-true, leb-false}
+use borrow.Author.Tests.{leb-true, leb-false}
 use lib.Dec.{eqb, leb}
-use lib.ListN.{length, getD, take, drop, drop-of-length-le}
-use lib.Seq.{drop-cons, take-all, length-take-le, append-snoc}
+use lib.ListN.{length, take, drop}
+use lib.Seq.{take-all, length-take-le, append-snoc}
 use Rattle.model.specs.Basics.{firstBy}
 use Rattle.model.specs.Tables.{Table}
 use Rattle.model.specs.Lines.{lineOf}
 use Rattle.model.specs.Sessions.{Session, lineEnds, fed}
 use Rattle.sessions.specs.Serves.{feedAt}
-
--- the walk to the first line feed
-module _ (s : List ℕ) (i : ℕ) where
-  pub feed-here : i < length s → getD s i 0 ≡ 10 → feedAt (drop i s) ≡ 0
-  feed-here h e = rw (drop-cons s i 0 h, eq-eqb (getD s i 0) 10 e, firstBy)
-
-  pub feed-next : i < length s → (getD s i 0 ≡ 10 → ⊥) → feedAt (drop i s) ≡ suc (feedAt (drop (i + 1) s))
-  feed-next h e = rw (drop-cons s i 0 h, add-one i, ne-eqb (getD s i 0) 10 e, firstBy)
-
-  pub feed-none : length s ≤ i → feedAt (drop i s) ≡ 0
-  feed-none h = rw (drop-of-length-le s h)
 
 -- bytes after those since the last line feed
 abbrev pub grown : Session → List ℕ → Session

@@ -2,15 +2,14 @@
 use mathlib.Core.Path.{_≡_}
 use mathlib.Core.List.{List, []}
 use Prim.Native.Nat.{ℕ, _+_, _≤_}
-use lib.Dec.{eqb}
 use lib.ListN.{length, take}
-use Rattle.model.specs.Basics.{firstBy}
 use Rattle.model.specs.Layout.{tableOf}
 use Rattle.model.specs.Boards.{Board}
 use Rattle.model.specs.Lines.{lineOf}
 use Rattle.model.specs.Pools.{Answer}
 use Rattle.model.specs.Printing.{answerLine}
 use Rattle.model.specs.Sessions.{Session, lineAnswer, fed, inputEnds}
+use Rattle.lines.specs.Views.{byteAt}
 use Rattle.boards.specs.Calls.{Held}
 use Rattle.judges.specs.Calls.{boardOf, refusalOf}
 use Rattle.prints.specs.Printed.{Printed}
@@ -37,7 +36,7 @@ Keeps p c = take 81 p ≡ carryOf c
 
 -- the place of the first line feed; the length for none
 abbrev pub feedAt : List ℕ → ℕ
-feedAt s = firstBy (λ x. eqb x 10) s
+feedAt s = byteAt 10 s
 
 abbrev pub session : List ℕ → Board → List ℕ → Session
 session text board partial = record { text = text; board = board; partial = partial }

@@ -2,10 +2,10 @@
 ghost use mathlib.Core.Path.{_≡_};
 ghost use mathlib.Core.List.{_++_};
 ghost use Prim.Native.Nat.{_+_, _*_, _≤_};
-ghost use lib.ListN.{length, take, drop};
+ghost use lib.ListN.{length, take};
 ghost use Rattle.boards.specs.Calls.{heldBy};
 ghost use Rattle.judges.specs.Calls.{refusalOf};
-ghost use Rattle.sessions.specs.Serves.{Serves, Serves-chunk, Serves-end, carryOf, feedAt};
+ghost use Rattle.sessions.specs.Serves.{Serves, Serves-chunk, Serves-end, carryOf};
 use boards::Board;
 use lines::Line;
 use state::Said;
@@ -116,22 +116,6 @@ pub fn with_bytes(c: Carry, s: &[u8]) -> Carry
     }
 }
 
-// The place of the first line feed from a place on; the length for none.
-fn feed_from(s: &[u8], at: usize) -> usize
-    requires { ⌜ at ≤ length (now s) ⌝ }
-    ensures { λ r. ⌜ r ≡ at + feedAt (drop at (now (s .entry))) ⌝ }
-    ensures { λ r. ⌜ (at ≤ r) × (r ≤ length (now (s .entry))) ⌝ }
-{
-    let mut i = at;
-    while i < s.len() {
-        if s[i] == b'\n' {
-            return i;
-        }
-        i += 1;
-    }
-    i
-}
-
 // A line whose bytes were kept.
 fn serve_kept(
     table: &[u8],
@@ -209,7 +193,7 @@ pub fn serve_chunk(
     let mut kept = carry;
     let mut at: usize = 0;
     let mut from: usize = 0;
-    let mut end = feed_from(input, 0);
+    let mut end = lines::byte_from(input, 0, b'\n');
     while end < input.len() {
         let line = with_bytes(kept, &input[from..end]);
         let served = serve_kept(
@@ -231,7 +215,7 @@ pub fn serve_chunk(
         at = served.at;
         kept = no_bytes();
         from = end + 1;
-        end = feed_from(input, from);
+        end = lines::byte_from(input, from, b'\n');
     }
     let rest = with_bytes(kept, &input[from..]);
     Chunk {

@@ -80,7 +80,6 @@ pub fn job_step(
     let at = j.subject as usize;
     let channel = channels[at];
     let opened = statuses[at] < 2;
-    let v = sees(table, d, n, channels, statuses);
     let phase = j.phase;
     match phase {
         Phase::Look(k) => looks::look_step(table, d, k, n, channels, properties, statuses),
@@ -89,15 +88,21 @@ pub fn job_step(
         }
         Phase::Revert(k, m) => ends::revert_step(table, d, k, m, channel),
         Phase::Consume(k, m) => {
+            let v = sees(table, d, n, channels, statuses);
             consumes::consume_step(table, d, k, m, n, channels, v.sync, v.channel, v.consumed)
         }
         Phase::Tell(k) => {
+            let v = sees(table, d, n, channels, statuses);
             consumes::tell_step(table, d, k, n, channels, v.sync, v.channel, v.consumed)
         }
         Phase::Wake => wakes::wake_step(table, d),
         Phase::Free(k) => wakes::free_step(table, d, k),
-        Phase::Signal => wakes::signal_step(table, d, v.sync, v.channel, v.consumed),
+        Phase::Signal => {
+            let v = sees(table, d, n, channels, statuses);
+            wakes::signal_step(table, d, v.sync, v.channel, v.consumed)
+        }
         Phase::PassEnd => {
+            let v = sees(table, d, n, channels, statuses);
             ends::pass_end_step(table, d, channel, opened, v.sync, v.channel, v.consumed)
         }
         Phase::Backoff(rests) => ends::backoff_step(table, d, rests, channel),

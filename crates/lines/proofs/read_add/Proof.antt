@@ -17,71 +17,71 @@ abbrev bytes : tie.Else1 → List ℕ
 bytes c = start c .args .s .now
 
 abbrev place : tie.Else1 → ℕ
-place c = c .before .space-from .result
+place c = c .before .byte-from .result
 
 abbrev place2 : tie.Else2 → ℕ
-place2 c = c .before .space-from2 .result
+place2 c = c .before .byte-from2 .result
 
 abbrev place3 : tie.Else3 → ℕ
-place3 c = c .before .space-from3 .result
+place3 c = c .before .byte-from3 .result
 
 within : (c : tie.Else1) → place c + 1 ≤ length (bytes c)
-within c = omega (arith, c .before .space-from .ensures .1, c .if1 .left)
+within c = omega (arith, c .before .byte-from .ensures .1, c .if1 .left)
 
 within2 : (c : tie.Else2) → place2 c + 1 ≤ length (bytes (c .before .before))
-within2 c = omega (arith, c .before .space-from2 .ensures .1, c .if2 .left)
+within2 c = omega (arith, c .before .byte-from2 .ensures .1, c .if2 .left)
 
 within3 : (c : tie.Else3) → place3 c + 1 ≤ length (bytes (c .before .before .before .before))
-within3 c = omega (arith, c .before .space-from3 .ensures .1, c .if3 .left)
+within3 c = omega (arith, c .before .byte-from3 .ensures .1, c .if3 .left)
 
 first : (c : tie.Else1) → Cut (bytes c) (start c .args .at) (place c)
 first c =
-    let e = c .before .space-from .ensures .0 in
+    let e = c .before .byte-from .ensures .0 in
     field-more (bytes c) (start c .args .at) _ (start c .pre) e (omega (arith, within c))
 
 second : (c : tie.Else2) → Cut (bytes (c .before .before)) (place (c .before .before) + 1) (place2 c)
 second c =
     let p = c .before .before in
-    field-more (bytes p) (place p + 1) _ (within p) (c .before .space-from2 .ensures .0) (omega (arith, within2 c))
+    field-more (bytes p) (place p + 1) _ (within p) (c .before .byte-from2 .ensures .0) (omega (arith, within2 c))
 
 third : (c : tie.Else3) → Cut (bytes (c .before .before .before .before)) (place2 (c .before .before) + 1) (place3 c)
 third c =
     let p = c .before .before in
-    let e = c .before .space-from3 .ensures .0 in
+    let e = c .before .byte-from3 .ensures .0 in
     field-more (bytes (p .before .before)) (place2 p + 1) _ (within2 p) e (omega (arith, within3 c))
 
-space-from-requires : tie.Need-space-from-requires
-space-from-requires c κs = search needs
+byte-from-requires : tie.Need-byte-from-requires
+byte-from-requires c κs = search needs
 
 returns : tie.Need-returns
 returns c =
     let s = c .before .before .before in
     let a = s .args in
-    rw (field-last (a .s .now) (a .at) _ (s .pre) (c .before .space-from .ensures .0) (omega (arith, c .if1 .taken)))
+    rw (field-last (a .s .now) (a .at) _ (s .pre) (c .before .byte-from .ensures .0) (omega (arith, c .if1 .taken)))
 
 add-channel : tie.Need-add-channel
 add-channel c = search needs
 
-space-from-requires-2 : tie.Need-space-from-requires-2
-space-from-requires-2 c κs = search needs
+byte-from-requires-2 : tie.Need-byte-from-requires-2
+byte-from-requires-2 c κs = search needs
 
 returns-2 : tie.Need-returns-2
 returns-2 c =
     let c1 = c .before .before in
-    let q = c .before .space-from2 in
+    let q = c .before .byte-from2 in
     rw (first c1, field-last (bytes c1) (place c1 + 1) _ (within c1) (q .ensures .0) (omega (arith, c .if2 .taken)))
 
 add-property : tie.Need-add-property
 add-property c = search needs
 
-space-from-requires-3 : tie.Need-space-from-requires-3
-space-from-requires-3 c κs = search needs
+byte-from-requires-3 : tie.Need-byte-from-requires-3
+byte-from-requires-3 c κs = search needs
 
 returns-3 : tie.Need-returns-3
 returns-3 c =
     let c2 = c .before .before in
     let c1 = c2 .before .before in
-    let q = c .before .space-from3 in
+    let q = c .before .byte-from3 in
     rw (
       first c1,
       second c2,
@@ -91,15 +91,15 @@ returns-3 c =
 add-cents : tie.Need-add-cents
 add-cents c = search needs
 
-space-from-requires-4 : tie.Need-space-from-requires-4
-space-from-requires-4 c κs = search needs
+byte-from-requires-4 : tie.Need-byte-from-requires-4
+byte-from-requires-4 c κs = search needs
 
 returns-4 : tie.Need-returns-4
 returns-4 c =
     let c3 = c .before .before in
     let c2 = c3 .before .before in
     let c1 = c2 .before .before in
-    let q = c .before .space-from4 in
+    let q = c .before .byte-from4 in
     rw (
       first c1,
       second c2,
@@ -153,7 +153,7 @@ returns-5 c =
     let c3 = c4 .before .before in
     let c2 = c3 .before .before in
     let c1 = c2 .before .before in
-    let q = c4 .before .space-from4 in
+    let q = c4 .before .byte-from4 in
     rw (
       first c1,
       second c2,
@@ -166,16 +166,16 @@ pub read-add-spec : {M : Type 1} → statement M
 read-add-spec =
     tie.close
     (tie.spec
-    space-from-requires
+    byte-from-requires
     returns
     add-channel
-    space-from-requires-2
+    byte-from-requires-2
     returns-2
     add-property
-    space-from-requires-3
+    byte-from-requires-3
     returns-3
     add-cents
-    space-from-requires-4
+    byte-from-requires-4
     returns-4
     sub-add-of
     part-add-of-start

@@ -17,16 +17,16 @@ whole : (c : tie.Else1) → fieldsOf (drop (start c .args .at) (start c .args .s
     ≡ drop (start c .args .at) (start c .args .s .now) ∷ []
 whole c =
     let a = start c .args in
-    field-last (a .s .now) (a .at) _ (start c .pre) (c .before .space-from .ensures .0) (c .if1 .left)
+    field-last (a .s .now) (a .at) _ (start c .pre) (c .before .byte-from .ensures .0) (c .if1 .left)
 
-space-from-requires : tie.Need-space-from-requires
-space-from-requires c κs = search needs
+byte-from-requires : tie.Need-byte-from-requires
+byte-from-requires c κs = search needs
 
 returns : tie.Need-returns
 returns c =
     let s = c .before .before .before in
     let a = s .args in
-    let e = c .before .space-from .ensures in
+    let e = c .before .byte-from .ensures in
     rw (field-more (a .s .now) (a .at) _ (s .pre) (e .0) (c .if1 .taken)) (sym (step-more _ _))
 
 sub-number : tie.Need-sub-number
@@ -65,7 +65,7 @@ pub read-step-spec : {M : Type 1} → statement M
 read-step-spec =
     tie.close
     (tie.spec
-    space-from-requires
+    byte-from-requires
     returns
     sub-number
     part-number-start

@@ -24,7 +24,7 @@ abbrev μ-loop : tie.MeasureT-loop
     length input - from
 
 -- where the function starts, and where a turn does
-abbrev start : tie.After-feed-from Inv-loop μ-loop → tie.Start Inv-loop μ-loop
+abbrev start : tie.After-byte-from Inv-loop μ-loop → tie.Start Inv-loop μ-loop
 start c = c .before .before .before .before .before .before .before .before .before .before .before
 
 abbrev turn : tie.After-no-bytes Inv-loop μ-loop → tie.In-loop Inv-loop μ-loop
@@ -36,12 +36,12 @@ turn c =
 room : (c : tie.In-loop Inv-loop μ-loop) → length (start (c .before .before) .args .input .now) < 2 ^ 63
 room c = omega (arith, start (c .before .before) .good .1 .1 .1 .0 .1)
 
-feed-from-requires : tie.Need-feed-from-requires Inv-loop μ-loop
-feed-from-requires c κs = search needs
+byte-from-requires : tie.Need-byte-from-requires Inv-loop μ-loop
+byte-from-requires c κs = search needs
 
 loop-holds : tie.Need-loop-holds Inv-loop μ-loop
 loop-holds c =
-    let f = c .feed-from .ensures in
+    let f = c .byte-from .ensures in
     let s = start c in
     sofar-none _ _ _ _ _ _ (f .0) (f .1 .1) (s .pre .0) (s .pre .1 .0)
 
@@ -73,8 +73,8 @@ no-bytes-requires c κs = search needs
 add-from : tie.Need-add-from Inv-loop μ-loop
 add-from c = record { fits = omega (arith, turn c .loop-test .taken, room (turn c)) }
 
-feed-from-requires-2 : tie.Need-feed-from-requires-2 Inv-loop μ-loop
-feed-from-requires-2 c κs = omega (arith, turn c .loop-test .taken)
+byte-from-requires-2 : tie.Need-byte-from-requires-2 Inv-loop μ-loop
+byte-from-requires-2 c κs = omega (arith, turn c .loop-test .taken)
 
 loop-less : tie.Need-loop-less Inv-loop μ-loop
 loop-less c = omega (arith, turn (c .before) .loop-test .taken, turn (c .before) .before .loop .inv .order)
@@ -87,7 +87,7 @@ loop-again c =
     let w = v .before .before .before .before .before .before .before .before .before .before in
     let i = turn e in
     let p = i .before in
-    let f = c .feed-from2 .ensures in
+    let f = c .byte-from2 .ensures in
     sofar-next _ _ _ _ _ _ _ _ _ _ _ (p .loop .inv) (w .with-bytes .result) _ _ _ _ _
     (i .loop-test .taken) (start (p .before) .pre .1 .1)
     (w .with-bytes .ensures .0) (v .serve-kept .ensures) (e .no-bytes .ensures) (f .0) (f .1)
@@ -177,7 +177,7 @@ serve-chunk-spec =
     (tie.spec
     Inv-loop
     μ-loop
-    feed-from-requires
+    byte-from-requires
     loop-holds
     sub-with-bytes
     part-with-bytes-start
@@ -186,7 +186,7 @@ serve-chunk-spec =
     serve-kept-requires
     no-bytes-requires
     add-from
-    feed-from-requires-2
+    byte-from-requires-2
     loop-less
     loop-again
     sub-with-bytes-2

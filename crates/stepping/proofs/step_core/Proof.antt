@@ -1,5 +1,5 @@
 -- `stepping::step_core` meets its contract: the step's move, written.
-use mathlib.Core.Path.{_≡_, sym}
+use mathlib.Core.Path.{sym}
 use borrow.Author.Needs.{needs}
 use Rattle.model.specs.Pools.{steps}
 use Rattle.boards.specs.Calls.{Held, heldBy}

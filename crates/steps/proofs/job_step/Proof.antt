@@ -5,7 +5,7 @@ use native.Mathlib.Omega.{arith}
 use lib.ListN.{length, getD}
 use Rattle.model.specs.Tables.{Table, size}
 use Rattle.model.specs.Boards.{Board, channelOf}
-use Rattle.model.specs.Layout.{tableOf}
+use Rattle.model.specs.Layout.{tableRefusal, tableOf}
 use Rattle.model.specs.Effects.{Effect}
 use Rattle.model.specs.Steps.{job-step}
 use Rattle.model.proofs.AcceptedChords.{table-ok}
@@ -15,7 +15,6 @@ use Rattle.columns.specs.Columns.{Unread, boardBy}
 use Rattle.state.specs.declared.Phase as DP
 use Rattle.state.specs.declared.Phase.the-variants as P
 use Rattle.state.specs.Views.{phaseIn, chosenBy, jobIn, senderIn}
-use Rattle.steps.specs.Ready.{Saw}
 use Rattle.steps.proofs.MessageReads as R
 use Rattle.steps.proofs.ReadyLaws as L
 use borrow.Author.Needs.{needs}
@@ -35,10 +34,6 @@ board s o = boardBy (s .args .channels .now) (s .args .properties .now) (s .args
 abbrev ready : tie.Start → Board
 ready s = board s (s .pre .1 .others)
 
--- the start, from what was seen
-abbrev start : tie.After-sees → tie.Start
-start v = v .before .before .before .before .before .before .before .before .before
-
 subject-in : (s : tie.Start) → s .args .d .job .subject < s .args .n
 subject-in s = L.subject-in _ _ _ _ _ _ _ (s .pre .1) (s .pre .0 .1)
 
@@ -54,10 +49,18 @@ all s p e q = ap (λ (x : DP.Phase). chosenBy x (members s)) e ∙ q
 few : (s : tie.Start) → s .args .d .job .chord < length (tab s .chords) → members s ≤ 8
 few s h = table-ok (s .args .table .now) (s .pre .0 .0) .chord-few (s .args .d .job .chord) h
 
-saw : (v : tie.After-sees) (o : Unread)
-    → Saw (tab (start v)) (start v .args .channels .now) (start v .args .statuses .now) (start v .args .n)
-    (start v .args .d) (v .sees .result) (start v .args .properties .now) o
-saw v o = v .sees .ensures (start v .args .properties .now) o
+-- what the own message and the waker are read by
+sees-asks : (s : tie.Start)
+    → let a = s .args in
+    ((tableRefusal (a .table .now) ≡ 0) × (1 ≤ a .n) × (a .d .own ≤ a .n) × (a .d .waker ≤ a .n))
+    × (((a .n ≤ length (a .channels .now)) × (a .n ≤ length (a .statuses .now)))
+    × ((i : ℕ) → i < a .n → getD (a .channels .now) i 0 < length (tab s .kinds)))
+sees-asks s =
+    let r = s .pre .1 in
+    let h = subject-in s in (
+      (s .pre .0 .0, omega arith, L.own-in _ _ _ _ _ _ _ r, L.waker-in _ _ _ _ _ _ _ r),
+      ((r .lent .channels-all, r .lent .statuses-all), r .known),
+    )
 
 -- the step of the phase is the step of the job
 step-is : (s : tie.Start) (o : Unread) (p : DP.Phase) {x : Effect} → s .args .d .job .phase ≡ p
@@ -86,22 +89,13 @@ shared-slice-read-opened c =
     let h = subject-in s in
     omega (arith, s .pre .1 .lent .statuses-all)
 
-sees-requires : tie.Need-sees-requires
-sees-requires c κs =
-    let s = c .before .before .before .before .before .before .before .before in
-    let r = s .pre .1 in
-    let h = subject-in s in (
-      (s .pre .0 .0, omega arith, L.own-in _ _ _ _ _ _ _ r, L.waker-in _ _ _ _ _ _ _ r),
-      ((r .lent .channels-all, r .lent .statuses-all), r .known),
-    )
-
 enum-known-phase : tie.Need-enum-known-phase
 enum-known-phase c = search needs
 
 look-step-requires : tie.Need-look-step-requires
 look-step-requires c κs =
     let q = c .before in
-    let s = start (q .before .before) in
+    let s = q .before .before .before .before .before .before .before .before .before .before in
     let g = q .phase .given in
     let p = place s (P.Look (g .0 .0)) (g .1) in
     ((s .pre .0 .0, p .0 .chord-in), ((g .1, p .1), (subject-in s, s .pre .1 .lent)))
@@ -109,8 +103,7 @@ look-step-requires c κs =
 returns : tie.Need-returns
 returns c =
     let q = c .before .before in
-    let v = q .before .before in
-    let s = start v in
+    let s = q .before .before .before .before .before .before .before .before .before .before in
     let g = q .phase .given in
     λ o em eb. step-is s o (P.Look (g .0 .0)) (g .1)
     (c .look-step .ensures o)
@@ -121,7 +114,7 @@ enum-known-phase-2 c = search needs
 is-pending-requires : tie.Need-is-pending-requires
 is-pending-requires c κs =
     let q = c .before in
-    let s = start (q .before .before) in
+    let s = q .before .before .before .before .before .before .before .before .before .before in
     let g = q .phase2 .given in
     let p = place s (P.Claim (g .0 .0)) (g .1) in
     let l = few s (p .0 .chord-in) in
@@ -132,7 +125,7 @@ is-pending-requires c κs =
 claim-step-requires : tie.Need-claim-step-requires
 claim-step-requires c κs =
     let q = c .before .before in
-    let s = start (q .before .before) in
+    let s = q .before .before .before .before .before .before .before .before .before .before in
     let g = q .phase2 .given in
     let p = place s (P.Claim (g .0 .0)) (g .1) in
     ((s .pre .0 .0, p .0 .chord-in), ((g .1, p .1), (s .pre .1 .known _ (subject-in s), s .pre .1 .few)))
@@ -140,8 +133,7 @@ claim-step-requires c κs =
 returns-2 : tie.Need-returns-2
 returns-2 c =
     let q = c .before .before .before in
-    let v = q .before .before in
-    let s = start v in
+    let s = q .before .before .before .before .before .before .before .before .before .before in
     let g = q .phase2 .given in
     λ o em eb. step-is s o (P.Claim (g .0 .0)) (g .1)
     (c .claim-step .ensures (board s o) (channel-is s o)
@@ -155,7 +147,7 @@ enum-known-phase-3 c = search needs
 revert-step-requires : tie.Need-revert-step-requires
 revert-step-requires c κs =
     let q = c .before in
-    let s = start (q .before .before) in
+    let s = q .before .before .before .before .before .before .before .before .before .before in
     let g = q .phase3 .given in
     let p = place s (P.Revert (g .0 .0) (g .0 .1 .0)) (g .1) in
     ((s .pre .0 .0, p .0 .chord-in), (g .1, omega (arith, p .1, p .2)))
@@ -163,8 +155,7 @@ revert-step-requires c κs =
 returns-3 : tie.Need-returns-3
 returns-3 c =
     let q = c .before .before in
-    let v = q .before .before in
-    let s = start v in
+    let s = q .before .before .before .before .before .before .before .before .before .before in
     let g = q .phase3 .given in
     λ o em eb. step-is s o (P.Revert (g .0 .0) (g .0 .1 .0)) (g .1)
     (c .revert-step .ensures (board s o) (channel-is s o))
@@ -172,10 +163,13 @@ returns-3 c =
 enum-known-phase-4 : tie.Need-enum-known-phase-4
 enum-known-phase-4 c = search needs
 
+sees-requires : tie.Need-sees-requires
+sees-requires c κs = sees-asks (c .before .before .before .before .before .before .before .before .before .before .before)
+
 consume-step-requires : tie.Need-consume-step-requires
 consume-step-requires c κs =
-    let q = c .before in
-    let s = start (q .before .before) in
+    let q = c .before .before in
+    let s = q .before .before .before .before .before .before .before .before .before .before in
     let g = q .phase4 .given in
     let p = place s (P.Consume (g .0 .0) (g .0 .1 .0)) (g .1) in (
       (s .pre .0 .0, p .0 .chord-in),
@@ -189,21 +183,25 @@ consume-step-requires c κs =
 
 returns-4 : tie.Need-returns-4
 returns-4 c =
-    let q = c .before .before in
-    let v = q .before .before in
-    let s = start v in
+    let v = c .before in
+    let q = v .before .before in
+    let s = q .before .before .before .before .before .before .before .before .before .before in
     let g = q .phase4 .given in
+    let saw = v .sees .ensures (s .args .properties .now) in
     λ o em eb. step-is s o (P.Consume (g .0 .0) (g .0 .1 .0)) (g .1)
     (c .consume-step .ensures (s .args .properties .now) (s .args .statuses .now) o
-    (saw v o .sync-is) (saw v o .channel-is) (saw v o .consumed-is))
+    (saw o .sync-is) (saw o .channel-is) (saw o .consumed-is))
 
 enum-known-phase-5 : tie.Need-enum-known-phase-5
 enum-known-phase-5 c = search needs
 
+sees-requires-2 : tie.Need-sees-requires-2
+sees-requires-2 c κs = sees-asks (c .before .before .before .before .before .before .before .before .before .before .before)
+
 tell-step-requires : tie.Need-tell-step-requires
 tell-step-requires c κs =
-    let q = c .before in
-    let s = start (q .before .before) in
+    let q = c .before .before in
+    let s = q .before .before .before .before .before .before .before .before .before .before in
     let g = q .phase5 .given in
     let p = place s (P.Tell (g .0 .0)) (g .1) in
     let a = all s (P.Tell (g .0 .0)) (g .1) refl in (
@@ -217,20 +215,21 @@ tell-step-requires c κs =
 
 returns-5 : tie.Need-returns-5
 returns-5 c =
-    let q = c .before .before in
-    let v = q .before .before in
-    let s = start v in
+    let v = c .before in
+    let q = v .before .before in
+    let s = q .before .before .before .before .before .before .before .before .before .before in
     let g = q .phase5 .given in
+    let saw = v .sees2 .ensures (s .args .properties .now) in
     λ o em eb. step-is s o (P.Tell (g .0 .0)) (g .1)
     (c .tell-step .ensures (s .args .properties .now) (s .args .statuses .now) o
-    (saw v o .sync-is) (saw v o .channel-is) (saw v o .consumed-is))
+    (saw o .sync-is) (saw o .channel-is) (saw o .consumed-is))
 
 enum-told : tie.Need-enum-told
 enum-told c = search needs
 
 wake-step-requires : tie.Need-wake-step-requires
 wake-step-requires c κs =
-    let s = start (c .before .before) in
+    let s = c .before .before .before .before .before .before .before .before .before .before in
     let g = c .enum-told .given in
     let p = place s P.Wake (g .1) in
     let f = wakes-first (tab s) (s .args .d .job .chord) (channelOf (ready s) (s .args .d .job .subject)) (p .1) .0 in
@@ -239,8 +238,7 @@ wake-step-requires c κs =
 returns-6 : tie.Need-returns-6
 returns-6 c =
     let q = c .before in
-    let v = q .before .before in
-    let s = start v in
+    let s = q .before .before .before .before .before .before .before .before .before .before in
     let g = q .enum-told .given in
     λ o em eb. step-is s o P.Wake (g .1)
     (c .wake-step .ensures (board s o))
@@ -251,7 +249,7 @@ enum-known-phase-6 c = search needs
 free-step-requires : tie.Need-free-step-requires
 free-step-requires c κs =
     let q = c .before in
-    let s = start (q .before .before) in
+    let s = q .before .before .before .before .before .before .before .before .before .before in
     let g = q .phase6 .given in
     let p = place s (P.Free (g .0 .0)) (g .1) in
     let f = wakes-first (tab s) (s .args .d .job .chord) (channelOf (ready s) (s .args .d .job .subject)) (p .1) .0 in
@@ -260,8 +258,7 @@ free-step-requires c κs =
 returns-7 : tie.Need-returns-7
 returns-7 c =
     let q = c .before .before in
-    let v = q .before .before in
-    let s = start v in
+    let s = q .before .before .before .before .before .before .before .before .before .before in
     let g = q .phase6 .given in
     λ o em eb. step-is s o (P.Free (g .0 .0)) (g .1)
     (c .free-step .ensures (board s o))
@@ -269,40 +266,49 @@ returns-7 c =
 enum-told-2 : tie.Need-enum-told-2
 enum-told-2 c = search needs
 
+sees-requires-3 : tie.Need-sees-requires-3
+sees-requires-3 c κs = sees-asks (c .before .before .before .before .before .before .before .before .before .before)
+
 signal-step-requires : tie.Need-signal-step-requires
 signal-step-requires c κs =
-    let s = start (c .before .before) in
-    let g = c .enum-told2 .given in
+    let q = c .before in
+    let s = q .before .before .before .before .before .before .before .before .before .before in
+    let g = q .enum-told2 .given in
     let p = place s P.Signal (g .1) in
     let f = wakes-first (tab s) (s .args .d .job .chord) (channelOf (ready s) (s .args .d .job .subject)) (p .1) .0 in
     ((s .pre .0 .0, p .0 .chord-in), (g .1, f))
 
 returns-8 : tie.Need-returns-8
 returns-8 c =
-    let q = c .before in
-    let v = q .before .before in
-    let s = start v in
+    let v = c .before in
+    let q = v .before in
+    let s = q .before .before .before .before .before .before .before .before .before .before in
     let g = q .enum-told2 .given in
+    let saw = v .sees3 .ensures (s .args .properties .now) in
     λ o em eb. step-is s o P.Signal (g .1)
     (c .signal-step .ensures (board s o)
-    (saw v o .sync-is) (saw v o .channel-is) (saw v o .consumed-is))
+    (saw o .sync-is) (saw o .channel-is) (saw o .consumed-is))
 
 enum-told-3 : tie.Need-enum-told-3
 enum-told-3 c = search needs
+
+sees-requires-4 : tie.Need-sees-requires-4
+sees-requires-4 c κs = sees-asks (c .before .before .before .before .before .before .before .before .before .before)
 
 pass-end-step-requires : tie.Need-pass-end-step-requires
 pass-end-step-requires c κs = search needs
 
 returns-9 : tie.Need-returns-9
 returns-9 c =
-    let q = c .before in
-    let v = q .before .before in
-    let s = start v in
+    let v = c .before in
+    let q = v .before in
+    let s = q .before .before .before .before .before .before .before .before .before .before in
     let g = q .enum-told3 .given in
+    let saw = v .sees4 .ensures (s .args .properties .now) in
     λ o em eb. step-is s o P.PassEnd (g .1)
     (c .pass-end-step .ensures (board s o) eb (channel-is s o)
     (R.open-read _ _ _ o _ _ (subject-in s))
-    (saw v o .sync-is) (saw v o .channel-is) (saw v o .consumed-is))
+    (saw o .sync-is) (saw o .channel-is) (saw o .consumed-is))
 
 enum-known-phase-7 : tie.Need-enum-known-phase-7
 enum-known-phase-7 c = search needs
@@ -313,8 +319,7 @@ backoff-step-requires c κs = search needs
 returns-10 : tie.Need-returns-10
 returns-10 c =
     let q = c .before .before in
-    let v = q .before .before in
-    let s = start v in
+    let s = q .before .before .before .before .before .before .before .before .before .before in
     let g = q .phase7 .given in
     λ o em eb. step-is s o (P.Backoff (g .0 .0)) (g .1)
     (c .backoff-step .ensures (board s o) (channel-is s o))
@@ -326,7 +331,6 @@ job-step-spec =
     cast-at
     shared-slice-read-channel
     shared-slice-read-opened
-    sees-requires
     enum-known-phase
     look-step-requires
     enum-known-phase-2
@@ -335,16 +339,20 @@ job-step-spec =
     enum-known-phase-3
     revert-step-requires
     enum-known-phase-4
+    sees-requires
     consume-step-requires
     enum-known-phase-5
+    sees-requires-2
     tell-step-requires
     enum-told
     wake-step-requires
     enum-known-phase-6
     free-step-requires
     enum-told-2
+    sees-requires-3
     signal-step-requires
     enum-told-3
+    sees-requires-4
     pass-end-step-requires
     enum-known-phase-7
     backoff-step-requires

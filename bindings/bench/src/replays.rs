@@ -1,0 +1,129 @@
+//! Replays: pairs, triples, a contended morning, and looks over a full board.
+
+use crate::report::{Target, heading, row, row_of_proved};
+use crate::schedule::{Schedule, by_chance, in_turn};
+use crate::tables;
+use crate::timing::{REPLAY_ROUNDS, Times, least, timed};
+use crate::world::{Proved, restore};
+use reference::board::CONSUMED;
+use reference::{Board, Call, Phase, State, calls};
+
+const SPEED: Target = Target::AtLeast(0.7);
+
+/// A replay from a board; the columns keep what the round before left, where they were empty.
+fn times(table: &[u8], board: &Board, calls: &Schedule) -> Times {
+    let saved = Proved::of(board);
+    let (mut proved, mut plain) = (saved.clone(), board.clone());
+    let (mut said, mut answers) = (vec![0; calls.len()], vec![0; calls.len()]);
+    let best = least(
+        REPLAY_ROUNDS,
+        || {
+            if board.messages > 0 {
+                proved.restore(&saved);
+            }
+            proved.numbers.copy_from_slice(&saved.numbers);
+            timed(|| assert_eq!(proved.replay(table, calls, &mut said), 0))
+        },
+        || {
+            if board.messages > 0 {
+                restore(&mut plain, board);
+            }
+            (plain.messages, plain.matches, plain.senders) = (board.messages, board.matches, board.senders);
+            timed(|| calls::replay(table, &mut plain, calls.lent(), &mut answers).unwrap())
+        },
+    );
+    assert_eq!(said, answers);
+    best
+}
+
+pub fn matches() {
+    let side = |sender: u16, message: u16| (sender % 2, u32::from(message / 2 % 16));
+    let (pairs, triples, morning) = (tables::rendezvous(), tables::triples(), tables::morning());
+    let lists = [
+        ("pairs, 2 senders", &pairs, in_turn(&pairs, 2, |sender, _| (sender, 0))),
+        ("pairs, 32 senders, 16 properties", &pairs, in_turn(&pairs, 32, side)),
+        ("triples, 3 senders", &triples, in_turn(&triples, 3, |sender, _| (sender, 0))),
+        ("contended morning, 32 senders", &morning, by_chance(&morning, 4, 1)),
+        ("steps of idle senders, refused", &pairs, steps_of_each(256)),
+    ];
+    let measured: Vec<_> =
+        lists.iter().map(|(name, table, list)| (name, list, times(table, &Board::default(), list))).collect();
+    heading("2 replay", "ns a call", "speed");
+    for (name, list, whole) in &measured {
+        let (name, count) = (format!("{name} ({} calls)", list.len()), list.len() as f64);
+        row(&name, whole.map(|ns| ns / count), 1.0 / whole.ratio(), SPEED);
+    }
+    heading("  the same", "thousand calls a second", "speed");
+    for (name, list, whole) in &measured {
+        row(name, whole.map(|ns| list.len() as f64 * 1e6 / ns), 1.0 / whole.ratio(), SPEED);
+    }
+    heading("  the same", "thousand matches a second", "speed");
+    for (at, (name, list, whole)) in measured.iter().enumerate().filter(|(_, (_, list, _))| list.matches > 0) {
+        let figures = whole.map(|ns| f64::from(list.matches) * 1e6 / ns);
+        let target = if at < 2 { Target::AtLeast(1000.0) } else { Target::None };
+        row_of_proved(&format!("{name} ({} matches)", list.matches), figures, 1.0 / whole.ratio(), target);
+    }
+}
+
+/// Where the messages after the senders' own stand, of the channel that is looked for.
+#[derive(Clone, Copy)]
+enum Others {
+    /// None of that channel.
+    Absent,
+    /// All, pending, with another property.
+    Differing,
+    /// Consumed up to 1,000, then pending with the property that is wanted.
+    At1000,
+}
+
+/// A full board of 32 senders that are about to look for the first member of chord 0.
+fn looking(others: Others) -> Board {
+    let mut board = Board { messages: 1024, matches: 1, ..Board::default() };
+    for (at, sender) in board.senders.iter_mut().enumerate() {
+        sender.state = State::Working;
+        (sender.own, sender.subject, sender.phase) = (Some(at as u16), at as u16, Phase::Look(0));
+    }
+    let columns = &mut board.columns;
+    for at in 32..1024 {
+        columns.channels[at] = u8::from(!matches!(others, Others::Absent));
+        columns.properties[at] = u32::from(matches!(others, Others::Differing));
+        if matches!(others, Others::At1000) && at < 1000 {
+            (columns.statuses[at], columns.matched[at]) = (CONSUMED, 1);
+        }
+    }
+    board
+}
+
+/// So many steps of each sender, one sender after another.
+fn steps_of_each(count: usize) -> Schedule {
+    let mut schedule = Schedule::default();
+    for sender in 0..32 {
+        (0..count).for_each(|_| schedule.push(Call::Step { sender }));
+    }
+    schedule
+}
+
+/// Nanoseconds of each of so many looks of each sender, less a replay of none.
+fn look_times(table: &[u8], board: &Board, count: usize) -> Times {
+    let whole = times(table, board, &steps_of_each(count));
+    let tests = times(table, board, &Schedule::default());
+    let of = |whole: f64, tests: f64| (whole - tests) / (32 * count) as f64;
+    Times { proved: of(whole.proved, tests.proved), plain: of(whole.plain, tests.plain) }
+}
+
+pub fn looks() {
+    heading("4 a look over 1,024 messages", "ns", "speed");
+    // 32 chords, each of which misses at its first member
+    let missing = tables::table(&[0, 0], &[(&[1, 0][..], true); 32]);
+    // seven members to be found, then the own message
+    let finding = tables::table(&[0, 0], &[(&[1, 1, 1, 1, 1, 1, 1, 0], true)]);
+    let rows = [
+        ("missed, none of the channel (and none claimed)", &missing, Others::Absent, 32),
+        ("missed, all of the channel, another property", &missing, Others::Differing, 32),
+        ("found at 1,000 to 1,006", &finding, Others::At1000, 7),
+    ];
+    for (name, table, others, count) in rows {
+        let figures = look_times(table, &looking(others), count);
+        row(name, figures, 1.0 / figures.ratio(), SPEED);
+    }
+}

@@ -1,0 +1,123 @@
+//! Lists of calls, made by plain Rust before anything is timed.
+
+use crate::random::Random;
+use reference::{Answer, Board, Call, Replay, State, Table};
+
+const MESSAGES: u16 = 1024;
+
+/// Calls in columns, and the matches that they make.
+#[derive(Default)]
+pub struct Schedule {
+    pub kinds: Vec<u8>,
+    pub callers: Vec<u16>,
+    pub targets: Vec<u16>,
+    pub numbers: Vec<u32>,
+    pub amounts: Vec<i64>,
+    pub matches: u16,
+}
+
+impl Schedule {
+    pub fn len(&self) -> usize {
+        self.kinds.len()
+    }
+
+    pub fn lent(&self) -> Replay<'_> {
+        Replay {
+            kinds: &self.kinds,
+            callers: &self.callers,
+            targets: &self.targets,
+            numbers: &self.numbers,
+            amounts: &self.amounts,
+        }
+    }
+
+    pub fn push(&mut self, call: Call) {
+        let (kind, caller, target, number, amount) = match call {
+            Call::Add { sender, channel, property, cents } => (1, sender, channel, property, cents),
+            Call::Step { sender } => (0, sender, 0, 0, 0),
+        };
+        self.kinds.push(kind);
+        self.callers.push(caller);
+        self.targets.push(target);
+        self.numbers.push(number);
+        self.amounts.push(amount);
+    }
+
+    /// Plays an accepted call and notes it.
+    fn play(&mut self, table: &Table, board: &mut Board, call: Call) {
+        assert!(!matches!(board.core_call(table, call), Answer::Refused(_)));
+        self.push(call);
+    }
+}
+
+/// Senders in turn until the board is full and quiet: who may step steps, who is idle adds what `next` says of the
+/// sender and the number of messages so far.
+pub fn in_turn(bytes: &[u8], senders: u16, next: impl Fn(u16, u16) -> (u16, u32)) -> Schedule {
+    let table = Table::read(bytes).unwrap();
+    let (mut board, mut schedule) = (Board::default(), Schedule::default());
+    let mut resting = 0;
+    for sender in (0..senders).cycle() {
+        if resting == senders {
+            break;
+        }
+        resting += 1;
+        let at = board.senders[sender as usize];
+        if !at.at_rest() {
+            schedule.play(&table, &mut board, Call::Step { sender });
+        } else if at.state == State::Idle && board.messages < MESSAGES {
+            let (channel, property) = next(sender, board.messages);
+            schedule.play(&table, &mut board, Call::Add { sender, channel, property, cents: 5 });
+        } else {
+            continue;
+        }
+        resting = 0;
+    }
+    schedule.matches = board.matches;
+    schedule
+}
+
+/// Senders by chance, 32 of them, until the board is full and quiet; few properties, so that they compete.
+pub fn by_chance(bytes: &[u8], properties: usize, seed: u64) -> Schedule {
+    let table = Table::read(bytes).unwrap();
+    let (mut board, mut schedule) = (Board::default(), Schedule::default());
+    let mut random = Random::new(seed);
+    while board.messages < MESSAGES || !board.is_quiet() {
+        let sender = random.below(32) as u16;
+        let at = board.senders[sender as usize];
+        if !at.at_rest() {
+            schedule.play(&table, &mut board, Call::Step { sender });
+        } else if at.state == State::Idle && board.messages < MESSAGES {
+            let channel = channel_by_chance(&table, &board, &mut random);
+            let (property, cents) = (random.below(properties) as u32, random.below(200_000) as i64 - 100_000);
+            schedule.play(&table, &mut board, Call::Add { sender, channel, property, cents });
+        }
+    }
+    schedule.matches = board.matches;
+    schedule
+}
+
+/// Any channel, or one that lets its sender go where half of the senders are blocked.
+fn channel_by_chance(table: &Table, board: &Board, random: &mut Random) -> u16 {
+    let blocked = board.senders.iter().filter(|sender| sender.state == State::Blocked).count();
+    loop {
+        let channel = random.below(table.channel_count.into()) as u8;
+        if blocked < 16 || !table.is_waiting(channel) {
+            return channel.into();
+        }
+    }
+}
+
+/// A quiet board of so many messages, sent by senders 0 and 1 in turn as pairs that match.
+pub fn pairs(bytes: &[u8], messages: u16) -> Board {
+    let table = Table::read(bytes).unwrap();
+    let mut board = Board::default();
+    for message in 0..messages {
+        let sender = message % 2;
+        board.core_call(&table, Call::Add { sender, channel: sender, property: 0, cents: 5 });
+        while let Some(sender) = board.first_busy() {
+            board.core_step(&table, sender);
+        }
+    }
+    assert_eq!((board.messages, board.matches), (messages, messages / 2));
+    board
+}

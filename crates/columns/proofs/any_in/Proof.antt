@@ -1,0 +1,67 @@
+-- `columns::any_in` meets its contract: what is found so far, or in what is left.
+use mathlib.Core.Bool.{_||_}
+use mathlib.Core.Path.{_≡_, refl, sym, _∙_}
+use Prim.Native.Nat.{_≤_, _-_}
+use native.Mathlib.Numerals.{add-one}
+use native.Mathlib.Omega.{arith}
+use borrow.Author.Needs.{needs}
+use Rattle.columns.specs.Firsts.{firstFrom, found, ofKind}
+use Rattle.columns.proofs.Firsts.{or-joined, or-false, found-pick, first-step, first-end}
+use Rattle.columns.proofs.any_in.Statement.{statement}
+use Rattle.columns.proofs.any_in.Tie as tie
+
+abbrev Inv-loop : tie.InvT-loop
+Inv-loop channels statuses from to wanted status any₀ i₀ any i =
+    (i ≤ to) × (found (firstFrom (ofKind channels statuses wanted status) from (to - from))
+    ≡ (any || found (firstFrom (ofKind channels statuses wanted status) i (to - i))))
+
+abbrev μ-loop : tie.MeasureT-loop
+μ-loop channels statuses from to wanted status any₀ i₀ any i = to - i
+
+loop-holds : tie.Need-loop-holds Inv-loop μ-loop
+loop-holds c = (search needs, refl)
+
+shared-slice-read-any : tie.Need-shared-slice-read-any Inv-loop μ-loop
+shared-slice-read-any c = search needs
+
+shared-slice-read-any-2 : tie.Need-shared-slice-read-any-2 Inv-loop μ-loop
+shared-slice-read-any-2 c = search needs
+
+add-i : tie.Need-add-i Inv-loop μ-loop
+add-i c = search needs
+
+loop-less : tie.Need-loop-less Inv-loop μ-loop
+loop-less c = search needs
+
+loop-again : tie.Need-loop-again Inv-loop μ-loop
+unfolding ofKind
+loop-again c =
+    let p = c .before .before .before in
+    let a = p .before .args in
+    let q = ofKind (a .channels .now) (a .statuses .now) (a .wanted) (a .status) in
+    let i = p .loop .i in (
+      search needs,
+      p .loop .inv .1
+          ∙ rw (first-step q i (a .to) (omega arith), add-one i, found-pick (q i) i)
+          (or-joined (p .loop .any) (q i) _),
+    )
+
+returns : tie.Need-returns Inv-loop μ-loop
+returns c =
+    let p = c .before in
+    let a = p .before .args in
+    sym (p .loop .inv .1 ∙ rw (first-end _ (p .loop .i) (a .to) (omega arith)) (or-false (p .loop .any)))
+
+pub any-in-spec : {M : Type 1} → statement M
+any-in-spec =
+    tie.close
+    (tie.spec
+    Inv-loop
+    μ-loop
+    loop-holds
+    shared-slice-read-any
+    shared-slice-read-any-2
+    add-i
+    loop-less
+    loop-again
+    returns)

@@ -1,0 +1,32 @@
+-- The first number that passes a test, and the tests that a look makes of a message's number.
+use mathlib.Core.Bool.{Bool, true, false, _&&_, _||_, not}
+use mathlib.Core.List.{List}
+use Prim.Native.Nat.{ℕ, zero, suc}
+use lib.Dec.{eqb}
+use lib.ListN.{getD}
+use Rattle.model.specs.Basics.{isIn, pick}
+
+-- the first of n numbers from i on that passes, plus 1; 0 for none
+unfoldable pub firstFrom : (ℕ → Bool) → ℕ → ℕ → ℕ
+firstFrom p i zero = 0
+firstFrom p i (suc n) = pick (p i) (suc i) (firstFrom p (suc i) n)
+
+-- whether there is one
+abbrev pub found : ℕ → Bool
+found zero = false
+found (suc k) = true
+
+-- message k is of the channel and of the status
+unfoldable pub ofKind : List ℕ → List ℕ → ℕ → ℕ → ℕ → Bool
+ofKind channels statuses wanted status k = eqb (getD channels k 0) wanted && eqb (getD statuses k 0) status
+
+-- message k is of both, and has the property number where equal ones are wanted
+abbrev pub suiting : List ℕ → List ℕ → List ℕ → ℕ → ℕ → Bool → ℕ → ℕ → Bool
+suiting channels properties statuses wanted status equal property k =
+    (eqb (getD channels k 0) wanted && (not equal || eqb (getD properties k 0) property))
+    && eqb (getD statuses k 0) status
+
+-- message k suits, and is not chosen
+unfoldable pub eligible : List ℕ → List ℕ → List ℕ → ℕ → ℕ → Bool → ℕ → List ℕ → ℕ → Bool
+eligible channels properties statuses wanted status equal property chosen k =
+    suiting channels properties statuses wanted status equal property k && not (isIn k chosen)
