@@ -2,8 +2,8 @@
 //!
 //!     differential [--calls N] [--seed S] [--fault KIND]
 //!
-//! Random schedules, with excursions to sound boards that no schedule reaches and to damaged boards and tables. Every
-//! word and the refusals 8 to 13 must occur, for which 100,000 calls are enough.
+//! Random schedules, with excursions to sound boards that no schedule reaches and to damaged boards and tables. From
+//! 100,000 calls on, every word and the refusals 8 to 13 must occur.
 //!
 //! With `--fault`, or built without the feature `host`, the reference stands on both sides. The last line is
 //! `differential: N passed, M failed`, N being the calls that went the same way.
@@ -27,6 +27,13 @@ use plain_rust::Reference;
 use random::Random;
 use reference::answer::WORDS;
 use std::process::ExitCode;
+
+const HELP: &str = "\
+usage: differential [--calls N] [--seed S] [--fault KIND]
+From 100,000 calls on, every word and the refusals 8 to 13 must occur.";
+
+/// So many calls are enough for every word to occur.
+const COVERING: u64 = 100_000;
 
 struct Options {
     calls: u64,
@@ -76,8 +83,11 @@ fn compare(pair: &mut Pair, options: &Options) -> Result<(), String> {
     Ok(())
 }
 
-/// Every word and the refusals 8 to 13 must have been answered.
+/// Every word and the refusals 8 to 13 must have been answered, if there were calls enough.
 fn missing(tally: &Tally) -> Option<String> {
+    if tally.calls < COVERING {
+        return None;
+    }
     let word = (0..17).find(|&word| tally.words[word] == 0).map(|word| WORDS[word].to_string());
     word.or((8..=13).find(|&number| tally.refusals[number] == 0).map(|number| format!("refused {number}")))
 }
@@ -95,7 +105,7 @@ fn main() -> ExitCode {
     let options = match options() {
         Ok(options) => options,
         Err(fault) => {
-            eprintln!("differential: {fault}");
+            eprintln!("differential: {fault}\n{HELP}");
             return ExitCode::from(2);
         }
     };

@@ -1,0 +1,364 @@
+/* A libFuzzer target for the host library. An input plays a short schedule on table P, edits the board it leaves, and
+ * makes one call with lengths that are mostly right, twice: every lent list ends at an inaccessible page, then every
+ * list begins after one. Both calls must answer the same documented number, alter nothing when they refuse, and leave
+ * a board that is accepted when they do not.
+ */
+#include <stdint.h>
+#include <stdio.h>
+#include <stdlib.h>
+#include <string.h>
+#include <sys/mman.h>
+
+#include "../../bindings/c/gevnyusto.h"
+
+enum list {
+    TABLE, BOARD, CHANNELS, PROPERTIES, CENTS, STATUSES, MATCHED, WAKERS, CHORDS, MESSAGES,
+    KINDS, CALLERS, TARGETS, NUMBERS, AMOUNTS, ANSWERS, OUT, LISTS
+};
+enum call { REFUSAL, OPEN, ADD, STEP, REPLAY, READ_MESSAGE, READ_MATCH, READ_REPLY, QUIET, CALLS };
+enum { PAGE = 4096, MOST_BYTES = 16388, REPLAYED = 24 };
+
+/* The lists that a call may write, by their bits. */
+#define BIT(list) (1u << (list))
+#define MESSAGE_BITS (BIT(BOARD) | BIT(STATUSES) | BIT(MATCHED) | BIT(WAKERS))
+#define ADD_BITS (MESSAGE_BITS | BIT(CHANNELS) | BIT(PROPERTIES) | BIT(CENTS))
+#define STEP_BITS (MESSAGE_BITS | BIT(CHORDS) | BIT(MESSAGES))
+static const unsigned written[CALLS] = {
+    0, BIT(BOARD), ADD_BITS, STEP_BITS, ADD_BITS | STEP_BITS | BIT(ANSWERS), BIT(OUT), BIT(OUT), BIT(OUT), BIT(OUT)
+};
+
+static const uint8_t table_p[20] = {2, 0, 1, 0, 2, 0, 12, 0, 14, 0, 18, 0, 0, 1, 0, 0, 2, 1, 0, 1};
+static const size_t element[LISTS] = {1, 2, 1, 4, 8, 1, 2, 2, 1, 2, 1, 2, 2, 4, 8, 4, 8};
+static const size_t right[LISTS] = {
+    sizeof table_p, GV_BOARD, GV_MESSAGES, GV_MESSAGES, GV_MESSAGES, GV_MESSAGES, GV_MESSAGES, GV_MESSAGES,
+    GV_MATCHES, GV_MATCH_MESSAGES, REPLAYED, REPLAYED, REPLAYED, REPLAYED, REPLAYED, REPLAYED, GV_MATCH_NUMBERS
+};
+
+/* What a call is lent: the contents and lengths, and its plain numbers. */
+struct lent {
+    _Alignas(8) uint8_t bytes[LISTS][MOST_BYTES];
+    size_t length[LISTS];
+    uint16_t first, channel;
+    uint32_t property;
+    int64_t amount;
+};
+
+static uint8_t *room[LISTS]; /* the accessible pages of each list */
+static size_t room_bytes[LISTS];
+static uint8_t *at[LISTS]; /* where each list lies now */
+
+/* What libFuzzer takes for coverage: the answers of each call, and the phases of the senders. */
+__attribute__((section("__libfuzzer_extra_counters"))) static uint8_t seen[CALLS * 64 + 1024];
+
+static const uint8_t *input;
+static size_t input_left;
+
+static uint8_t take(void) {
+    if (input_left == 0)
+        return 0;
+    input_left--;
+    return *input++;
+}
+
+/* A small number, one about 1,024, or any number of 64 bits. */
+static uint64_t number(void) {
+    uint64_t value = take();
+    if (value == 254)
+        return GV_MESSAGES - 2 + take() % 4;
+    if (value != 255)
+        return value;
+    for (int byte = 0; byte < 8; byte++)
+        value = value << 8 | take();
+    return value;
+}
+
+static void demand(int holds, const char *what, enum call call, uint32_t answer) {
+    if (holds)
+        return;
+    fprintf(stderr, "host_fuzz: call %d answered %u: %s\n", (int)call, (unsigned)answer, what);
+    abort();
+}
+
+/* For each list, its pages with an inaccessible page on either side. */
+static void make_rooms(void) {
+    for (int list = 0; list < LISTS; list++) {
+        size_t bytes = ((right[list] + 1) * element[list] + PAGE - 1) / PAGE * PAGE;
+        uint8_t *pages = mmap(NULL, bytes + 2 * PAGE, PROT_NONE, MAP_PRIVATE | MAP_ANONYMOUS, -1, 0);
+        if (pages == MAP_FAILED || mprotect(pages + PAGE, bytes, PROT_READ | PROT_WRITE) != 0)
+            exit(2);
+        room[list] = pages + PAGE;
+        room_bytes[list] = bytes;
+    }
+}
+
+static size_t bytes_of(const struct lent *lent, int list) { return lent->length[list] * element[list]; }
+
+/* Lays every list against the inaccessible page at the end of its room, or at the start. */
+static void lay(const struct lent *lent, int at_end) {
+    for (int list = 0; list < LISTS; list++) {
+        at[list] = room[list] + (at_end ? room_bytes[list] - bytes_of(lent, list) : 0);
+        memcpy(at[list], lent->bytes[list], bytes_of(lent, list));
+    }
+}
+
+#define U8(list) at[list], lent->length[list]
+#define U16(list) (uint16_t *)(void *)at[list], lent->length[list]
+#define U32(list) (uint32_t *)(void *)at[list], lent->length[list]
+#define I64(list) (int64_t *)(void *)at[list], lent->length[list]
+#define LENT_BOARD U8(TABLE), U16(BOARD)
+#define LENT_COLUMNS \
+    U8(CHANNELS), U32(PROPERTIES), I64(CENTS), U8(STATUSES), U16(MATCHED), U16(WAKERS), U8(CHORDS), U16(MESSAGES)
+
+static uint32_t make_call(const struct lent *lent, enum call call) {
+    switch (call) {
+    case REFUSAL:
+        return gv_table_refusal(U8(TABLE));
+    case OPEN:
+        return gv_open(LENT_BOARD);
+    case ADD:
+        return gv_add(LENT_BOARD, LENT_COLUMNS, lent->first, lent->channel, lent->property, lent->amount);
+    case STEP:
+        return gv_step(LENT_BOARD, LENT_COLUMNS, lent->first);
+    case REPLAY:
+        return gv_replay(LENT_BOARD, U8(KINDS), U16(CALLERS), U16(TARGETS), U32(NUMBERS), I64(AMOUNTS), U32(ANSWERS),
+                         LENT_COLUMNS);
+    case READ_MESSAGE:
+        return gv_read_message(LENT_BOARD, LENT_COLUMNS, lent->first, I64(OUT));
+    case READ_MATCH:
+        return gv_read_match(LENT_BOARD, LENT_COLUMNS, lent->first, I64(OUT));
+    case READ_REPLY:
+        return gv_read_reply(LENT_BOARD, LENT_COLUMNS, lent->first, I64(OUT));
+    default:
+        return gv_quiet(LENT_BOARD, LENT_COLUMNS, I64(OUT));
+    }
+}
+
+/* The refusal in what a call returned, 0 for none. */
+static uint32_t refusal_of(enum call call, uint32_t answer) {
+    if (call == ADD || call == STEP)
+        return GV_WORD(answer) == GV_REFUSED ? GV_VALUE(answer) : 0;
+    return answer;
+}
+
+/* Whether an answer that refuses nothing is one of an add, or of a step. */
+static int is_answer(int is_add, uint32_t answer) {
+    uint32_t word = GV_WORD(answer), value = GV_VALUE(answer);
+    int plain = word == GV_MISSED || word == GV_AGAIN || word == GV_ENDED || word == GV_RESTED || word == GV_RESUMED;
+    if (is_add)
+        return word == GV_ITEM && value < GV_MESSAGES;
+    return word > GV_ITEM && word < GV_REFUSED && value < GV_MESSAGES && (!plain || value == 0);
+}
+
+/* Whether a refusal past those of table and board is one of that call. */
+static int is_own_refusal(enum call call, uint32_t refusal) {
+    switch (call) {
+    case ADD:
+        return refusal >= 8 && refusal <= 12;
+    case STEP:
+        return refusal == 8 || refusal == 13;
+    case REPLAY:
+        return refusal == 31;
+    case READ_MESSAGE:
+        return refusal == 14 || refusal == 31;
+    case READ_MATCH:
+        return refusal == 15 || refusal == 31;
+    case READ_REPLY:
+        return refusal == 8 || refusal == 31;
+    case QUIET:
+        return refusal == 31;
+    default:
+        return 0;
+    }
+}
+
+/* Whether the lists of the board that the call is lent have the right lengths, and those of a replay one length. */
+static int has_lengths(const struct lent *lent, enum call call) {
+    int last = call == REFUSAL ? TABLE : call == OPEN ? BOARD : MESSAGES;
+    for (int list = BOARD; list <= last; list++)
+        if (lent->length[list] != right[list])
+            return 0;
+    for (int list = KINDS; call == REPLAY && list <= AMOUNTS; list++)
+        if (lent->length[list] != lent->length[KINDS])
+            return 0;
+    return 1;
+}
+
+/* What the header says of the number: the table first, then lengths and board, then the call's own. */
+static void demand_documented(const struct lent *lent, enum call call, uint32_t answer) {
+    uint32_t table = gv_table_refusal(U8(TABLE)), refusal = refusal_of(call, answer);
+    demand(table <= 7, "no refusal of a table", call, table);
+    if (table != 0)
+        demand(refusal == table, "the table's refusal is another", call, answer);
+    else if (!has_lengths(lent, call))
+        demand(refusal == 30, "a wrong length is not refused 30", call, answer);
+    else if (refusal == 0)
+        demand((call != ADD && call != STEP) || is_answer(call == ADD, answer), "no such answer", call, answer);
+    else
+        demand((refusal == 30 && call > OPEN) || is_own_refusal(call, refusal), "no such refusal", call, answer);
+}
+
+static void demand_answers(const struct lent *lent) {
+    uint32_t answers[REPLAYED + 1];
+    memcpy(answers, at[ANSWERS], bytes_of(lent, ANSWERS));
+    for (size_t i = 0; i < lent->length[KINDS]; i++) {
+        enum call call = lent->bytes[KINDS][i] != 0 ? ADD : STEP;
+        uint32_t refusal = refusal_of(call, answers[i]);
+        demand(refusal ? is_own_refusal(call, refusal) : is_answer(call == ADD, answers[i]), "no answer of a replay",
+               REPLAY, answers[i]);
+    }
+    size_t past = lent->length[KINDS] * sizeof answers[0];
+    demand(memcmp(at[ANSWERS] + past, lent->bytes[ANSWERS] + past, bytes_of(lent, ANSWERS) - past) == 0,
+           "answers past the last call", REPLAY, 0);
+}
+
+/* Only what the call may write has changed, and nothing if it refused. */
+static void demand_kept(const struct lent *lent, enum call call, uint32_t answer) {
+    unsigned writes = refusal_of(call, answer) == 0 ? written[call] : 0;
+    for (int list = 0; list < LISTS; list++)
+        if ((writes & BIT(list)) == 0)
+            demand(memcmp(at[list], lent->bytes[list], bytes_of(lent, list)) == 0, "a list has changed", call, answer);
+}
+
+/* After a call that wrote the board it is accepted, if its columns have their lengths. */
+static void demand_sound(const struct lent *lent, enum call call, uint32_t answer) {
+    int64_t quiet = -1;
+    if (refusal_of(call, answer) != 0 || (written[call] & BIT(BOARD)) == 0 || !has_lengths(lent, STEP))
+        return;
+    demand(gv_quiet(LENT_BOARD, LENT_COLUMNS, &quiet, 1) == 0, "the board left is refused", call, answer);
+    demand(quiet == 0 || quiet == 1, "quiet is not 0 or 1", call, answer);
+    demand(call != OPEN || quiet == 1, "an opened board is not quiet", call, answer);
+}
+
+static uint32_t checked_call(const struct lent *lent, enum call call, int at_end) {
+    lay(lent, at_end);
+    uint32_t answer = make_call(lent, call);
+    demand_kept(lent, call, answer);
+    demand_documented(lent, call, answer);
+    if (call == REPLAY && answer == 0)
+        demand_answers(lent);
+    demand_sound(lent, call, answer);
+    return answer;
+}
+
+/* The lists as the last call left them. */
+static void keep(struct lent *lent) {
+    for (int list = 0; list < LISTS; list++)
+        memcpy(lent->bytes[list], at[list], bytes_of(lent, list));
+}
+
+/* The call at the ends of the rooms and at their starts; both answer and leave the same. */
+static uint32_t call_twice(const struct lent *lent, enum call call) {
+    static struct lent left;
+    uint32_t answer = checked_call(lent, call, 1);
+    memcpy(left.length, lent->length, sizeof left.length);
+    keep(&left);
+    demand(checked_call(lent, call, 0) == answer, "the second answer is another", call, answer);
+    for (int list = 0; list < LISTS; list++)
+        demand(memcmp(left.bytes[list], at[list], bytes_of(lent, list)) == 0, "the second leaves others", call, answer);
+    return answer;
+}
+
+/* Counts what libFuzzer shall see: the answer and, if the board was accepted, state and phase of eight senders. */
+static void count(const struct lent *lent, enum call call, uint32_t answer) {
+    uint32_t refusal = refusal_of(call, answer);
+    const uint16_t *board = (const uint16_t *)(const void *)lent->bytes[BOARD];
+    seen[call * 64 + (refusal ? 18 + refusal % 46 : GV_WORD(answer) % 18)]++;
+    for (int sender = 0; call > OPEN && refusal == 0 && sender < 8; sender++) {
+        const uint16_t *numbers = board + 2 + 21 * sender;
+        seen[CALLS * 64 + numbers[0] % 4 * 256 + numbers[8] % 16 * 16 + numbers[9] % 8 * 2 + numbers[1] % 2]++;
+    }
+}
+
+/* One call of the schedule, by one of eight senders; a byte that steps may step up to eight times. */
+static void play(struct lent *lent) {
+    uint8_t byte = take();
+    int is_add = (byte & 24) < 16, times = (byte & 24) == 24 ? 8 : 1;
+    lent->first = byte & 7;
+    lent->channel = byte >> 3 & 1;
+    lent->property = byte >> 5 & 1;
+    lent->amount = byte;
+    for (int i = 0; i < times; i++) {
+        uint32_t answer = make_call(lent, is_add ? ADD : STEP);
+        demand(refusal_of(STEP, answer) ? is_own_refusal(is_add ? ADD : STEP, GV_VALUE(answer))
+                                        : is_answer(is_add, answer),
+               "no answer of a schedule", is_add ? ADD : STEP, answer);
+    }
+}
+
+/* Table P, or one that differs in who waits and in whether the properties must be equal. */
+static void put_table(struct lent *lent, uint8_t kind) {
+    uint8_t *table = lent->bytes[TABLE];
+    memcpy(table, table_p, sizeof table_p);
+    table[12] ^= kind & 1;
+    table[13] ^= kind >> 1 & 1;
+    table[17] ^= kind >> 2 & 1;
+}
+
+/* An empty board with columns of any one byte, or a board that is almost full; and a schedule played on it. */
+static void reach(struct lent *lent) {
+    uint8_t kind = take(), byte = take();
+    uint16_t almost = GV_MESSAGES - 2;
+    for (int list = 0; list < LISTS; list++)
+        memset(lent->bytes[list], kind & 8 ? 0 : byte, (right[list] + 1) * element[list]);
+    put_table(lent, kind);
+    memcpy(lent->length, right, sizeof right);
+    lay(lent, 1);
+    demand(gv_open(LENT_BOARD) == 0, "table P is refused", OPEN, 0);
+    if (kind & 8)
+        memcpy(at[BOARD], &almost, sizeof almost);
+    for (int calls = take() % 64; calls > 0; calls--)
+        play(lent);
+    keep(lent);
+}
+
+/* One element of the table, the board or the columns becomes another number. */
+static void edit(struct lent *lent) {
+    int list = take() % (MESSAGES + 1);
+    size_t place = number() % right[list];
+    uint64_t value = number();
+    memcpy(lent->bytes[list] + place * element[list], &value, element[list]);
+}
+
+/* The lists of a replay, filled from the input. */
+static void fill_replay(struct lent *lent) {
+    size_t calls = take() % (REPLAYED + 1);
+    for (int list = KINDS; list <= ANSWERS; list++)
+        lent->length[list] = calls;
+    for (size_t i = 0; i < calls; i++)
+        for (int list = KINDS; list <= AMOUNTS; list++) {
+            uint64_t value = list == KINDS ? take() % 4 : number();
+            memcpy(lent->bytes[list] + i * element[list], &value, element[list]);
+        }
+}
+
+/* One length off by one, or 0. */
+static void stretch(struct lent *lent) {
+    int list = take() % LISTS;
+    size_t length = lent->length[list];
+    const size_t others[3] = {length <= right[list] ? length + 1 : length, length > 0 ? length - 1 : 0, 0};
+    lent->length[list] = others[take() % 3];
+}
+
+int LLVMFuzzerTestOneInput(const uint8_t *data, size_t size) {
+    static const size_t out_numbers[CALLS] = {1, 1, 1, 1, 1, GV_MESSAGE_NUMBERS, GV_MATCH_NUMBERS, 1, 1};
+    static struct lent lent;
+    if (room[0] == NULL)
+        make_rooms();
+    input = data;
+    input_left = size;
+    enum call call = take() % CALLS;
+    reach(&lent);
+    for (int edits = take() % 6; edits > 0; edits--)
+        edit(&lent);
+    lent.first = (uint16_t)number();
+    lent.channel = (uint16_t)number();
+    lent.property = (uint32_t)number();
+    lent.amount = (int64_t)number();
+    lent.length[OUT] = out_numbers[call];
+    if (call == REPLAY)
+        fill_replay(&lent);
+    for (int odd = take(); odd > 200; odd -= 30)
+        stretch(&lent);
+    count(&lent, call, call_twice(&lent, call));
+    return 0;
+}
