@@ -94,7 +94,8 @@ crate_tests
 try "the comparison, compiled" crates build -p differential
 try "a million calls compared" "$differential" --calls 1000000
 sed 's/^/  /' "$work/said"
-try "the comparison under valgrind" careful "$differential" --calls 2000
+# Every word is answered in these 2,000 calls.
+try "the comparison under valgrind" careful "$differential" --calls 2000 --seed 10
 try "the example in C under valgrind" prints bindings/c/table_p.out careful "$work/table_p"
 for fault in column read; do
     try "a fault put in: $fault" finds "$fault"

@@ -2,38 +2,9 @@
  *
  *     cc table_p.c -L ../../target/staticlib -lhost -o table_p && ./table_p
  */
-#include <stddef.h>
-#include <stdint.h>
 #include <stdio.h>
 
-#if defined(__has_include)
-#if __has_include("gevnyusto.h")
 #include "gevnyusto.h"
-#define HAVE_HEADER
-#endif
-#endif
-
-#ifndef HAVE_HEADER
-#define COLUMNS_DECLARED(POINTER)                                                                                      \
-    uint8_t POINTER channels, size_t channels_len, uint32_t POINTER properties, size_t properties_len,                 \
-        int64_t POINTER cents, size_t cents_len, uint8_t POINTER statuses, size_t statuses_len,                        \
-        uint16_t POINTER matched, size_t matched_len, uint16_t POINTER wakers, size_t wakers_len,                      \
-        uint8_t POINTER chords, size_t chords_len, uint16_t POINTER messages, size_t messages_len
-
-uint8_t gv_open(const uint8_t *table, size_t table_len, uint16_t *board, size_t board_len);
-uint32_t gv_add(const uint8_t *table, size_t table_len, uint16_t *board, size_t board_len, COLUMNS_DECLARED(*),
-                uint16_t sender, uint16_t channel, uint32_t property, int64_t cents_added);
-uint32_t gv_step(const uint8_t *table, size_t table_len, uint16_t *board, size_t board_len, COLUMNS_DECLARED(*),
-                 uint16_t sender);
-uint8_t gv_read_match(const uint8_t *table, size_t table_len, const uint16_t *board, size_t board_len,
-                      COLUMNS_DECLARED(const *), uint16_t number, int64_t *out, size_t out_len);
-uint8_t gv_read_reply(const uint8_t *table, size_t table_len, const uint16_t *board, size_t board_len,
-                      COLUMNS_DECLARED(const *), uint16_t sender, int64_t *out, size_t out_len);
-uint8_t gv_quiet(const uint8_t *table, size_t table_len, const uint16_t *board, size_t board_len,
-                 COLUMNS_DECLARED(const *), int64_t *out, size_t out_len);
-#endif
-
-enum { REFUSED = 17 };
 
 /* Channel 0 leaves, channel 1 waits; chord 0 joins one of each with equal property numbers. */
 static const uint8_t table[20] = {2, 0, 1, 0, 2, 0, 12, 0, 14, 0, 18, 0, 0, 1, 0, 0, 2, 1, 0, 1};
@@ -60,7 +31,7 @@ static int say(uint16_t sender, uint32_t answer) {
         printf("  sender %u: %s\n", (unsigned)sender, words[word]);
     else
         printf("  sender %u: %s %u\n", (unsigned)sender, words[word], value);
-    return word == REFUSED;
+    return word == GV_REFUSED;
 }
 
 /* Steps a sender until a step is refused. */
