@@ -1,14 +1,15 @@
 -- What the test of senders sees of a board: its counts and its messages' channels. And the parts of that test.
 use mathlib.Core.Path.{_≡_}
-use mathlib.Core.Bool.{Bool, true, false, _&&_, not}
-use mathlib.Core.List.{List}
-use Prim.Native.Nat.{ℕ, _<_, _≤_}
+use mathlib.Core.Bool.{Bool, true, false, _&&_, _||_, not}
+use mathlib.Core.List.{List, [], _∷_}
+use Prim.Native.Nat.{ℕ, _+_, _<_, _≤_}
 use lib.Dec.{eqb, ltb}
 use lib.ListN.{length, getD}
-use Rattle.model.specs.Basics.{pick, isIn}
+use Rattle.model.specs.Basics.{pick, isIn, every}
 use Rattle.model.specs.Tables.{Table, chordAt, isSync}
-use Rattle.model.specs.Boards.{Board, Sender, channelOf, isIdle}
-use Rattle.model.specs.Sound.{owns}
+use Rattle.model.specs.Boards.{Board, channelOf}
+use Rattle.state.specs.declared.Sender as DD
+use Rattle.state.specs.Views.{idleIs}
 
 -- a board of n messages in these channels and of so many matches
 pub record Seen (b : Board) (n matches : ℕ) (channels : List ℕ) : Type 0 where
@@ -37,6 +38,11 @@ abbrev pub bit : Bool → ℕ
 bit true = 1
 bit false = 0
 
--- neither sender is idle, and both have the same own message
-abbrev pub shared : Sender → Sender → Bool
-shared d e = not (isIdle (d .state)) && owns (d .own) e
+-- what no two senders may have in common: the own message plus 1, 0 for an idle sender
+abbrev pub markBy : DD.Sender → ℕ
+markBy d = pick (idleIs (d .state)) 0 (d .own + 1)
+
+-- no mark but 0 stands twice
+abbrev pub noneTwice : List ℕ → Bool
+noneTwice [] = true
+noneTwice (m ∷ ms) = (eqb m 0 || every (λ x. not (eqb x m)) ms) && noneTwice ms

@@ -12,7 +12,7 @@ ghost use Rattle.model.specs.Steps.{toTell};
 ghost use Rattle.model.specs.Layout.{tableRefusal, tableOf};
 ghost use Rattle.model.specs.Sound.{allBelow, placeOk, jobOk, stateOk, senderOk, noneShared};
 ghost use Rattle.state.specs.Views.{phaseIn, chosenBy, jobIn, stateIn, senderIn};
-ghost use Rattle.senders.specs.Seen.{Seen, Known, channelIn, inChord, isTold, bit, shared};
+ghost use Rattle.senders.specs.Seen.{Seen, Known, channelIn, inChord, isTold, bit, markBy, noneTwice};
 use state::Job;
 use state::Phase;
 use state::Sender;
@@ -299,30 +299,59 @@ pub fn sender_ok(table: &[u8], d: Sender, n: u16, matches: u16, channels: &[u8])
     (d.own <= n) & ((d.waker <= n) & ((d.reply <= matches) & ((d.matched <= matches) & state)))
 }
 
-// Whether two senders that are not idle have the same own message.
-fn shares(d: Sender, e: Sender) -> bool
-    ensures { λ r. ⌜ ((t : MT.Table) → r ≡ shared (senderIn t d) (senderIn t e)) ⌝ }
+// What no two senders may have in common: the own message plus 1, 0 for an idle sender.
+fn mark(d: Sender) -> u32
+    ensures { λ r. ⌜ r ≡ markBy d ⌝ }
 {
-    let first = d.state;
-    let second = e.state;
-    let idle = state::is_idle(first);
-    let other = state::is_idle(second);
-    !idle & (!other & (e.own == d.own))
+    let s = d.state;
+    if state::is_idle(s) {
+        return 0;
+    }
+    d.own as u32 + 1
 }
 
-// Whether sender i shares its own message with none of those after it.
-fn is_alone(senders: [Sender; 32], i: usize) -> bool
-    requires { ⌜ i < 32 ⌝ }
-    ensures { λ r. ⌜ ((t : MT.Table) → noneShared (map (senderIn t) (drop i senders))
-        ≡ (r && noneShared (map (senderIn t) (drop (i + 1) senders)))) ⌝ }
+// The marks of all senders.
+fn marks_of(senders: [Sender; 32]) -> [u32; 32]
+    ensures { λ r. ⌜ r ≡ map markBy senders ⌝ }
 {
-    let d = senders[i];
+    let mut r = [0u32; 32];
+    let mut i: usize = 0;
+    while i < 32 {
+        r[i] = mark(senders[i]);
+        i += 1;
+    }
+    r
+}
+
+// Whether mark i is 0 or none of those after it.
+fn is_alone(marks: &[u32], i: usize) -> bool
+    requires { ⌜ i < length (now marks) ⌝ }
+    ensures { λ r. ⌜ noneTwice (drop i (now (marks .entry))) ≡ (r && noneTwice (drop (i + 1) (now (marks .entry)))) ⌝ }
+{
+    let m = marks[i];
+    if m == 0 {
+        return true;
+    }
     let mut k = i + 1;
-    while k < 32 {
-        if shares(d, senders[k]) {
+    while k < marks.len() {
+        if marks[k] == m {
             return false;
         }
         k += 1;
+    }
+    true
+}
+
+// Whether no mark but 0 stands twice.
+fn none_twice(marks: &[u32]) -> bool
+    ensures { λ r. ⌜ r ≡ noneTwice (now (marks .entry)) ⌝ }
+{
+    let mut i: usize = 0;
+    while i < marks.len() {
+        if !is_alone(marks, i) {
+            return false;
+        }
+        i += 1;
     }
     true
 }
@@ -331,14 +360,8 @@ fn is_alone(senders: [Sender; 32], i: usize) -> bool
 pub fn none_shared(senders: [Sender; 32]) -> bool
     ensures { λ r. ⌜ ((t : MT.Table) → r ≡ noneShared (map (senderIn t) senders)) ⌝ }
 {
-    let mut i: usize = 0;
-    while i < 32 {
-        if !is_alone(senders, i) {
-            return false;
-        }
-        i += 1;
-    }
-    true
+    let marks = marks_of(senders);
+    none_twice(&marks)
 }
 
 // Whether each sender is sound by itself.

@@ -1,67 +1,54 @@
--- `senders::is_alone` meets its contract: the answer for those after sender i is the answer for those left.
--- The measure is the number of senders left.
+-- `senders::is_alone` meets its contract: the answer for those after mark i is the answer for those left.
 use mathlib.Core.Path.{_≡_, sym, ap, _∙_}
 use mathlib.Core.Bool.{Bool, _&&_}
-use mathlib.Core.List.{map}
 use Prim.Native.Nat.{_+_, _≤_, _-_}
 use native.Mathlib.Omega.{arith}
-use lib.ListN.{length, drop}
-use Rattle.model.specs.Tables.{Table}
-use Rattle.model.specs.Sound.{noneShared}
-use Rattle.state.specs.Views.{senderIn}
-use Rattle.senders.proofs.Alone.{alone, shared-step, alone-no, alone-yes, alone-end}
 use borrow.Author.Needs.{needs}
+use lib.ListN.{length, drop}
+use Rattle.senders.specs.Seen.{noneTwice}
+use Rattle.senders.proofs.Alone.{alone, alone-no, alone-yes, alone-end, twice-idle, twice-step}
 use Rattle.senders.proofs.is_alone.Statement.{statement}
 use Rattle.senders.proofs.is_alone.Tie as tie
 
 abbrev Inv-loop : tie.InvT-loop
-Inv-loop i senders d k₀ k = (k ≤ 32) × ((t : Table) → noneShared (map (senderIn t) (drop i senders))
-    ≡ (alone (senderIn t d) (map (senderIn t) (drop k senders))
-    && noneShared (map (senderIn t) (drop (i + 1) senders))))
+Inv-loop marks i m k₀ k = (k ≤ length marks) × (noneTwice (drop i marks) ≡ (alone m (drop k marks) && noneTwice (drop (i + 1) marks)))
 
 abbrev μ-loop : tie.MeasureT-loop
-μ-loop i senders d k₀ k = 32 - k
+μ-loop marks i m k₀ k = length marks - k
 
-count : (s : tie.Start Inv-loop μ-loop) → length (s .args .t1) ≡ 32
-count s = s .good .0 .1 .0 .1
+mul-m : tie.Need-mul-m Inv-loop μ-loop
+mul-m c = search needs
 
--- the answer for sender i, with that for those after it
-abbrev with-rest : tie.Start Inv-loop μ-loop → Table → Bool → Bool
-with-rest s t x = x && noneShared (map (senderIn t) (drop (s .args .i + 1) (s .args .t1)))
+shared-slice-read-m : tie.Need-shared-slice-read-m Inv-loop μ-loop
+shared-slice-read-m c = search needs
 
-mul-d : tie.Need-mul-d Inv-loop μ-loop
-mul-d c = search needs
-
-array-copy-out-d : tie.Need-array-copy-out-d Inv-loop μ-loop
-array-copy-out-d c = search needs
+returns : tie.Need-returns Inv-loop μ-loop
+returns c =
+    let a = c .before .before .args in
+    twice-idle (a .marks .now) (a .i) (c .before .before .pre) (c .if1 .taken)
 
 add-k : tie.Need-add-k Inv-loop μ-loop
 add-k c = search needs
 
 loop-holds : tie.Need-loop-holds Inv-loop μ-loop
 loop-holds c =
-    let s = c .before in
-    let l = count s in
-    (search needs, λ t. shared-step (senderIn t) (s .args .t1) _ (s .args .i) (omega arith))
+    let s = c .before .before in
+    let a = s .args in
+    (omega (arith, s .pre), twice-step (a .marks .now) (a .i) (s .pre) (c .if1 .left))
 
-mul-shares : tie.Need-mul-shares Inv-loop μ-loop
-mul-shares c = search needs
+mul-if2 : tie.Need-mul-if2 Inv-loop μ-loop
+mul-if2 c = search needs
 
-array-copy-out-shares : tie.Need-array-copy-out-shares Inv-loop μ-loop
-array-copy-out-shares c = search needs
+shared-slice-read-if2 : tie.Need-shared-slice-read-if2 Inv-loop μ-loop
+shared-slice-read-if2 c = search needs
 
-shares-requires : tie.Need-shares-requires Inv-loop μ-loop
-shares-requires c κs = search needs
-
-returns : tie.Need-returns Inv-loop μ-loop
-returns c t =
-    let q = c .before in
-    let p = q .before .before .before in
-    let s = p .before .before in
-    let l = count s in
-    p .loop .inv .1 t
-    ∙ ap (with-rest s t)
-    (alone-no (senderIn t) (s .args .t1) _ _ (p .loop .k) (omega arith) (sym (q .shares .ensures t) ∙ c .if1 .taken))
+returns-2 : tie.Need-returns-2 Inv-loop μ-loop
+returns-2 c =
+    let p = c .before .before .before in
+    let a = p .before .before .before .args in
+    p .loop .inv .1
+    ∙ ap (λ x. x && noneTwice (drop (a .i + 1) (a .marks .now)))
+    (alone-no (a .marks .now) _ (p .loop .k) (omega arith) (c .if2 .taken))
 
 add-k-2 : tie.Need-add-k-2 Inv-loop μ-loop
 add-k-2 c = search needs
@@ -71,23 +58,20 @@ loop-less c = search needs
 
 loop-again : tie.Need-loop-again Inv-loop μ-loop
 loop-again c =
-    let q = c .before in
-    let p = q .before .before .before in
-    let s = p .before .before in
-    let l = count s in (
+    let p = c .before .before .before in
+    let a = p .before .before .before .args in (
       search needs,
-      λ t. p .loop .inv .1 t
-          ∙ ap (with-rest s t)
-          (alone-yes (senderIn t) (s .args .t1) _ _ (p .loop .k) (omega arith)
-          (sym (q .shares .ensures t) ∙ c .if1 .left)),
+      p .loop .inv .1
+          ∙ ap (λ x. x && noneTwice (drop (a .i + 1) (a .marks .now)))
+          (alone-yes (a .marks .now) _ (p .loop .k) (omega arith) (c .if2 .left)),
     )
 
-returns-2 : tie.Need-returns-2 Inv-loop μ-loop
-returns-2 c t =
+returns-3 : tie.Need-returns-3 Inv-loop μ-loop
+returns-3 c =
     let p = c .before in
-    let s = p .before .before in
-    let l = count s in
-    p .loop .inv .1 t ∙ ap (with-rest s t) (alone-end (senderIn t) (s .args .t1) _ (p .loop .k) (omega arith))
+    let a = p .before .before .before .args in
+    p .loop .inv .1
+    ∙ ap (λ x. x && noneTwice (drop (a .i + 1) (a .marks .now))) (alone-end (a .marks .now) _ (p .loop .k) (omega arith))
 
 pub is-alone-spec : {M : Type 1} → statement M
 is-alone-spec =
@@ -95,15 +79,15 @@ is-alone-spec =
     (tie.spec
     Inv-loop
     μ-loop
-    mul-d
-    array-copy-out-d
+    mul-m
+    shared-slice-read-m
+    returns
     add-k
     loop-holds
-    mul-shares
-    array-copy-out-shares
-    shares-requires
-    returns
+    mul-if2
+    shared-slice-read-if2
+    returns-2
     add-k-2
     loop-less
     loop-again
-    returns-2)
+    returns-3)
