@@ -39,7 +39,8 @@ use Rattle.adds.proofs.AddLaws.{withMessage, added-is}
 use Rattle.applies.specs.Writes.{Sure}
 use Rattle.applies.proofs.ApplyLaws.{Whole, applied}
 use Rattle.moves.specs.declared.Move as DM
-use Rattle.moves.specs.Moves.{placeOf, refusesBy, movedBoard, movedHeld, Read, reads, heldOf, Stands, Fits, PlaysMoved}
+use Rattle.moves.specs.Moves.{placeOf, refusesBy, movedBoard, movedHeld, Read}
+use Rattle.moves.specs.Moves.{reads, heldOf, Stands, Fits, PlaysMoved}
 use Rattle.moves.proofs.StepLaws.{SenderIs, chords-fit, does-says, does-leaves, effect-accepted}
 use Rattle.moves.proofs.AddLaws.{Wrote, add-refused, add-plays}
 use Rattle.moves.proofs.AfterLaws.{statuses-after, messages-beyond, matches-beyond, lengths-after}

@@ -78,13 +78,15 @@ senders-long (G.Record n) ds = refl
 senders-long (G.Signal n) ds = length-map ds (signalledBy n)
 
 -- the board after a move, by its counts and senders
-pub moved-by : (b : DB.Board) (i : ℕ) (m : DM.Move) (n k : ℕ) (ds : List DD.Sender) → n ≡ messagesBy (m .adds) (b .messages)
+pub moved-by : (b : DB.Board) (i : ℕ) (m : DM.Move) (n k : ℕ) (ds : List DD.Sender)
+    → n ≡ messagesBy (m .adds) (b .messages)
     → k ≡ matchesBy (m .change) (b .matches) → ds ≡ sendersBy (m .change) (set (b .senders) i (m .sender))
     → record { messages = n; matches = k; senders = ds } ≡ movedBoard b i m
 moved-by b i m n k ds en ek ed = rw (en, ek, ed)
 
 -- the columns, written, are those of what is held after the move
-pub written-held : (b : DB.Board) (i n k : ℕ) (m : DM.Move) (ch pr : List ℕ) (ce : List ℤ) (st ma wa cs ms ch′ pr′ : List ℕ)
+pub written-held : (b : DB.Board) (i n k : ℕ) (m : DM.Move) (ch pr : List ℕ) (ce : List ℤ)
+    (st ma wa cs ms ch′ pr′ : List ℕ)
     (ce′ : List ℤ) (st₁ ma₁ wa₁ st′ ma′ wa′ cs′ ms′ : List ℕ) → b .messages ≡ n → b .matches ≡ k
     → Put n (m .channel) (m .property) (m .cents) ch pr ce st ma wa ch′ pr′ ce′ st₁ ma₁ wa₁ (m .adds)
     → Written k (m .sender .job .chord) (m .sender .job .chosen) st₁ ma₁ wa₁ cs ms st′ ma′ wa′ cs′ ms′ (m .change)
@@ -95,10 +97,12 @@ written-held b i n k m ch pr ce st ma wa cs ms ch′ pr′ ce′ st₁ ma₁ wa�
 module _ (b : DB.Board) (i : ℕ) (m : DM.Move) (ch pr : List ℕ) (ce : List ℤ) (st ma wa cs ms : List ℕ) where
   -- a move that adds nothing is its change, written
   pub written-step : (st′ ma′ wa′ cs′ ms′ : List ℕ) → m .adds ≡ false
-      → Written (b .matches) (m .sender .job .chord) (m .sender .job .chosen) st ma wa cs ms st′ ma′ wa′ cs′ ms′ (m .change)
+      → Written (b .matches) (m .sender .job .chord) (m .sender .job .chosen) st ma wa cs ms st′ ma′ wa′ cs′ ms′
+      (m .change)
       → heldBy (movedBoard b i m) ch pr ce st′ ma′ wa′ cs′ ms′ ≡ movedHeld (heldBy b ch pr ce st ma wa cs ms) i m
   written-step st′ ma′ wa′ cs′ ms′ e w =
-      written-held b i (b .messages) (b .matches) m ch pr ce st ma wa cs ms ch pr ce st ma wa st′ ma′ wa′ cs′ ms′ refl refl
+      written-held b i (b .messages) (b .matches) m ch pr ce st ma wa cs ms ch pr ce st ma wa st′ ma′ wa′ cs′ ms′
+      refl refl
       (put-by (b .messages) (m .channel) (m .property) (m .cents) ch pr ce st ma wa ch pr ce st ma wa (m .adds) false e
       (refl, refl, refl, refl, refl, refl)) w
 
@@ -107,7 +111,7 @@ module _ (b : DB.Board) (i : ℕ) (m : DM.Move) (ch pr : List ℕ) (ce : List �
       → Put (b .messages) (m .channel) (m .property) (m .cents) ch pr ce st ma wa ch′ pr′ ce′ st′ ma′ wa′ (m .adds)
       → heldBy (movedBoard b i m) ch′ pr′ ce′ st′ ma′ wa′ cs ms ≡ movedHeld (heldBy b ch pr ce st ma wa cs ms) i m
   written-add ch′ pr′ ce′ st′ ma′ wa′ e p =
-      written-held b i (b .messages) (b .matches) m ch pr ce st ma wa cs ms ch′ pr′ ce′ st′ ma′ wa′ st′ ma′ wa′ cs ms refl
-      refl p
+      written-held b i (b .messages) (b .matches) m ch pr ce st ma wa cs ms ch′ pr′ ce′ st′ ma′ wa′ st′ ma′ wa′ cs ms
+      refl refl p
       (written-by (b .matches) (m .sender .job .chord) (m .sender .job .chosen) st′ ma′ wa′ cs ms st′ ma′ wa′ cs ms
       (m .change) G.None e (refl, refl, refl, refl, refl))

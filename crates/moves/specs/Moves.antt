@@ -125,4 +125,5 @@ pub record Stands (s : List ℕ) (r : Read) : Type 0 where
 -- move m is call k on every such board
 abbrev pub PlaysMoved : List ℕ → Read → Call → DM.Move → Type 0
 PlaysMoved s r k m =
-    (p : Stands s r) → Plays s (heldOf r (p .others)) k (saidIn (m .said)) (movedHeld (heldOf r (p .others)) (r .place) m)
+    (p : Stands s r) → Plays s (heldOf r (p .others)) k (saidIn (m .said))
+    (movedHeld (heldOf r (p .others)) (r .place) m)

@@ -33,7 +33,8 @@ fits : (q : tie.After-add-move)
     Fits (a .t2 .messages) (a .t2 .matches) (q .add-move .result)
 fits q =
     let a = begun (placed q) .args in
-    q .add-move .ensures .0 (a .t2 .matches) (a .channels .now) (a .properties .now) (a .statuses .now) (a .matched .now)
+    q .add-move .ensures .0 (a .t2 .matches) (a .channels .now) (a .properties .now) (a .statuses .now)
+    (a .matched .now)
     (a .wakers .now) .1
 
 place-of-requires : tie.Need-place-of-requires
@@ -49,7 +50,8 @@ element-copy-out-d : tie.Need-element-copy-out-d
 element-copy-out-d c = search needs
 
 add-move-requires : tie.Need-add-move-requires
-add-move-requires c κs = let s = c .before .before .before .before .before .before .before .before .before .before in table-accepted _ _ _ _ (s .pre)
+add-move-requires c κs = let s = c .before .before .before .before .before .before .before .before .before .before in
+    table-accepted _ _ _ _ (s .pre)
 
 put-added-requires : tie.Need-put-added-requires
 put-added-requires c κs =
@@ -66,7 +68,8 @@ put-added-requires c κs =
 
 moved-requires : tie.Need-moved-requires
 moved-requires c κs =
-    let q = c .before .before .before .before .before .before .before .before .before .before .before .before .before .before .before .before .before .before in
+    let q = c .before .before .before .before .before .before .before .before .before .before .before .before .before
+    .before .before .before .before .before in
     let w = placed q in
     let e = begun w .pre in
     (w .place-of .ensures .1, messages-few _ _ _ _ e, matches-few _ _ _ _ e, fits q)
@@ -101,7 +104,8 @@ returns c =
     let e = q .add-move .ensures in
     by-cents (toZ-ofZ w64 (a .amount) (s .fits .amount))
     (moved-plays t (lent s) (adds (a .i) (sent (a .channel) (a .property) _)) _ (q .add-move .result) _ _ _ _ _ (sym i)
-    (e .0 (a .t2 .matches) (a .channels .now) (a .properties .now) (a .statuses .now) (a .matched .now) (a .wakers .now) .0
+    (e .0 (a .t2 .matches) (a .channels .now) (a .properties .now) (a .statuses .now) (a .matched .now)
+    (a .wakers .now) .0
     (standsAt t (lent s) _ _ (s .pre) i))
     (written-add (a .t2) _ (q .add-move .result) _ _ _ _ _ _ _ _ _ _ _ _ _ _ (e .1) (u .put-added .ensures))
     (c .moved .ensures))

@@ -41,7 +41,8 @@ passed : (y : tie.Else1)
     (a .i < 32) × (a .channel < length (tableOf (a .table .now) .kinds)) × (a .n < 1024)
 passed y =
     let a = begun (y .before) .args in
-    unrefused (tableOf (a .table .now)) _ (idleIs (a .d .state)) _ (a .amount) _ (sym (refused-by (y .before)) ∙ y .if1 .left)
+    unrefused (tableOf (a .table .now)) _ (idleIs (a .d .state)) _ (a .amount) _
+    (sym (refused-by (y .before)) ∙ y .if1 .left)
 
 add-refusal-requires : tie.Need-add-refusal-requires
 add-refusal-requires c κs = search needs

@@ -22,7 +22,8 @@ enum-known-call : tie.Need-enum-known-call
 enum-known-call c = search needs
 
 add-move-requires : tie.Need-add-move-requires
-add-move-requires c κs = let s = c .before .before .before .before .before .before .before .before .before in table-accepted _ _ _ _ (s .pre .accepted)
+add-move-requires c κs = let s = c .before .before .before .before .before .before .before .before .before in
+    table-accepted _ _ _ _ (s .pre .accepted)
 
 enum-known-call-2 : tie.Need-enum-known-call-2
 enum-known-call-2 c = search needs
@@ -43,7 +44,8 @@ returns c =
     let back = toZ-ofZ w64 (k .call .given .0 .1 .1 .1 .0) (record { sfits = fits }) in
     let e = c .add-move .ensures .0 (a .k) (a .channels .now) (a .properties .now) (a .statuses .now) (a .matched .now)
     (a .wakers .now) in
-    subst (λ (x : DC.Call). IsMove (a .table .now) (view s x) (callIn x) (c .add-move .result)) (sym (k .call .given .1))
+    subst (λ (x : DC.Call). IsMove (a .table .now) (view s x) (callIn x) (c .add-move .result))
+    (sym (k .call .given .1))
     (rw back at e)
 
 returns-2 : tie.Need-returns-2

@@ -56,9 +56,11 @@ write-move-requires c κs =
 
 moved-requires : tie.Need-moved-requires
 moved-requires c κs =
-    let q = c .before .before .before .before .before .before .before .before .before .before .before .before .before .before .before .before .before .before .before .before .before .before .before .before in
+    let q = c .before .before .before .before .before .before .before .before .before .before .before .before .before
+    .before .before .before .before .before .before .before .before .before .before .before in
     let s = begun (placed q) in
-    (placed q .place-of .ensures .1, messages-few _ _ _ _ (s .pre), matches-few _ _ _ _ (s .pre), q .move-of .ensures .1)
+    let f = messages-few _ _ _ _ (s .pre) in
+    (placed q .place-of .ensures .1, f, matches-few _ _ _ _ (s .pre), q .move-of .ensures .1)
 
 same-length : tie.Need-same-length
 same-length c = search needs
@@ -86,7 +88,8 @@ same-length-8 c = search needs
 
 returns : tie.Need-returns
 returns c =
-    let w = c .before .before .before .before .before .before .before .before .before .before .before .before .before .before .before .before in
+    let w = c .before .before .before .before .before .before .before .before .before .before .before .before .before
+    .before .before .before in
     let q = w .before .before .before .before .before .before .before .before .before in
     let p = placed q in
     let s = begun p in

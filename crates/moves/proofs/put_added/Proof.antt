@@ -55,7 +55,8 @@ returns-2 c =
     let m = s .args .m in
     let e = w .put-message .ensures in
     let back = toZ-ofZ w64 (m .cents) (record { sfits = w .before .struct-told .given .1 .1 .1 .1 .1 .0 .1 }) in
-    put-by (s .args .n) (m .channel) (m .property) (m .cents) _ _ _ _ _ _ _ _ _ _ _ _ (m .adds) true (not-false _ (y .if1 .left)) (e .0, e .1, e .2 ∙ ap (set (s .args .cents .now) (s .args .n)) back, e .3, e .4, e .5)
+    put-by (s .args .n) (m .channel) (m .property) (m .cents) _ _ _ _ _ _ _ _ _ _ _ _ (m .adds) true
+    (not-false _ (y .if1 .left)) (e .0, e .1, e .2 ∙ ap (set (s .args .cents .now) (s .args .n)) back, e .3, e .4, e .5)
 
 pub put-added-spec : {M : Type 1} → statement M
 put-added-spec =

@@ -18,7 +18,8 @@ use Rattle.judges.proofs.Refusals.{table-accepted, lent-whole, messages-few}
 use Rattle.steps.proofs.StateSteps.{refused-is}
 use Rattle.applies.specs.Writes.{Sure}
 use Rattle.moves.specs.Moves.{placeOf, Read, reads, Stands}
-use Rattle.moves.proofs.StepLaws.{SenderIs, past-senders, by-state, refused-plays, others, is-ready, does-it, is-sure}
+use Rattle.moves.proofs.StepLaws.{SenderIs, past-senders, by-state, refused-plays}
+use Rattle.moves.proofs.StepLaws.{others, is-ready, does-it, is-sure}
 use Rattle.moves.proofs.MoveLaws.{h, refused-move, refuses-move, sender-is, step-move}
 use Rattle.moves.proofs.step_move.Statement.{statement}
 use Rattle.moves.proofs.step_move.Tie as tie
@@ -111,7 +112,8 @@ returns-2 c =
           (λ p. refused-move t (view s) p (steps (a .i)) 13
           (refused-plays t (h t (view s) p) (p .accepted) (a .i) 13
           (by-state (tableOf t) (boardOf t (h t (view s) p)) (a .i) _
-          (sender-is t (view s) p (a .i) refl (omega (arith, k .before .if1 .left)) (tableOf t) (h t (view s) p .columns)
+          (sender-is t (view s) p (a .i) refl (omega (arith, k .before .if1 .left)) (tableOf t)
+          (h t (view s) p .columns)
           (h t (view s) p .matches))
           (omega (arith, k .before .if1 .left))
           ∙ refused-is (tableOf t) (boardOf t (h t (view s) p)) (a .d)

@@ -10,8 +10,10 @@ put-added-requires c κs = search needs
 
 write-change-requires : tie.Need-write-change-requires
 write-change-requires c κs =
-    let w = c .before .before .before .before .before .before .before .before .before .before .before .before .before .before .before .before .before .before in
-    let s = w .before .before .before .before .before .before .before .before .before .before .before .before .before .before in
+    let w = c .before .before .before .before .before .before .before .before .before .before .before .before .before
+    .before .before .before .before .before in
+    let s = w .before .before .before .before .before .before .before .before .before .before .before .before .before
+    .before in
     let a = s .args in
     let l = s .pre .2 in
     let k = w .put-added .kept in
@@ -51,8 +53,10 @@ same-length-8 c = search needs
 returns : tie.Need-returns
 returns c =
     let w = c .before .before .before .before .before .before .before .before .before .before in
-    let q = w .before .before .before .before .before .before .before .before .before .before .before .before .before .before .before .before .before .before .before in
-    let s = q .before .before .before .before .before .before .before .before .before .before .before .before .before .before in
+    let q = w .before .before .before .before .before .before .before .before .before .before .before .before .before
+    .before .before .before .before .before .before in
+    let s = q .before .before .before .before .before .before .before .before .before .before .before .before .before
+    .before in
     let a = s .args in
     λ b i en ek. written-held b i (a .n) (a .k) (a .m) _ _ _ _ _ _ _ _ _ _ _ _ _ _ _ _ _ _ _ en ek
     (q .put-added .ensures) (w .write-change .ensures)

@@ -49,7 +49,8 @@ abbrev decided : tie.After-write-move Inv-loop μ-loop → tie.After-move-of Inv
 decided c = c .before .before .before .before .before .before .before .before .before
 
 abbrev written : tie.After-e Inv-loop μ-loop → tie.After-write-move Inv-loop μ-loop
-written c = c .before .before .before .before .before .before .before .before .before .before .before .before .before .before .before .before
+written c = c .before .before .before .before .before .before .before .before .before .before .before .before .before
+    .before .before .before
 
 -- the caller's place
 place-is : (c : tie.After-place-of Inv-loop μ-loop)
@@ -66,7 +67,8 @@ lent s =
 abbrev holds : tie.At-loop Inv-loop μ-loop → Held
 holds c =
     let l = c .loop in
-    heldBy (l .r) (l .channels) (l .properties) (l .cents) (l .statuses) (l .matched) (l .wakers) (l .chords) (l .messages)
+    heldBy (l .r) (l .channels) (l .properties) (l .cents) (l .statuses) (l .matched) (l .wakers) (l .chords)
+    (l .messages)
 
 abbrev stood : (c : tie.After-place-of Inv-loop μ-loop)
     → Stands (begun (looped c) .args .table .now)
@@ -83,7 +85,8 @@ few c = (messages-few _ _ _ _ (c .loop .inv .1 .accepted), matches-few _ _ _ _ (
 signal-fits : (c : tie.After-e Inv-loop μ-loop) → SignalFits (moving c .move-of .result .change)
 signal-fits c =
     let l = looped (placed (moving c)) in
-    sure-signal (l .loop .r .messages) (l .loop .r .matches) (moving c .move-of .result .change) (moving c .move-of .ensures .1 .sure)
+    sure-signal (l .loop .r .messages) (l .loop .r .matches) (moving c .move-of .result .change)
+    (moving c .move-of .ensures .1 .sure)
 
 -- what is held after the turn
 abbrev turned : tie.Joined1 Inv-loop μ-loop → tie.After-e Inv-loop μ-loop

@@ -11,7 +11,8 @@ use Rattle.senders.proofs.is_alone.Statement.{statement}
 use Rattle.senders.proofs.is_alone.Tie as tie
 
 abbrev Inv-loop : tie.InvT-loop
-Inv-loop marks i m k₀ k = (k ≤ length marks) × (noneTwice (drop i marks) ≡ (alone m (drop k marks) && noneTwice (drop (i + 1) marks)))
+Inv-loop marks i m k₀ k = (k ≤ length marks) ×
+    (noneTwice (drop i marks) ≡ (alone m (drop k marks) && noneTwice (drop (i + 1) marks)))
 
 abbrev μ-loop : tie.MeasureT-loop
 μ-loop marks i m k₀ k = length marks - k
@@ -71,7 +72,8 @@ returns-3 c =
     let p = c .before in
     let a = p .before .before .before .args in
     p .loop .inv .1
-    ∙ ap (λ x. x && noneTwice (drop (a .i + 1) (a .marks .now))) (alone-end (a .marks .now) _ (p .loop .k) (omega arith))
+    ∙ ap (λ x. x && noneTwice (drop (a .i + 1) (a .marks .now)))
+    (alone-end (a .marks .now) _ (p .loop .k) (omega arith))
 
 pub is-alone-spec : {M : Type 1} → statement M
 is-alone-spec =

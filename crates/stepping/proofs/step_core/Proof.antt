@@ -45,7 +45,8 @@ write-change-requires c κs =
     let q = c .before .before .before .before .before .before .before in
     let s = begun (placed q) in
     let l = lent-whole _ _ _ _ (s .pre) in (
-      sure-all (s .args .t2 .messages) (s .args .t2 .matches) (q .step-move .result .change) (messages-few _ _ _ _ (s .pre)) (q .step-move .ensures .0 .1 .sure),
+      sure-all (s .args .t2 .messages) (s .args .t2 .matches) (q .step-move .result .change)
+          (messages-few _ _ _ _ (s .pre)) (q .step-move .ensures .0 .1 .sure),
       l .statuses-len,
       l .matched-len,
       l .wakers-len,
@@ -55,7 +56,8 @@ write-change-requires c κs =
 
 moved-requires : tie.Need-moved-requires
 moved-requires c κs =
-    let q = c .before .before .before .before .before .before .before .before .before .before .before .before .before .before .before .before .before .before in
+    let q = c .before .before .before .before .before .before .before .before .before .before .before .before .before
+    .before .before .before .before .before in
     let w = placed q in
     let e = begun w .pre in
     (w .place-of .ensures .1, messages-few _ _ _ _ e, matches-few _ _ _ _ e, q .step-move .ensures .0 .1)

@@ -164,7 +164,8 @@ enum-known-phase-4 : tie.Need-enum-known-phase-4
 enum-known-phase-4 c = search needs
 
 sees-requires : tie.Need-sees-requires
-sees-requires c κs = sees-asks (c .before .before .before .before .before .before .before .before .before .before .before)
+sees-requires c κs = sees-asks (c .before .before .before .before .before .before .before .before .before .before
+    .before)
 
 consume-step-requires : tie.Need-consume-step-requires
 consume-step-requires c κs =
@@ -196,7 +197,8 @@ enum-known-phase-5 : tie.Need-enum-known-phase-5
 enum-known-phase-5 c = search needs
 
 sees-requires-2 : tie.Need-sees-requires-2
-sees-requires-2 c κs = sees-asks (c .before .before .before .before .before .before .before .before .before .before .before)
+sees-requires-2 c κs = sees-asks (c .before .before .before .before .before .before .before .before .before .before
+    .before)
 
 tell-step-requires : tie.Need-tell-step-requires
 tell-step-requires c κs =
