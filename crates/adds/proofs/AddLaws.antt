@@ -1,15 +1,14 @@
 -- The message and its sender, written, are the model's board after an add.
 use mathlib.Core.Path.{_≡_, ap, sym, _∙_}
 use mathlib.Core.List.{List, [], _∷_, _++_}
-use Prim.Native.Nat.{ℕ, _+_, _<_}
+use Prim.Native.Nat.{ℕ, _+_}
 use native.Mathlib.Numerals.{add-one}
 use lib.IntN.{ℤ}
-use lib.ListN.{length, getD, set}
+use lib.ListN.{getD, set}
 use lib.Seq.{getD-append-seam}
 use Rattle.model.specs.Tables.{Table}
 use Rattle.model.specs.Boards.{Message, Sent, noMessage}
-use Rattle.model.specs.Adds.{newMessage, newSender, added, addRefusal}
-use Rattle.model.proofs.Adds.{add-accepted}
+use Rattle.model.specs.Adds.{newMessage, newSender, added}
 use Rattle.columns.specs.Columns.{Columns, messagesFrom, columnsOf}
 use Rattle.columns.specs.MatchColumns.{MatchColumns}
 use Rattle.columns.proofs.Messages.{length-messages}
@@ -58,13 +57,3 @@ module _ (t : Table) (b : DB.Board) (i : ℕ) (x : Sent) (d : DD.Sender) (c : Co
     f is channel-is,
     length-messages c 0 n,
   )
-
--- what an add that is not refused has
-pub accepted-in : (t : Table) (b : DB.Board) (i : ℕ) (x : Sent)
-    → ((c : Columns) (m : MatchColumns) → addRefusal t (boardIn t b c m) i x ≡ 0)
-    → (i < 32) × (x .channel < length (t .kinds)) × (b .messages < 1024)
-accepted-in t b i x e =
-    let c = columnsOf [] [] [] [] [] [] in
-    let m : MatchColumns = record { chords = []; messages = [] } in
-    let p = add-accepted t (boardIn t b c m) i x (e c m) in
-    (p .0, p .2, rw (length-messages c 0 (b .messages)) at (p .4))
