@@ -2,13 +2,12 @@
 use mathlib.Core.Path.{_≡_, refl, sym, _∙_, ap}
 use mathlib.Core.Bool.{Bool, true, false, _||_}
 use mathlib.Core.List.{List, [], _∷_}
-use Prim.Native.Nat.{ℕ, zero, suc, _*_}
+use Prim.Native.Nat.{_*_}
 use borrow.Author.Tests.{le-leb, eq-eqb}
 use lib.Dec.{eqb, leb}
-use lib.ListN.{length, getD, drop, take, length-append}
+use lib.ListN.{length, length-append}
 use lib.Seq.{take-at, drop-at}
 use native.Mathlib.Omega.{arith}
-use Rattle.model.specs.Basics.{pick}
 use Rattle.model.specs.Layout.{flag}
 use Rattle.model.proofs.Tests.{and}
 use Rattle.state.specs.declared.Phase as DP
@@ -19,6 +18,7 @@ use Rattle.state.specs.declared.Sender as DD
 use Rattle.boards.specs.declared.Board as DB
 use Rattle.flat.specs.Flat.{stateNumber, senderNumbers, sendersNumbers, boardNumbers}
 use Rattle.flat.specs.Flat.{phaseOk, senderOk, sendersOk, flatOk}
+use Rattle.flat.specs.Decoded.{stateFrom, phaseFrom, senderFrom, sendersFrom, boardFrom}
 use Rattle.flat.specs.Fits.{PhaseFits, SenderFits, SendersFit, BoardFits}
 use Rattle.flat.proofs.SenderLaws.{kind, place, second, numbers-listed, sender-long}
 
@@ -82,41 +82,6 @@ encoded-ok b f =
     and (eq-eqb _ 674 n)
     (rw (f .all) at (senders-pass (b .senders) (f .each)))
 
--- the board that numbers are
-abbrev stateFrom : ℕ → DS.State
-stateFrom n = pick (eqb n 0) S.Idle (pick (eqb n 1) S.Working S.Blocked)
-
-abbrev phaseFrom : ℕ → ℕ → ℕ → DP.Phase
-phaseFrom n k s =
-    pick (eqb n 0) (P.Look k) (pick (eqb n 1) (P.Claim k) (pick (eqb n 2) (P.Revert k s) (pick (eqb n 3) (P.Consume k s)
-    (pick (eqb n 4) (P.Tell k) (pick (eqb n 5) P.Wake (pick (eqb n 6) (P.Free k) (pick (eqb n 7) P.Signal
-    (pick (eqb n 8) P.PassEnd (P.Backoff k)))))))))
-
-abbrev senderFrom : List ℕ → DD.Sender
-senderFrom a = record {
-  state = stateFrom (getD a 0 0);
-  signalled = eqb (getD a 1 0) 1;
-  own = getD a 2 0;
-  waker = getD a 3 0;
-  reply = getD a 4 0;
-  matched = getD a 5 0;
-  job = record {
-    subject = getD a 6 0;
-    chord = getD a 7 0;
-    phase = phaseFrom (getD a 8 0) (getD a 9 0) (getD a 10 0);
-    chosen = drop 13 a;
-    retry = eqb (getD a 11 0) 1;
-    retries = getD a 12 0;
-  };
-}
-
-sendersFrom : ℕ → List ℕ → List DD.Sender
-sendersFrom zero s = []
-sendersFrom (suc n) s = senderFrom (take 21 s) ∷ sendersFrom n (drop 21 s)
-
-pub boardFrom : List ℕ → DB.Board
-boardFrom s = record { messages = getD s 0 0; matches = getD s 1 0; senders = sendersFrom 32 (drop 2 s) }
-
 state-back : (s : DS.State) → stateFrom (stateNumber s) ≡ s
 state-back S.Idle = refl
 state-back S.Working = refl
@@ -138,7 +103,7 @@ phase-back P.Signal = refl
 phase-back P.PassEnd = refl
 phase-back (P.Backoff k) = refl
 
-sender-back : (d : DD.Sender) → senderFrom (senderNumbers d) ≡ d
+pub sender-back : (d : DD.Sender) → senderFrom (senderNumbers d) ≡ d
 sender-back d =
     rw (
       numbers-listed d,

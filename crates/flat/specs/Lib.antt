@@ -1,3 +1,4 @@
 -- The board as plain numbers.
 pub mod Flat
 pub mod Fits
+pub mod Decoded
