@@ -3,3 +3,4 @@ pub mod PhaseLaws
 pub mod SenderLaws
 pub mod WalkLaws
 pub mod Encoded
+pub mod DecodeLaws
