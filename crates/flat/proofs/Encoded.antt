@@ -16,11 +16,11 @@ use Rattle.state.specs.declared.State as DS
 use Rattle.state.specs.declared.State.the-variants as S
 use Rattle.state.specs.declared.Sender as DD
 use Rattle.boards.specs.declared.Board as DB
-use Rattle.flat.specs.Flat.{stateNumber, senderNumbers, sendersNumbers, boardNumbers}
+use Rattle.flat.specs.Flat.{stateNumber, kind, place, second, senderNumbers, sendersNumbers, boardNumbers}
 use Rattle.flat.specs.Flat.{phaseOk, senderOk, sendersOk, flatOk}
 use Rattle.flat.specs.Decoded.{stateFrom, phaseFrom, senderFrom, sendersFrom, boardFrom}
 use Rattle.flat.specs.Fits.{PhaseFits, SenderFits, SendersFit, BoardFits}
-use Rattle.flat.proofs.SenderLaws.{kind, place, second, numbers-listed, sender-long}
+use Rattle.flat.proofs.SenderLaws.{numbers-listed, sender-long}
 
 phase-passes : (p : DP.Phase) → PhaseFits p → phaseOk (kind p) (place p) (second p) ≡ true
 unfolding phaseOk

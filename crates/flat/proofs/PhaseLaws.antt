@@ -11,7 +11,7 @@ use mir.Val.{boolByte}
 use Rattle.model.specs.Layout.{flag}
 use Rattle.model.proofs.Tests.{all-four, either, both, same?, never}
 use Rattle.state.specs.declared.Phase as DP
-use Rattle.flat.specs.Flat.{phaseNumbers, phaseOk, placeless}
+use Rattle.flat.specs.Flat.{place, phaseOk, placeless}
 use Rattle.flat.specs.Fits.{PhaseFits}
 
 pub three-are : {n k s n′ k′ s′ : ℕ} → n′ ≡ n → k′ ≡ k → s′ ≡ s → n′ ∷ k′ ∷ s′ ∷ [] ≡ n ∷ k ∷ s ∷ []
@@ -72,5 +72,5 @@ last-kind n h e0 e1 e2 e3 e4 e5 e6 e7 e8 =
     ends n p q = omega arith
 
 -- a phase by its variant
-pub phase-is : (p : DP.Phase) {q : DP.Phase} → p ≡ q → PhaseFits q → (phaseNumbers q ≡ phaseNumbers p) × PhaseFits p
+pub phase-is : (p : DP.Phase) {q : DP.Phase} → p ≡ q → PhaseFits q → (place q ≡ place p) × PhaseFits p
 phase-is p e h = rw e (refl, h)

@@ -2,11 +2,12 @@
 use mathlib.Core.Path.{_≡_, refl, sym, _∙_, ap}
 use mathlib.Core.Bool.{true}
 use mathlib.Core.List.{List, [], _∷_, _++_}
-use Prim.Native.Nat.{ℕ, zero, suc, _+_, _≤_}
+use Prim.Native.Nat.{ℕ, zero, suc, _+_, _<_, _≤_}
 use borrow.Author.Tests.{leb-true}
 use lib.Dec.{leb}
-use lib.ListN.{length, getD, drop, drop-of-length-le}
-use lib.Seq.{drop-cons}
+use lib.ListN.{length, getD, take, drop, set, length-drop}
+use lib.Seq.{drop-cons, take-all, take-suc, take-suc-set, getD-drop}
+use native.Mathlib.Numerals.{add-one}
 use native.Mathlib.Omega.{arith}
 use Rattle.model.specs.Layout.{flag}
 use Rattle.model.proofs.Tests.{both, all-four}
@@ -16,7 +17,7 @@ use Rattle.state.specs.declared.Phase.the-variants as P
 use Rattle.state.specs.declared.Sender as DD
 use Rattle.flat.specs.Fits.{PhaseFits, SenderFits}
 use Rattle.flat.proofs.PhaseLaws.{place-fits, second-fits}
-use Rattle.flat.specs.Flat.{stateNumber, phaseNumbers, senderNumbers, phaseOk, senderOk}
+use Rattle.flat.specs.Flat.{stateNumber, phaseNumbers, kind, place, second, senderNumbers, phaseOk, senderOk}
 
 -- what a sender's numbers hold to
 pub record NumbersFit (a : List ℕ) : Type 0 where
@@ -49,17 +50,24 @@ spelled a i (suc n) h =
     let z : i + suc n ≡ suc i + n = omega arith in
     rw (z, drop-cons a i 0 (omega arith), spelled a (suc i) n (omega arith))
 
--- the last eight of 21 numbers
-pub eight-spelled : (a : List ℕ) → length a ≡ 21 → listFrom (λ k. getD a k 0) 13 8 ≡ drop 13 a
-eight-spelled a l =
-    let none : drop 21 a ≡ [] = drop-of-length-le a {i = 21} (omega arith) in
-    rw none at (spelled a 13 8 (omega arith))
+-- the last eight of 21 numbers, read one by one
+module _ (a cs : List ℕ) (i : ℕ) (l : length a ≡ 21) (m : length cs ≡ 8) where
+  eight : length (drop 13 a) ≡ 8
+  eight = length-drop 13 a ∙ rw l
 
--- all of eight numbers
-pub chosen-spelled : (a : List ℕ) → length a ≡ 8 → listFrom (λ k. getD a k 0) 0 8 ≡ a
-chosen-spelled a l =
-    let none : drop 8 a ≡ [] = drop-of-length-le a {i = 8} (omega arith) in
-    rw none at (spelled a 0 8 (omega arith))
+  pub chosen-next : i < 8 → take i cs ≡ take i (drop 13 a)
+      → take (i + 1) (set cs i (getD a (13 + i) 0)) ≡ take (i + 1) (drop 13 a)
+  chosen-next h e =
+      rw (
+        add-one i,
+        take-suc-set cs i (getD a (13 + i) 0) (omega arith),
+        take-suc (drop 13 a) i 0 (omega (arith, eight)),
+        getD-drop 13 a i 0,
+        e,
+      )
+
+  pub chosen-end : 8 ≤ i → take i cs ≡ take i (drop 13 a) → cs ≡ drop 13 a
+  chosen-end h e = sym (take-all i cs (omega arith)) ∙ e ∙ take-all i (drop 13 a) (omega (arith, eight))
 
 pub phase-spelled : (p : DP.Phase) (xs : List ℕ)
     → getD (phaseNumbers p) 0 0 ∷ getD (phaseNumbers p) 1 0 ∷ getD (phaseNumbers p) 2 0 ∷ xs ≡ phaseNumbers p ++ xs
@@ -73,28 +81,6 @@ phase-spelled (P.Free k) xs = refl
 phase-spelled P.Signal xs = refl
 phase-spelled P.PassEnd xs = refl
 phase-spelled (P.Backoff k) xs = refl
-
--- the sender's fields one by one are its numbers
-pub numbers-are : (d : DD.Sender) (state signalled retry : ℕ) (n : List ℕ) → length (d .job .chosen) ≡ 8
-    → state ≡ stateNumber (d .state) → signalled ≡ flag (d .signalled) → n ≡ phaseNumbers (d .job .phase)
-    → retry ≡ flag (d .job .retry)
-    → state ∷ signalled ∷ d .own ∷ d .waker ∷ d .reply ∷ d .matched ∷ d .job .subject ∷ d .job .chord ∷
-    getD n 0 0 ∷ getD n 1 0 ∷ getD n 2 0 ∷ retry ∷ d .job .retries ∷ listFrom (λ k. getD (d .job .chosen) k 0) 0 8
-    ≡ senderNumbers d
-unfolding senderNumbers
-numbers-are d state signalled retry n l p q r s =
-    rw (p, q, r, s, chosen-spelled (d .job .chosen) l, phase-spelled (d .job .phase))
-
--- the three numbers of a phase
-module _ (p : DP.Phase) where
-  abbrev pub kind : ℕ
-  kind = getD (phaseNumbers p) 0 0
-
-  abbrev pub place : ℕ
-  place = getD (phaseNumbers p) 1 0
-
-  abbrev pub second : ℕ
-  second = getD (phaseNumbers p) 2 0
 
 -- a sender's numbers by their places
 abbrev pub listed : DD.Sender → List ℕ

@@ -31,6 +31,16 @@ phaseNumbers P.Signal = 7 ∷ 0 ∷ 0 ∷ []
 phaseNumbers P.PassEnd = 8 ∷ 0 ∷ 0 ∷ []
 phaseNumbers (P.Backoff k) = 9 ∷ k ∷ 0 ∷ []
 
+module _ (p : DP.Phase) where
+  abbrev pub kind : ℕ
+  kind = getD (phaseNumbers p) 0 0
+
+  abbrev pub place : ℕ
+  place = getD (phaseNumbers p) 1 0
+
+  abbrev pub second : ℕ
+  second = getD (phaseNumbers p) 2 0
+
 -- 0 state, 1 signalled, 2 own, 3 waker, 4 reply, 5 matched, 6 subject, 7 chord, 8 to 10 the phase, 11 retry,
 -- 12 retries, 13 to 20 the chosen messages
 unfoldable pub senderNumbers : DD.Sender → List ℕ

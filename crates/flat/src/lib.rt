@@ -6,7 +6,7 @@ ghost use Prim.Native.Nat.{_+_, _≤_};
 ghost use lib.ListN.{length, take, drop};
 ghost use lib.Seq.{paste};
 ghost use Rattle.model.specs.Layout.{flag};
-ghost use Rattle.flat.specs.Flat.{stateNumber, phaseNumbers, senderNumbers, sendersNumbers, boardNumbers};
+ghost use Rattle.flat.specs.Flat.{stateNumber, phaseNumbers, kind, place, second, senderNumbers, sendersNumbers, boardNumbers};
 ghost use Rattle.flat.specs.Fits.{PhaseFits, SenderFits, SendersFit, BoardFits};
 ghost use Rattle.flat.specs.Flat.{phaseOk, senderOk, sendersOk, flatOk};
 use boards::Board;
@@ -115,21 +115,57 @@ fn phase_of(phase: u16, place: u16, second: u16) -> Phase
     Phase::Backoff(k)
 }
 
-// The three numbers of a phase.
-fn phase_numbers(p: Phase) -> [u16; 3]
-    ensures { λ r. ⌜ (r ≡ phaseNumbers p) × PhaseFits p ⌝ }
+// Which phase it is.
+fn phase_kind(p: Phase) -> u16
+    ensures { λ r. ⌜ r ≡ kind p ⌝ }
 {
     match p {
-        Phase::Look(k) => [0, k as u16, 0],
-        Phase::Claim(k) => [1, k as u16, 0],
-        Phase::Revert(k, claims) => [2, k as u16, claims as u16],
-        Phase::Consume(k, m) => [3, k as u16, m],
-        Phase::Tell(k) => [4, k as u16, 0],
-        Phase::Wake => [5, 0, 0],
-        Phase::Free(k) => [6, k as u16, 0],
-        Phase::Signal => [7, 0, 0],
-        Phase::PassEnd => [8, 0, 0],
-        Phase::Backoff(k) => [9, k as u16, 0],
+        Phase::Look(_) => 0,
+        Phase::Claim(_) => 1,
+        Phase::Revert(_, _) => 2,
+        Phase::Consume(_, _) => 3,
+        Phase::Tell(_) => 4,
+        Phase::Wake => 5,
+        Phase::Free(_) => 6,
+        Phase::Signal => 7,
+        Phase::PassEnd => 8,
+        Phase::Backoff(_) => 9,
+    }
+}
+
+// The place of a phase; 0 for one that has none.
+fn phase_place(p: Phase) -> u16
+    ensures { λ r. ⌜ (r ≡ place p) × PhaseFits p ⌝ }
+{
+    match p {
+        Phase::Look(k) => k as u16,
+        Phase::Claim(k) => k as u16,
+        Phase::Revert(k, _) => k as u16,
+        Phase::Consume(k, _) => k as u16,
+        Phase::Tell(k) => k as u16,
+        Phase::Wake => 0,
+        Phase::Free(k) => k as u16,
+        Phase::Signal => 0,
+        Phase::PassEnd => 0,
+        Phase::Backoff(k) => k as u16,
+    }
+}
+
+// The second number of a phase; 0 for one that has none.
+fn phase_second(p: Phase) -> u16
+    ensures { λ r. ⌜ r ≡ second p ⌝ }
+{
+    match p {
+        Phase::Look(_) => 0,
+        Phase::Claim(_) => 0,
+        Phase::Revert(_, claims) => claims as u16,
+        Phase::Consume(_, m) => m,
+        Phase::Tell(_) => 0,
+        Phase::Wake => 0,
+        Phase::Free(_) => 0,
+        Phase::Signal => 0,
+        Phase::PassEnd => 0,
+        Phase::Backoff(_) => 0,
     }
 }
 
@@ -148,11 +184,17 @@ fn chosen_of(a: &[u16]) -> [u16; 8]
     requires { ⌜ length (now a) ≡ 21 ⌝ }
     ensures { λ r. ⌜ r ≡ drop 13 (now (a .entry)) ⌝ }
 {
-    [a[13], a[14], a[15], a[16], a[17], a[18], a[19], a[20]]
+    let mut chosen = [0; 8];
+    let mut i = 0;
+    while i < 8 {
+        chosen[i] = a[13 + i];
+        i += 1;
+    }
+    chosen
 }
 
 // The sender by its 21 numbers.
-fn sender_of(a: &[u16]) -> Sender
+pub fn sender_of(a: &[u16]) -> Sender
     requires { ⌜ (length (now a) ≡ 21) × (senderOk (now a) ≡ true) ⌝ }
     ensures { λ r. ⌜ (senderNumbers r ≡ now (a .entry)) × SenderFits r ⌝ }
 {
@@ -175,55 +217,30 @@ fn sender_of(a: &[u16]) -> Sender
     }
 }
 
-// The 21 numbers of a sender.
-fn sender_numbers(d: Sender) -> [u16; 21]
-    ensures { λ r. ⌜ (r ≡ senderNumbers d) × SenderFits d ⌝ }
-{
-    let state = d.state;
-    let s = state_number(state);
-    let signalled = flag_number(d.signalled);
-    let job = d.job;
-    let phase = job.phase;
-    let n = phase_numbers(phase);
-    let retry = flag_number(job.retry);
-    let c = job.chosen;
-    [
-        s,
-        signalled,
-        d.own,
-        d.waker,
-        d.reply,
-        d.matched,
-        job.subject,
-        job.chord as u16,
-        n[0],
-        n[1],
-        n[2],
-        retry,
-        job.retries as u16,
-        c[0],
-        c[1],
-        c[2],
-        c[3],
-        c[4],
-        c[5],
-        c[6],
-        c[7],
-    ]
-}
-
 // A sender's numbers from a place on.
-fn put_sender(d: Sender, s: &mut [u16], at: usize)
+pub fn put_sender(d: Sender, s: &mut [u16], at: usize)
     requires { ⌜ at + 21 ≤ length (now s) ⌝ }
     ensures { λ _. ⌜ (now (s .exit) ≡ paste (now (s .entry)) at (senderNumbers d) 21)
         × SenderFits d ⌝ }
 {
-    let a = sender_numbers(d);
-    let mut i = 0;
-    while i < 21 {
-        s[at + i] = a[i];
-        i += 1;
-    }
+    let state = d.state;
+    let job = d.job;
+    let phase = job.phase;
+    let chosen = job.chosen;
+    s[at] = state_number(state);
+    s[at + 1] = flag_number(d.signalled);
+    s[at + 2] = d.own;
+    s[at + 3] = d.waker;
+    s[at + 4] = d.reply;
+    s[at + 5] = d.matched;
+    s[at + 6] = job.subject;
+    s[at + 7] = job.chord as u16;
+    s[at + 8] = phase_kind(phase);
+    s[at + 9] = phase_place(phase);
+    s[at + 10] = phase_second(phase);
+    s[at + 11] = flag_number(job.retry);
+    s[at + 12] = job.retries as u16;
+    applies::put_chosen(s, at + 13, chosen);
 }
 
 // The senders' numbers, one after another.

@@ -1,48 +1,74 @@
--- `flat::chosen_of` meets its contract: the last eight of 21 numbers.
+-- `flat::chosen_of` meets its contract: each turn copies one number more.
+use mathlib.Core.Path.{_≡_, refl}
+use Prim.Native.Nat.{_-_, _≤_}
 use borrow.Author.Needs.{needs}
-use Rattle.flat.proofs.SenderLaws.{eight-spelled}
+use lib.ListN.{length, take, drop}
+use native.Mathlib.Omega.{arith}
+use Rattle.flat.proofs.SenderLaws.{chosen-next, chosen-end}
 use Rattle.flat.proofs.chosen_of.Statement.{statement}
 use Rattle.flat.proofs.chosen_of.Tie as tie
 
-shared-slice-read-t3 : tie.Need-shared-slice-read-t3
-shared-slice-read-t3 c = search needs
+abbrev Inv-loop : tie.InvT-loop
+Inv-loop a chosen₀ i₀ chosen i =
+    (i ≤ 8) × (length chosen ≡ 8) × (take i chosen ≡ take i (drop 13 a))
 
-shared-slice-read-t5 : tie.Need-shared-slice-read-t5
-shared-slice-read-t5 c = search needs
+abbrev μ-loop : tie.MeasureT-loop
+μ-loop a chosen₀ i₀ chosen i = 8 - i
 
-shared-slice-read-t7 : tie.Need-shared-slice-read-t7
-shared-slice-read-t7 c = search needs
+loop-holds : tie.Need-loop-holds Inv-loop μ-loop
+loop-holds c = (search needs, refl, refl)
 
-shared-slice-read-t9 : tie.Need-shared-slice-read-t9
-shared-slice-read-t9 c = search needs
+add-chosen : tie.Need-add-chosen Inv-loop μ-loop
+add-chosen c = search needs
 
-shared-slice-read-t11 : tie.Need-shared-slice-read-t11
-shared-slice-read-t11 c = search needs
+mul-chosen : tie.Need-mul-chosen Inv-loop μ-loop
+mul-chosen c = search needs
 
-shared-slice-read-t13 : tie.Need-shared-slice-read-t13
-shared-slice-read-t13 c = search needs
+shared-slice-read-chosen : tie.Need-shared-slice-read-chosen Inv-loop μ-loop
+shared-slice-read-chosen c = search needs
 
-shared-slice-read-t15 : tie.Need-shared-slice-read-t15
-shared-slice-read-t15 c = search needs
+mul-chosen-2 : tie.Need-mul-chosen-2 Inv-loop μ-loop
+mul-chosen-2 c = search needs
 
-shared-slice-read-t17 : tie.Need-shared-slice-read-t17
-shared-slice-read-t17 c = search needs
+array-write-chosen : tie.Need-array-write-chosen Inv-loop μ-loop
+array-write-chosen c = search needs
 
-returns : tie.Need-returns
+add-i : tie.Need-add-i Inv-loop μ-loop
+add-i c = search needs
+
+loop-less : tie.Need-loop-less Inv-loop μ-loop
+loop-less c = search needs
+
+loop-again : tie.Need-loop-again Inv-loop μ-loop
+loop-again c =
+    let p = c .before .before in
+    let s = p .before in (
+      search needs,
+      search needs,
+      chosen-next (s .args .a .now) (p .loop .chosen) (p .loop .i) (s .pre) (p .loop .inv .1) (omega arith)
+          (p .loop .inv .2),
+    )
+
+returns : tie.Need-returns Inv-loop μ-loop
 returns c =
-    let s = c .before .before .before .before .before .before .before .before in
-    eight-spelled (s .args .a .now) (s .pre)
+    let p = c .before in
+    let s = p .before in
+    chosen-end (s .args .a .now) (p .loop .chosen) (p .loop .i) (s .pre) (p .loop .inv .1) (omega arith)
+    (p .loop .inv .2)
 
 pub chosen-of-spec : {M : Type 1} → statement M
 chosen-of-spec =
     tie.close
     (tie.spec
-    shared-slice-read-t3
-    shared-slice-read-t5
-    shared-slice-read-t7
-    shared-slice-read-t9
-    shared-slice-read-t11
-    shared-slice-read-t13
-    shared-slice-read-t15
-    shared-slice-read-t17
+    Inv-loop
+    μ-loop
+    loop-holds
+    add-chosen
+    mul-chosen
+    shared-slice-read-chosen
+    mul-chosen-2
+    array-write-chosen
+    add-i
+    loop-less
+    loop-again
     returns)

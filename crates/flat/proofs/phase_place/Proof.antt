@@ -1,42 +1,39 @@
--- `flat::phase_numbers` meets its contract: one way for each phase.
+-- `flat::phase_place` meets its contract: one way for each phase.
 use borrow.Author.Needs.{needs}
 use native.Mathlib.Omega.{arith}
 use Rattle.flat.proofs.PhaseLaws.{phase-is}
-use Rattle.flat.proofs.phase_numbers.Statement.{statement}
-use Rattle.flat.proofs.phase_numbers.Tie as tie
+use Rattle.flat.proofs.phase_place.Statement.{statement}
+use Rattle.flat.proofs.phase_place.Tie as tie
 
 enum-known-p : tie.Need-enum-known-p
 enum-known-p c = search needs
 
-cast-t12 : tie.Need-cast-t12
-cast-t12 c = search needs
+cast-result : tie.Need-cast-result
+cast-result c = search needs
 
 enum-known-p-2 : tie.Need-enum-known-p-2
 enum-known-p-2 c = search needs
 
-cast-t13 : tie.Need-cast-t13
-cast-t13 c = search needs
+cast-result-2 : tie.Need-cast-result-2
+cast-result-2 c = search needs
 
 enum-known-p-3 : tie.Need-enum-known-p-3
 enum-known-p-3 c = search needs
 
-cast-t14 : tie.Need-cast-t14
-cast-t14 c = search needs
-
-cast-t15 : tie.Need-cast-t15
-cast-t15 c = search needs
+cast-result-3 : tie.Need-cast-result-3
+cast-result-3 c = search needs
 
 enum-known-p-4 : tie.Need-enum-known-p-4
 enum-known-p-4 c = search needs
 
-cast-t16 : tie.Need-cast-t16
-cast-t16 c = search needs
+cast-result-4 : tie.Need-cast-result-4
+cast-result-4 c = search needs
 
 enum-known-p-5 : tie.Need-enum-known-p-5
 enum-known-p-5 c = search needs
 
-cast-t17 : tie.Need-cast-t17
-cast-t17 c = search needs
+cast-result-5 : tie.Need-cast-result-5
+cast-result-5 c = search needs
 
 enum-told : tie.Need-enum-told
 enum-told c = search needs
@@ -44,8 +41,8 @@ enum-told c = search needs
 enum-known-p-6 : tie.Need-enum-known-p-6
 enum-known-p-6 c = search needs
 
-cast-t18 : tie.Need-cast-t18
-cast-t18 c = search needs
+cast-result-6 : tie.Need-cast-result-6
+cast-result-6 c = search needs
 
 enum-told-2 : tie.Need-enum-told-2
 enum-told-2 c = search needs
@@ -56,8 +53,8 @@ enum-told-3 c = search needs
 enum-known-p-7 : tie.Need-enum-known-p-7
 enum-known-p-7 c = search needs
 
-cast-t19 : tie.Need-cast-t19
-cast-t19 c = search needs
+cast-result-7 : tie.Need-cast-result-7
+cast-result-7 c = search needs
 
 returns : tie.Need-returns
 returns c = phase-is _ (c .before .p .given .1) (omega (arith, c .known-told .given .0 .1))
@@ -91,28 +88,27 @@ returns-9 c = phase-is _ (c .enum-told3 .given .1) tt
 returns-10 : tie.Need-returns-10
 returns-10 c = phase-is _ (c .before .p7 .given .1) (omega (arith, c .known-told7 .given .0 .1))
 
-pub phase-numbers-spec : {M : Type 1} → statement M
-phase-numbers-spec =
+pub phase-place-spec : {M : Type 1} → statement M
+phase-place-spec =
     tie.close
     (tie.spec
     enum-known-p
-    cast-t12
+    cast-result
     enum-known-p-2
-    cast-t13
+    cast-result-2
     enum-known-p-3
-    cast-t14
-    cast-t15
+    cast-result-3
     enum-known-p-4
-    cast-t16
+    cast-result-4
     enum-known-p-5
-    cast-t17
+    cast-result-5
     enum-told
     enum-known-p-6
-    cast-t18
+    cast-result-6
     enum-told-2
     enum-told-3
     enum-known-p-7
-    cast-t19
+    cast-result-7
     returns
     returns-2
     returns-3
