@@ -1,0 +1,2 @@
+-- A signal on the board's plain numbers.
+pub mod Signals
