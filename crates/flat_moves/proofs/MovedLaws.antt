@@ -9,10 +9,15 @@ use lib.Seq.{paste}
 use native.Mathlib.Omega.{arith}
 use Rattle.state.specs.declared.Sender as DD
 use Rattle.boards.specs.declared.Board as DB
+use Rattle.applies.specs.Writes.{signalBy, signalledBy, matchesBy}
+use Rattle.moves.specs.declared.Move as DM
+use Rattle.moves.specs.Moves.{messagesBy, movedBoard}
+use Rattle.moves.proofs.WriteLaws.{signal-none, signal-some, moved-by}
 use Rattle.flat.specs.Fits.{SenderFits, SendersFit, BoardFits}
 use Rattle.flat.specs.Flat.{senderNumbers, sendersNumbers, boardNumbers, flatOk}
 use Rattle.flat.specs.Decoded.{boardFrom}
 use Rattle.flat.proofs.DecodeLaws.{from-back}
+use Rattle.flat_moves.specs.Signals.{signalledBoard}
 use Rattle.flat_moves.proofs.PlaceLaws.{paste-behind, senders-paste}
 use Rattle.flat_moves.proofs.SignalLaws.{IsBoard, is-board}
 
@@ -48,3 +53,24 @@ sender-put s s′ i n k d ok h g e =
     })
     (written (boardFrom s) s′ i n k d (r .1) h g
     (e ∙ ap (λ (x : List ℕ). paste x (2 + 21 * i) (senderNumbers d) 21) (sym (r .0))))
+
+-- a move whose sender and counts are written, with x the message that it signals, plus 1
+module _ (s s₁ : List ℕ) (i n k x : ℕ) (m : DM.Move) (en : n ≡ messagesBy (m .adds) (getD s 0 0))
+    (ek : k ≡ matchesBy (m .change) (getD s 1 0)) (ex : x ≡ signalBy (m .change))
+    (p : IsBoard s₁ (withSender (boardFrom s) i (m .sender) n k)) where
+  abbrev ds : List DD.Sender
+  ds = set (boardFrom s .senders) i (m .sender)
+
+  pub moved-none : x ≡ 0 → IsBoard s₁ (movedBoard (boardFrom s) i m)
+  unfolding boardFrom
+  moved-none z = (p .0, p .1 ∙ moved-by (boardFrom s) i m n k ds en ek (signal-none (m .change) x ex ds z))
+
+  pub moved-some : (s₂ : List ℕ) → x ≢ 0 → IsBoard s₂ (signalledBoard (x - 1) (boardFrom s₁))
+      → IsBoard s₂ (movedBoard (boardFrom s) i m)
+  unfolding boardFrom
+  moved-some s₂ z q = (
+    q .0,
+    q .1 ∙ ap (signalledBoard (x - 1)) (p .1)
+        ∙ moved-by (boardFrom s) i m n k (map (signalledBy (x - 1)) ds) en ek
+        (signal-some (m .change) x ex ds z (map (signalledBy (x - 1)) ds) refl),
+  )

@@ -1,73 +1,109 @@
+-- `flat_moves::put_moved` meets its contract: the sender, the counts, then the signal.
+use mathlib.Core.Path.{_≡_}
+use mathlib.Core.List.{List}
+use Prim.Native.Nat.{ℕ}
 use borrow.Author.Needs.{needs}
+use lib.ListN.{length, set, length-set}
+use native.Mathlib.Omega.{arith}
+use Rattle.moves.proofs.WriteLaws.{sure-signal}
+use Rattle.flat.specs.Decoded.{boardFrom}
+use Rattle.flat.proofs.WalkLaws.{all-numbers}
+use Rattle.flat_moves.proofs.SignalLaws.{IsBoard}
+use Rattle.flat_moves.proofs.MovedLaws.{withSender, sender-put, moved-none, moved-some}
 use Rattle.flat_moves.proofs.put_moved.Statement.{statement}
 use Rattle.flat_moves.proofs.put_moved.Tie as tie
-use Rattle.flat_moves.proofs.put_moved.Reads as reads
-use Rattle.flat_moves.proofs.put_moved.Lts as lts
-use Rattle.applies.proofs.matches_after.Reads as matches-after-reads
-use Rattle.applies.proofs.signals.Reads as signals-reads
-use Rattle.flat.proofs.put_sender.Reads as put-sender-reads
-use Rattle.flat_moves.proofs.put_signal.Reads as put-signal-reads
-use Rattle.moves.proofs.messages_after.Reads as messages-after-reads
 
--- src/lib.rt:55:13
+long : (s : tie.Start) → length (s .args .s .now) ≡ 674
+long s = all-numbers (s .args .s .now) (s .pre .0) .0
+
+-- the start, from the sender's write on
+abbrev start : tie.After-put-sender → tie.Start
+start c = c .before .before .before .before .before .before
+
+-- the write, from the signal's number on
+abbrev wrote : tie.After-signals → tie.After-put-sender
+wrote c = c .before .before .before .before .before
+
+-- the numbers before the signal
+abbrev numbers : tie.After-signals → List ℕ
+numbers c =
+    set (set (wrote c .put-sender .last .1 .0) 0 (c .before .before .messages-after .result)) 1
+    (c .before .matches-after .result)
+
+unsignalled : (c : tie.After-signals)
+    → let a = start (wrote c) .args in
+    IsBoard (numbers c)
+    (withSender (boardFrom (a .s .now)) (a .i) (a .m .sender) (c .before .before .messages-after .result)
+    (c .before .matches-after .result))
+unsignalled c =
+    let w = wrote c in
+    let s = start w in
+    let a = s .args in
+    sender-put (a .s .now) (w .put-sender .last .1 .0) (a .i) _ _ (a .m .sender) (s .pre .0) (s .pre .1)
+    (w .put-sender .ensures .1) (w .put-sender .ensures .0)
+
 slice-read-n : tie.Need-slice-read-n
-slice-read-n c = ?
+slice-read-n c = omega (arith, long (c .before .before))
 
--- src/lib.rt:56:13
 slice-read-k : tie.Need-slice-read-k
-slice-read-k c = ?
+slice-read-k c = omega (arith, long (c .before .before .before))
 
--- src/lib.rt:59:32
 mul-put-sender : tie.Need-mul-put-sender
 mul-put-sender c = search needs
 
--- src/lib.rt:59:28
 add-put-sender : tie.Need-add-put-sender
 add-put-sender c = search needs
 
--- src/lib.rt:59:5
 put-sender-requires : tie.Need-put-sender-requires
-put-sender-requires c κs = ?
+put-sender-requires c κs =
+    let s = c .before .before .before .before .before in
+    omega (arith, long s, s .pre .1)
 
--- src/lib.rt:60:12
 messages-after-requires : tie.Need-messages-after-requires
 messages-after-requires c κs = search needs
 
--- src/lib.rt:60:5
 slice-write-s : tie.Need-slice-write-s
-slice-write-s c = ?
+slice-write-s c = omega (arith, long (start (c .before .before .before)))
 
--- src/lib.rt:61:12
 matches-after-requires : tie.Need-matches-after-requires
 matches-after-requires c κs = search needs
 
--- src/lib.rt:61:5
 slice-write-s-2 : tie.Need-slice-write-s-2
-slice-write-s-2 c = ?
+slice-write-s-2 c = simp length-set (omega (arith, long (start (c .before .before .before .before))))
 
--- src/lib.rt:62:9
 signals-requires : tie.Need-signals-requires
-signals-requires c κs = ?
+signals-requires c κs =
+    let s = start (c .before .before .before .before) in
+    sure-signal _ _ (s .args .m .change) (s .pre .4 .sure)
 
--- src/lib.rt:64:9
 same-length : tie.Need-same-length
 same-length c = search needs
 
--- src/lib.rt:64:9
 returns : tie.Need-returns
-returns c = ?
+returns c =
+    let g = c .before in
+    let a = start (wrote g) .args in
+    moved-none (a .s .now) (numbers g) (a .i) _ _ (g .signals .result) (a .m) (g .before .before .messages-after .ensures)
+    (g .before .matches-after .ensures) (g .signals .ensures) (unsignalled g) (c .if1 .taken)
 
--- src/lib.rt:66:5
 put-signal-requires : tie.Need-put-signal-requires
-put-signal-requires c κs = ?
+put-signal-requires c κs = (unsignalled (c .before .before) .0, omega (arith, c .before .if1 .left))
 
--- src/lib.rt:49:1
 same-length-2 : tie.Need-same-length-2
-same-length-2 c = ?
+same-length-2 c =
+    let p = c .before .before in
+    let g = p .before .before .before in
+    omega (arith, all-numbers (p .put-signal .last .0) (p .put-signal .ensures .0) .0, long (start (wrote g)))
 
--- src/lib.rt:49:1
 returns-2 : tie.Need-returns-2
-returns-2 c = ?
+returns-2 c =
+    let p = c .before .before in
+    let e = p .before .before in
+    let g = e .before in
+    let a = start (wrote g) .args in
+    moved-some (a .s .now) (numbers g) (a .i) _ _ (g .signals .result) (a .m) (g .before .before .messages-after .ensures)
+    (g .before .matches-after .ensures) (g .signals .ensures) (unsignalled g) (p .put-signal .last .0) (e .if1 .left)
+    (p .put-signal .ensures)
 
 pub put-moved-spec : {M : Type 1} → statement M
 put-moved-spec =
