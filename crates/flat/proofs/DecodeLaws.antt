@@ -1,5 +1,5 @@
 -- The board that numbers are has these numbers, and its senders are those of their parts.
-use mathlib.Core.Path.{_≡_, refl, _∙_}
+use mathlib.Core.Path.{_≡_, refl}
 use mathlib.Core.Bool.{true, false}
 use mathlib.Core.List.{List, [], _∷_}
 use Prim.Native.Nat.{ℕ, zero, suc, _+_, _*_, _<_, _≤_}
@@ -46,15 +46,15 @@ phase-from (suc (suc (suc (suc (suc (suc zero)))))) k s e = placed 6 k s e refl 
 phase-from (suc (suc (suc (suc (suc (suc (suc zero))))))) k s e = bare 7 k s e refl refl refl
 phase-from (suc (suc (suc (suc (suc (suc (suc (suc zero)))))))) k s e = bare 8 k s e refl refl refl
 phase-from (suc (suc (suc (suc (suc (suc (suc (suc (suc zero))))))))) k s e = placed 9 k s e refl refl
-phase-from (suc (suc (suc (suc (suc (suc (suc (suc (suc (suc n)))))))))) k s e = absurd (omega (arith, kind-fits (suc (suc (suc (suc (suc (suc (suc (suc (suc (suc n)))))))))) k s e))
+phase-from (suc (suc (suc (suc (suc (suc (suc (suc (suc (suc n)))))))))) k s e = absurd (omega (arith, kind-fits _ k s e))
 
 -- 21 numbers that pass are those of their sender, which fits its types
 pub sender-from-back : (a : List ℕ) → length a ≡ 21 → senderOk a ≡ true
     → (senderNumbers (senderFrom a) ≡ a) × SenderFits (senderFrom a)
 sender-from-back a l ok =
     let f = sender-fits a ok in
-    sender-is a l ok (senderFrom a) (state-from (getD a 0 0) (f .state)) (flag-one (getD a 1 0) (f .signalled)) refl refl
-    refl refl refl refl (phase-from (getD a 8 0) (getD a 9 0) (getD a 10 0) (f .phase))
+    sender-is a l ok (senderFrom a) (state-from (getD a 0 0) (f .state)) (flag-one (getD a 1 0) (f .signalled)) refl
+    refl refl refl refl refl (phase-from (getD a 8 0) (getD a 9 0) (getD a 10 0) (f .phase))
     (flag-one (getD a 11 0) (f .retry)) refl refl
 
 senders-from-back : (n : ℕ) (s : List ℕ) → length s ≡ 21 * n → sendersOk n s ≡ true

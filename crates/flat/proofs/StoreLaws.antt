@@ -1,5 +1,5 @@
 -- Laws of a sender's numbers, stored one by one.
-use mathlib.Core.Path.{_≡_, refl, sym, _∙_, ap}
+use mathlib.Core.Path.{_≡_, refl, _∙_, ap}
 use mathlib.Core.List.{List, [], _∷_, _++_, append-assoc}
 use Prim.Native.Nat.{ℕ, suc, _+_, _≤_}
 use lib.ListN.{length, take, drop, set, length-append}
@@ -9,7 +9,7 @@ use native.Mathlib.Omega.{arith}
 use Rattle.model.specs.Layout.{flag}
 use Rattle.state.specs.declared.Sender as DD
 use Rattle.flat.specs.Flat.{stateNumber, kind, place, second, senderNumbers}
-use Rattle.flat.proofs.SenderLaws.{listed, numbers-listed}
+use Rattle.flat.proofs.SenderLaws.{numbers-listed}
 
 -- numbers stored one by one, from place at + k on
 abbrev pub stored : List ℕ → ℕ → ℕ → List ℕ → List ℕ

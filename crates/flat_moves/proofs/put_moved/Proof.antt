@@ -83,8 +83,9 @@ returns : tie.Need-returns
 returns c =
     let g = c .before in
     let a = start (wrote g) .args in
-    moved-none (a .s .now) (numbers g) (a .i) _ _ (g .signals .result) (a .m) (g .before .before .messages-after .ensures)
-    (g .before .matches-after .ensures) (g .signals .ensures) (unsignalled g) (c .if1 .taken)
+    moved-none (a .s .now) (numbers g) (a .i) _ _ (g .signals .result) (a .m)
+    (g .before .before .messages-after .ensures) (g .before .matches-after .ensures) (g .signals .ensures)
+    (unsignalled g) (c .if1 .taken)
 
 put-signal-requires : tie.Need-put-signal-requires
 put-signal-requires c κs = (unsignalled (c .before .before) .0, omega (arith, c .before .if1 .left))
@@ -101,9 +102,9 @@ returns-2 c =
     let e = p .before .before in
     let g = e .before in
     let a = start (wrote g) .args in
-    moved-some (a .s .now) (numbers g) (a .i) _ _ (g .signals .result) (a .m) (g .before .before .messages-after .ensures)
-    (g .before .matches-after .ensures) (g .signals .ensures) (unsignalled g) (p .put-signal .last .0) (e .if1 .left)
-    (p .put-signal .ensures)
+    moved-some (a .s .now) (numbers g) (a .i) _ _ (g .signals .result) (a .m)
+    (g .before .before .messages-after .ensures) (g .before .matches-after .ensures) (g .signals .ensures)
+    (unsignalled g) (p .put-signal .last .0) (e .if1 .left) (p .put-signal .ensures)
 
 pub put-moved-spec : {M : Type 1} → statement M
 put-moved-spec =
