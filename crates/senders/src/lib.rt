@@ -248,7 +248,7 @@ fn all_chosen_below(table: &[u8], j: Job, n: u16) -> bool
 
 // Whether the sender's job is on its own message or its waker, has chosen messages of the board, and is at a place that
 // the steps have.
-fn job_ok(table: &[u8], d: Sender, n: u16, matches: u16, channels: &[u8]) -> bool
+pub fn job_ok(table: &[u8], d: Sender, n: u16, matches: u16, channels: &[u8]) -> bool
     requires { ⌜ (tableRefusal (now table) ≡ 0) × Known (tableOf (now table)) n (now channels) ⌝ }
     ensures { λ r. ⌜ ((b : MB.Board) → Seen b n matches (now (channels .entry))
         → r ≡ jobOk (tableOf (now (table .entry))) b (senderIn (tableOf (now (table .entry))) d)
@@ -343,7 +343,7 @@ fn is_alone(marks: &[u32], i: usize) -> bool
 }
 
 // Whether no mark but 0 stands twice.
-fn none_twice(marks: &[u32]) -> bool
+pub fn none_twice(marks: &[u32]) -> bool
     ensures { λ r. ⌜ r ≡ noneTwice (now (marks .entry)) ⌝ }
 {
     let mut i: usize = 0;

@@ -1,0 +1,160 @@
+use Rattle.flat_judges.proofs.RowLaws.{row-at, kind-below, numbers-ok, row-yes, row-no, phase-no}
+use Rattle.flat_judges.specs.Rows.{row, within, limits}
+use Rattle.flat.specs.Flat.{phaseOk}
+use Rattle.model.specs.Layout.{tableOf}
+use lib.ListN.{getD}
+use native.Mathlib.Omega.{arith}
+use borrow.Author.Tests.{not-true, not-false}
+use Prim.Native.Nat.{ℕ, _+_, _<_, _≤_}
+use mathlib.Core.List.{List}
+use mathlib.Core.Bool.{true}
+use mathlib.Core.Path.{_≡_, sym, _∙_}
+use borrow.Author.Needs.{needs}
+use Rattle.flat_judges.proofs.row_ok.Statement.{statement}
+use Rattle.flat_judges.proofs.row_ok.Tie as tie
+use Rattle.flat_judges.proofs.row_ok.Reads as reads
+use Rattle.flat_judges.proofs.row_ok.Lts as lts
+use Rattle.flat_judges.proofs.phase_ok.Reads as phase-ok-reads
+use Rattle.flat_judges.proofs.state_ok.Reads as state-ok-reads
+use Rattle.flat_judges.proofs.within.Reads as within-reads
+
+-- where the function starts, and the sender's numbers
+abbrev start : tie.After-within → tie.Start
+start c = c .before .before .before .before
+
+abbrev numbers : tie.After-within → List ℕ
+numbers c = row (start c .args .s .now) (start c .args .at)
+
+-- a number of 16 bits
+small : (c : tie.After-within) (i : ℕ) → i < 21 → getD (numbers c) i 0 ≤ 65535
+small c i h =
+    let a = start c .args in
+    rw (row-at (a .s .now) (a .at) i h) (omega (arith, c .before .before .shared-slice-known2 .given (a .at + i)))
+
+-- the limits and the phase, as the two functions say
+within-says : (c : tie.After-within)
+    → let a = start c .args in
+    within (limits (a .n) (a .k)) (numbers c) ≡ c .within .result
+within-says c = rw (start c .pre .1 .1) at (sym (c .within .ensures))
+
+all-within : (c : tie.Else1)
+    → let a = start (c .before) .args in
+    within (limits (a .n) (a .k)) (numbers (c .before)) ≡ true
+all-within c = within-says (c .before) ∙ not-false _ (c .if1 .left)
+
+-- where the limits were tested
+abbrev limited : tie.After-phase-ok → tie.Else1
+limited c = c .before .before .before .before
+
+phase-says : (c : tie.After-phase-ok)
+    → let a = numbers (limited c .before) in
+    phaseOk (getD a 8 0) (getD a 9 0) (getD a 10 0) ≡ c .phase-ok .result
+phase-says c =
+    let a = start (limited c .before) .args in
+    let at = row-at (a .s .now) (a .at) in
+    rw (at 8 (omega arith), at 9 (omega arith), at 10 (omega arith)) (sym (c .phase-ok .ensures))
+
+-- src/lib.rt:86:9
+within-requires : tie.Need-within-requires
+within-requires c κs = search needs
+
+-- src/lib.rt:87:9
+returns : tie.Need-returns
+returns c b sees =
+    let q = c .before in
+    let a = start q .args in
+    sym (row-no (tableOf (a .table .now)) b (numbers q) (a .n) (a .k) _ sees (small q)
+    (within-says q ∙ not-true _ (c .if1 .taken)))
+
+-- src/lib.rt:89:20
+add-phase-ok : tie.Need-add-phase-ok
+add-phase-ok c = search needs
+
+-- src/lib.rt:89:18
+mul-phase-ok : tie.Need-mul-phase-ok
+mul-phase-ok c = search needs
+
+-- src/lib.rt:89:18
+shared-slice-read-phase-ok : tie.Need-shared-slice-read-phase-ok
+shared-slice-read-phase-ok c = search needs
+
+-- src/lib.rt:89:31
+add-phase-ok-2 : tie.Need-add-phase-ok-2
+add-phase-ok-2 c = search needs
+
+-- src/lib.rt:89:29
+mul-phase-ok-2 : tie.Need-mul-phase-ok-2
+mul-phase-ok-2 c = search needs
+
+-- src/lib.rt:89:29
+shared-slice-read-phase-ok-2 : tie.Need-shared-slice-read-phase-ok-2
+shared-slice-read-phase-ok-2 c = search needs
+
+-- src/lib.rt:89:42
+add-phase-ok-3 : tie.Need-add-phase-ok-3
+add-phase-ok-3 c = search needs
+
+-- src/lib.rt:89:40
+mul-phase-ok-3 : tie.Need-mul-phase-ok-3
+mul-phase-ok-3 c = search needs
+
+-- src/lib.rt:89:40
+shared-slice-read-phase-ok-3 : tie.Need-shared-slice-read-phase-ok-3
+shared-slice-read-phase-ok-3 c = search needs
+
+-- src/lib.rt:89:9
+phase-ok-requires : tie.Need-phase-ok-requires
+phase-ok-requires c κs =
+    let q = c .before .before .before in
+    let a = start (q .before) .args in
+    rw (row-at (a .s .now) (a .at) 8 (omega arith)) at (kind-below (numbers (q .before)) (a .n) (a .k) (all-within q))
+
+-- src/lib.rt:90:9
+returns-2 : tie.Need-returns-2
+returns-2 c b sees =
+    let p = c .before in
+    let q = limited p .before in
+    sym (phase-no (tableOf (start q .args .table .now)) b (numbers q) (phase-says p ∙ not-true _ (c .if2 .taken)))
+
+-- src/lib.rt:92:5
+state-ok-requires : tie.Need-state-ok-requires
+state-ok-requires c κs =
+    let p = c .before in
+    let e = limited p in
+    let s = start (e .before) in (
+      s .pre .0,
+      (
+        s .pre .1 .0,
+        numbers-ok (numbers (e .before)) (s .args .n) (s .args .k) (all-within e)
+            (phase-says p ∙ not-false _ (c .if2 .left)),
+      ),
+    )
+
+-- src/lib.rt:72:1
+returns-3 : tie.Need-returns-3
+returns-3 c b sees =
+    let p = c .before .before in
+    let e = limited p in
+    let a = start (e .before) .args in
+    c .state-ok .ensures b sees ∙ sym (row-yes (tableOf (a .table .now)) b (numbers (e .before)) (a .n) (a .k) _ sees
+    (all-within e) (phase-says p ∙ not-false _ (c .before .if2 .left)))
+
+pub row-ok-spec : {M : Type 1} → statement M
+row-ok-spec =
+    tie.close
+    (tie.spec
+    within-requires
+    returns
+    add-phase-ok
+    mul-phase-ok
+    shared-slice-read-phase-ok
+    add-phase-ok-2
+    mul-phase-ok-2
+    shared-slice-read-phase-ok-2
+    add-phase-ok-3
+    mul-phase-ok-3
+    shared-slice-read-phase-ok-3
+    phase-ok-requires
+    returns-2
+    state-ok-requires
+    returns-3)

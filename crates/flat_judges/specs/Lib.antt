@@ -1,0 +1,3 @@
+-- What every board call tests first, over the board's numbers.
+pub mod Rows
+pub mod Judged
