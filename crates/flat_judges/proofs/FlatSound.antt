@@ -1,5 +1,5 @@
 -- The board that numbers are, tested in the order of the code: counts, messages, matches, senders.
-use mathlib.Core.Path.{_≡_, refl, sym, _∙_, ap}
+use mathlib.Core.Path.{_≡_, refl}
 use mathlib.Core.Bool.{Bool, true, false, _&&_}
 use mathlib.Core.List.{List, map}
 use Prim.Native.Nat.{ℕ, _≤_}
@@ -10,15 +10,15 @@ use Rattle.model.specs.Basics.{every, unless}
 use Rattle.model.specs.Tables.{Table}
 use Rattle.model.specs.Boards.{Board}
 use Rattle.model.specs.Layout.{tableRefusal, tableOf}
-use Rattle.model.specs.Sound.{sound, matchOk, senderOk, noneShared}
+use Rattle.model.specs.Sound.{sound, senderOk, noneShared}
 use Rattle.columns.specs.Columns.{Columns}
-use Rattle.columns.specs.MatchColumns.{MatchColumns, matchesFrom}
+use Rattle.columns.specs.MatchColumns.{MatchColumns}
 use Rattle.state.specs.Views.{senderIn}
 use Rattle.boards.specs.Boards.{boardIn}
 use Rattle.soundness.specs.Tests.{messagesOk}
 use Rattle.senders.specs.Seen.{Seen, Known}
 use Rattle.judges.specs.Judged.{lentOk, statusesOk, boardRefusal}
-use Rattle.judges.proofs.Parts.{sound-is, seen-on, known-on}
+use Rattle.judges.proofs.Parts.{matchesTest, sound-is, seen-on, known-on}
 use Rattle.flat.specs.Flat.{sendersOk, flatOk}
 use Rattle.flat.specs.Decoded.{boardFrom}
 use Rattle.flat_judges.specs.Rows.{rowsOk, sendersIn}
@@ -43,19 +43,15 @@ module _ (t : Table) (s : List ℕ) (c : Columns) (m : MatchColumns) where
   abbrev pub boardOn : Board
   boardOn = boardIn t (boardFrom s) c m
 
-  -- the matches, each on the board
-  abbrev pub matchesTest : Bool
-  matchesTest = every (matchOk t boardOn) (matchesFrom t m 0 (getD s 1 0))
-
   -- the senders, each by itself and all together
-  abbrev pub sendersTest : Bool
+  abbrev sendersTest : Bool
   sendersTest = rowsOk t boardOn 32 (drop 2 s) && noneShared (map (senderIn t) (sendersIn s))
 
   -- numbers of a sound board, in the order of the code
   pub flat-sound : length s ≡ 674
       → (flatOk s && (statusesOk (boardFrom s .messages) (c .statuses) && sound t boardOn))
       ≡ ((leb (getD s 0 0) 1024 && leb (getD s 1 0) 1024)
-      && (messagesOk t boardOn c (getD s 0 0) && (matchesTest && sendersTest)))
+      && (messagesOk t boardOn c (getD s 0 0) && (matchesTest t (boardFrom s) c m && sendersTest)))
   unfolding flatOk boardFrom
   flat-sound e =
       rw (
@@ -64,7 +60,7 @@ module _ (t : Table) (s : List ℕ) (c : Columns) (m : MatchColumns) where
         rows-are t boardOn 32 (drop 2 s),
       )
       (moved (sendersOk 32 (drop 2 s)) (leb (getD s 0 0) 1024 && leb (getD s 1 0) 1024)
-      (messagesOk t boardOn c (getD s 0 0)) matchesTest
+      (messagesOk t boardOn c (getD s 0 0)) (matchesTest t (boardFrom s) c m)
       (every (senderOk t boardOn) (map (senderIn t) (sendersIn s))) (noneShared (map (senderIn t) (sendersIn s))))
 
   -- what the test of senders sees of the board

@@ -1,23 +1,23 @@
 -- Laws of the tests of a sender by its 21 numbers.
 use mathlib.Core.Path.{_≡_, refl, sym, _∙_}
 use mathlib.Core.Logic.{_⊎_, inl, inr, _≢_}
-use mathlib.Core.Bool.{Bool, true, false, _&&_}
-use mathlib.Core.List.{List, [], _∷_}
-use Prim.Native.Nat.{ℕ, zero, suc, _+_, _<_, _≤_}
+use mathlib.Core.Bool.{Bool, true, false}
+use mathlib.Core.List.{List}
+use Prim.Native.Nat.{ℕ, _+_, _<_, _≤_}
 use borrow.Author.Tests.{le-leb, leb-true, ne-eqb}
 use lib.Dec.{eqb, leb}
-use lib.ListN.{getD, take, drop, length, length-drop}
+use lib.ListN.{getD, drop, length, length-drop}
 use lib.Seq.{getD-take, getD-drop, length-take-le}
 use native.Mathlib.Omega.{arith}
 use Rattle.model.specs.Basics.{pick}
 use Rattle.model.specs.Tables.{Table}
 use Rattle.model.specs.Boards.{Board, Sender, Job}
 use Rattle.model.specs.Sound.{stateOk, jobOk, senderOk as soundOk}
-use Rattle.model.proofs.Tests.{both, and, never, tested, all-four}
-use Rattle.soundness.specs.Tests.{eachBelow}
-use Rattle.soundness.proofs.Each.{each-at}
+use Rattle.model.proofs.Tests.{both, never, tested, all-four}
 use Rattle.state.specs.declared.State.the-variants as S
 use Rattle.state.specs.Views.{jobIn, idleIs, stateIn}
+use Rattle.soundness.specs.Tests.{eachBelow}
+use Rattle.soundness.proofs.Each.{each-at}
 use Rattle.senders.specs.Seen.{Seen, markBy}
 use Rattle.flat.specs.Flat.{phaseOk, senderOk}
 use Rattle.flat.specs.Decoded.{senderFrom}
@@ -79,7 +79,8 @@ module _ (t : Table) (b : Board) (a : List ℕ) where
   pub ownless : getD a 0 0 ≢ 0 → getD a 2 0 ≡ 0 → stateTest ≡ false
   ownless e o = rw (ne-eqb (getD a 0 0) 0 e) (go (eqb (getD a 0 0) 1) _ _ o)
     where
-      go : (u : Bool) (d : Sender) (w : Job) → d .own ≡ 0 → stateOk t b d (stateIn (pick u S.Working S.Blocked) w) ≡ false
+      go : (u : Bool) (d : Sender) (w : Job) → d .own ≡ 0
+          → stateOk t b d (stateIn (pick u S.Working S.Blocked) w) ≡ false
       go true d w o = rw o
       go false d w o = rw o
 

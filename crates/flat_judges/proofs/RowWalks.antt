@@ -1,7 +1,7 @@
 -- Laws of the senders' numbers walked from the front.
-use mathlib.Core.Path.{_≡_, refl, sym, _∙_}
+use mathlib.Core.Path.{_≡_, refl, _∙_}
 use mathlib.Core.Bool.{Bool, true, false, _&&_}
-use mathlib.Core.List.{List, [], _∷_, map}
+use mathlib.Core.List.{List, map}
 use Prim.Native.Nat.{ℕ, zero, suc, _+_, _*_, _-_, _<_, _≤_}
 use lib.ListN.{getD, take, drop, length}
 use lib.Seq.{drop-drop}
@@ -43,7 +43,7 @@ module _ (t : Table) (b : Board) where
       ≡ (sendersOk n s && every (soundOk t b) (map (senderIn t) (sendersFrom n s)))
   unfolding rowsOk rowOk sendersOk sendersFrom
   rows-are zero s = refl
-  rows-are (suc n) s = rw (rows-are n (drop 21 s)) 
+  rows-are (suc n) s = rw (rows-are n (drop 21 s))
       (swapped (senderOk (take 21 s)) (soundOk t b (senderAt t (take 21 s))) _ _)
     where
       swapped : (u v x y : Bool) → ((u && v) && (x && y)) ≡ ((u && x) && (v && y))

@@ -19,8 +19,10 @@ ghost use Rattle.flat.specs.Decoded.{senderFrom, boardFrom};
 ghost use Rattle.flat_judges.specs.Rows.{row, within, limits, senderAt, rowOk, rowsOk, sendersIn};
 ghost use Rattle.flat_judges.specs.Judged.{flatRefusal};
 
-// The largest place, and the largest second number, of each phase.
+// The largest place of each phase.
 const PLACES: [u16; 10] = [255, 255, 255, 255, 255, 0, 255, 0, 0, 255];
+
+// The largest second number of each phase.
 const SECONDS: [u16; 10] = [0, 0, 255, 65535, 0, 0, 0, 0, 0, 0];
 
 // Whether the 16 numbers from a place on are each at most their limit.
@@ -55,13 +57,14 @@ fn state_ok(table: &[u8], s: &[u16], at: usize, n: u16, k: u16, channels: &[u8])
         (senderAt (tableOf (now (table .entry))) (row (now (s .entry)) at))
         (senderAt (tableOf (now (table .entry))) (row (now (s .entry)) at) .state)) ⌝ }
 {
-    if s[at] == 0 {
+    let state = s[at];
+    if state == 0 {
         return true;
     }
     if s[at + 2] == 0 {
         return false;
     }
-    if s[at] == 2 {
+    if state == 2 {
         return true;
     }
     let d = flat::sender_of(&s[at..at + 21]);
@@ -92,6 +95,30 @@ fn row_ok(
     state_ok(table, s, at, n, k, channels)
 }
 
+// What the first 16 numbers of a sender are at most, on a board of n messages and k matches.
+fn limits(n: u16, k: u16) -> [u16; 16]
+    ensures { λ r. ⌜ r ≡ limits n k ⌝ }
+{
+    [
+        2,
+        1,
+        n,
+        n,
+        k,
+        k,
+        65535,
+        255,
+        9,
+        255,
+        65535,
+        1,
+        255,
+        65535,
+        65535,
+        65535,
+    ]
+}
+
 // Whether the numbers from the third on are those of 32 senders, each sound by itself.
 fn rows_ok(table: &[u8], s: &[u16], n: u16, k: u16, channels: &[u8]) -> bool
     requires { ⌜ (tableRefusal (now table) ≡ 0) × Known (tableOf (now table)) n (now channels) ⌝ }
@@ -99,9 +126,7 @@ fn rows_ok(table: &[u8], s: &[u16], n: u16, k: u16, channels: &[u8]) -> bool
     ensures { λ r. ⌜ ((b : MB.Board) → Seen b n k (now (channels .entry))
         → r ≡ rowsOk (tableOf (now (table .entry))) b 32 (drop 2 (now (s .entry)))) ⌝ }
 {
-    let most: [u16; 16] = [
-        2, 1, n, n, k, k, 65535, 255, 9, 255, 65535, 1, 255, 65535, 65535, 65535,
-    ];
+    let most = limits(n, k);
     let mut i: usize = 0;
     while i < 32 {
         if !row_ok(table, s, 2 + 21 * i, &most, n, k, channels) {

@@ -1,27 +1,23 @@
-use Rattle.flat_judges.proofs.FlatSound.{boardOn, flat-short, flat-refusal-is}
-use Rattle.flat_judges.specs.Judged.{flatRefusal}
-use Rattle.flat.specs.Decoded.{boardFrom}
-use Rattle.flat.specs.Flat.{flatOk}
-use Rattle.judges.proofs.Refusals.{lengths-by}
-use Rattle.judges.specs.Judged.{lentOk, statusesOk}
-use Rattle.columns.specs.MatchColumns.{MatchColumns, matchesOf}
-use Rattle.columns.specs.Columns.{Columns, columnsOf}
-use Rattle.table.proofs.Places.{refused-first}
+-- `flat_judges::flat_refusal` meets its contract: the reader's number, or 30 at the first test that fails.
+use mathlib.Core.Bool.{_&&_, true}
+use mathlib.Core.Path.{_≡_, sym, _∙_}
+use borrow.Author.Tests.{not-true, not-false}
+use borrow.Author.Needs.{needs}
+use native.Mathlib.Omega.{arith}
 use Rattle.model.specs.Sound.{sound}
 use Rattle.model.specs.Basics.{unless}
 use Rattle.model.specs.Layout.{tableRefusal, tableOf}
-use native.Mathlib.Omega.{arith}
-use borrow.Author.Tests.{not-true, not-false}
-use mathlib.Core.Bool.{_&&_, true}
-use mathlib.Core.Path.{_≡_, sym, _∙_}
-use borrow.Author.Needs.{needs}
+use Rattle.table.proofs.Places.{refused-first}
+use Rattle.columns.specs.MatchColumns.{MatchColumns, matchesOf}
+use Rattle.columns.specs.Columns.{Columns, columnsOf}
+use Rattle.judges.proofs.Refusals.{lengths-by}
+use Rattle.judges.specs.Judged.{lentOk, statusesOk}
+use Rattle.flat.specs.Decoded.{boardFrom}
+use Rattle.flat.specs.Flat.{flatOk}
+use Rattle.flat_judges.specs.Judged.{flatRefusal}
+use Rattle.flat_judges.proofs.FlatSound.{boardOn, flat-short, flat-refusal-is}
 use Rattle.flat_judges.proofs.flat_refusal.Statement.{statement}
 use Rattle.flat_judges.proofs.flat_refusal.Tie as tie
-use Rattle.flat_judges.proofs.flat_refusal.Reads as reads
-use Rattle.flat_judges.proofs.flat_refusal.Lts as lts
-use Rattle.flat_judges.proofs.is_sound.Reads as is-sound-reads
-use Rattle.judges.proofs.lent_ok.Reads as lent-ok-reads
-use Rattle.table.proofs.table_refusal.Reads as table-refusal-reads
 
 -- what is lent
 abbrev cols : tie.Start → Columns
@@ -73,31 +69,25 @@ refusal-is c =
     let s = start (c .before) in
     flat-refusal-is (s .args .table .now) (s .args .board .now) (cols s) (pairs s) (accepted c)
 
--- src/lib.rt:212:9
 table-refusal-requires : tie.Need-table-refusal-requires
 table-refusal-requires c κs = search needs
 
--- src/lib.rt:214:9
 returns : tie.Need-returns
 unfolding flatRefusal
 returns c = let e = c .before .table-refusal .ensures in e ∙ refused-first _ _ (λ z. c .if1 .taken (e ∙ z))
 
--- src/lib.rt:216:9
 lent-ok-requires : tie.Need-lent-ok-requires
 lent-ok-requires c κs = search needs
 
--- src/lib.rt:226:9
 returns-2 : tie.Need-returns-2
 returns-2 c = rw (refusal-is (c .before .before), lent-says (c .before) ∙ not-true _ (c .if2 .taken))
 
--- src/lib.rt:229:9
 returns-3 : tie.Need-returns-3
 returns-3 c =
     let d = c .before in
     let e = d .before .before in
     rw (refusal-is e, lent-passes d, flat-short (start (e .before) .args .board .now) (c .if3 .taken))
 
--- src/lib.rt:231:9
 is-sound-requires : tie.Need-is-sound-requires
 is-sound-requires c κs =
     let d = c .before in
@@ -111,13 +101,11 @@ is-sound-requires c κs =
       ),
     )
 
--- src/lib.rt:242:9
 returns-4 : tie.Need-returns-4
 returns-4 c =
     let d = c .before .before .before in
     rw (refusal-is (d .before .before), lent-passes d, sound-says (c .before) ∙ not-true _ (c .if4 .taken))
 
--- src/lib.rt:195:1
 returns-5 : tie.Need-returns-5
 returns-5 c =
     let d = c .before .before .before in

@@ -1,27 +1,24 @@
-use Rattle.flat_judges.proofs.FlatSound.{boardOn, matchesTest, flat-sound, seen-flat, known-flat}
-use Rattle.soundness.specs.Tests.{messagesOk}
-use Rattle.columns.specs.MatchColumns.{MatchColumns, matchesOf}
-use Rattle.columns.specs.Columns.{Columns, columnsOf}
-use Rattle.model.proofs.Tests.{both}
-use Rattle.model.specs.Sound.{sound}
-use Rattle.model.specs.Layout.{tableOf}
-use Rattle.model.specs.Tables.{Table}
-use lib.ListN.{getD}
-use lib.Dec.{leb}
-use native.Mathlib.Omega.{arith}
-use borrow.Author.Tests.{not-true, not-false, leb-true}
-use Prim.Native.Nat.{ℕ, _≤_}
+-- `flat_judges::is_sound` meets its contract: a part that is not sound is a no, and the senders decide the rest.
 use mathlib.Core.List.{List, []}
 use mathlib.Core.Bool.{_&&_, true}
 use mathlib.Core.Path.{_≡_, sym, _∙_}
+use Prim.Native.Nat.{ℕ, _≤_}
+use borrow.Author.Tests.{not-true, not-false, leb-true}
 use borrow.Author.Needs.{needs}
+use lib.ListN.{getD}
+use lib.Dec.{leb}
+use native.Mathlib.Omega.{arith}
+use Rattle.model.proofs.Tests.{both}
+use Rattle.model.specs.Layout.{tableOf}
+use Rattle.model.specs.Tables.{Table}
+use Rattle.columns.specs.MatchColumns.{MatchColumns, matchesOf}
+use Rattle.columns.specs.Columns.{Columns, columnsOf}
+use Rattle.soundness.specs.Tests.{messagesOk}
+use Rattle.judges.proofs.Parts.{matchesTest}
+use Rattle.flat.specs.Decoded.{boardFrom}
+use Rattle.flat_judges.proofs.FlatSound.{boardOn, flat-sound, seen-flat, known-flat}
 use Rattle.flat_judges.proofs.is_sound.Statement.{statement}
 use Rattle.flat_judges.proofs.is_sound.Tie as tie
-use Rattle.flat_judges.proofs.is_sound.Reads as reads
-use Rattle.flat_judges.proofs.is_sound.Lts as lts
-use Rattle.flat_judges.proofs.senders_ok.Reads as senders-ok-reads
-use Rattle.soundness.proofs.matches_ok.Reads as matches-ok-reads
-use Rattle.soundness.proofs.messages_ok.Reads as messages-ok-reads
 
 -- what is lent, with any properties
 abbrev cols : tie.Start → List ℕ → Columns
@@ -65,35 +62,31 @@ messages-say c p =
 
 matches-say : (c : tie.After-matches-ok) (p : List ℕ)
     → let s = start (c .before .before .before) in
-    matchesTest (table s) (numbers s) (cols s p) (pairs s) ≡ c .matches-ok .result
+    matchesTest (table s) (boardFrom (numbers s)) (cols s p) (pairs s) ≡ c .matches-ok .result
+unfolding boardFrom
 matches-say c p =
     let s = start (c .before .before .before) in
     let v = seen-flat (table s) (numbers s) (cols s p) (pairs s) in
     sym (c .matches-ok .ensures (boardOn (table s) (numbers s) (cols s p) (pairs s)) (v .count))
 
--- src/lib.rt:180:13
 shared-slice-read-n : tie.Need-shared-slice-read-n
 shared-slice-read-n c = search needs
 
--- src/lib.rt:181:13
 shared-slice-read-k : tie.Need-shared-slice-read-k
 shared-slice-read-k c = search needs
 
--- src/lib.rt:183:9
 returns : tie.Need-returns
 returns c p =
     let s = c .before .before .before .before .before .before .before .before .before .before .before in
     let e = not-true (leb (getD (numbers s) 0 0) 1024 && leb (getD (numbers s) 1 0) 1024) (c .if1 .taken) in
     rw (flat-sound (table s) (numbers s) (cols s p) (pairs s) (s .pre .0 .1), e)
 
--- src/lib.rt:185:9
 messages-ok-requires : tie.Need-messages-ok-requires
 messages-ok-requires c κs =
     let s = start c in
     let f = few c in
     (s .pre .0 .0, ((omega arith, omega arith, omega arith), (omega arith, omega arith)))
 
--- src/lib.rt:186:9
 returns-2 : tie.Need-returns-2
 returns-2 c p =
     let q = c .before in
@@ -104,7 +97,6 @@ returns-2 c p =
       messages-say q p ∙ not-true _ (c .if2 .taken),
     )
 
--- src/lib.rt:188:9
 matches-ok-requires : tie.Need-matches-ok-requires
 matches-ok-requires c κs =
     let e = c .before .before in
@@ -112,7 +104,6 @@ matches-ok-requires c κs =
     let f = few e in
     (s .pre .0 .0, (omega arith, omega arith))
 
--- src/lib.rt:189:9
 returns-3 : tie.Need-returns-3
 returns-3 c p =
     let m = c .before in
@@ -125,7 +116,6 @@ returns-3 c p =
       matches-say m p ∙ not-true _ (c .if3 .taken),
     )
 
--- src/lib.rt:191:5
 senders-ok-requires : tie.Need-senders-ok-requires
 senders-ok-requires c κs =
     let m = c .before in
@@ -140,7 +130,6 @@ senders-ok-requires c κs =
       s .pre .0 .1,
     )
 
--- src/lib.rt:157:1
 returns-4 : tie.Need-returns-4
 returns-4 c p =
     let l = c .before in

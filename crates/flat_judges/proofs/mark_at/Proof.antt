@@ -1,49 +1,39 @@
-use Rattle.flat_judges.proofs.RowLaws.{row-at, row-first, mark-idle, mark-own}
-use Rattle.flat_judges.specs.Rows.{row}
-use native.Mathlib.Omega.{arith}
+-- `flat_judges::mark_at` meets its contract: the mark by the state's number and the own message.
+use mathlib.Core.Path.{sym, _∙_, ap}
 use Prim.Native.Nat.{ℕ, _+_}
-use mathlib.Core.Path.{_≡_, sym, _∙_, ap}
 use borrow.Author.Needs.{needs}
+use native.Mathlib.Omega.{arith}
+use Rattle.flat_judges.specs.Rows.{row}
+use Rattle.flat_judges.proofs.RowLaws.{row-at, row-first, mark-idle, mark-own}
 use Rattle.flat_judges.proofs.mark_at.Statement.{statement}
 use Rattle.flat_judges.proofs.mark_at.Tie as tie
-use Rattle.flat_judges.proofs.mark_at.Reads as reads
-use Rattle.flat_judges.proofs.mark_at.Lts as lts
 
--- src/lib.rt:120:8
 mul-if1 : tie.Need-mul-if1
 mul-if1 c = search needs
 
--- src/lib.rt:120:8
 shared-slice-read-if1 : tie.Need-shared-slice-read-if1
 shared-slice-read-if1 c = search needs
 
--- src/lib.rt:121:9
 returns : tie.Need-returns
 returns c =
     let a = c .before .before .args in
     sym (mark-idle (row (a .s .now) (a .at)) (row-first (a .s .now) (a .at) ∙ c .if1 .taken))
 
--- src/lib.rt:123:7
 add-result : tie.Need-add-result
 add-result c = search needs
 
--- src/lib.rt:123:5
 mul-result : tie.Need-mul-result
 mul-result c = search needs
 
--- src/lib.rt:123:5
 shared-slice-read-result : tie.Need-shared-slice-read-result
 shared-slice-read-result c = search needs
 
--- src/lib.rt:123:5
 cast-result : tie.Need-cast-result
 cast-result c = omega (arith, c .shared-slice-known2 .given (c .before .before .before .args .at + 2))
 
--- src/lib.rt:123:5
 add-result-2 : tie.Need-add-result-2
 add-result-2 c = omega (arith, c .shared-slice-known2 .given (c .before .before .before .args .at + 2))
 
--- src/lib.rt:116:1
 returns-2 : tie.Need-returns-2
 returns-2 c =
     let a = c .before .before .before .args in

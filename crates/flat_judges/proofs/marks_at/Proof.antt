@@ -1,19 +1,17 @@
-use borrow.Author.Needs.{needs}
-use Rattle.flat_judges.proofs.RowWalks.{senders-count, nth-sender}
-use Rattle.flat_judges.specs.Rows.{sendersIn}
-use Rattle.senders.proofs.Alone.{mapped-step, mapped-end}
-use Rattle.senders.specs.Seen.{markBy}
-use Rattle.boards.specs.Boards.{zeroSender}
-use lib.ListN.{length, take, drop, getD, length-set}
-use native.Mathlib.Omega.{arith}
-use Prim.Native.Nat.{_≤_, _-_}
+-- `flat_judges::marks_at` meets its contract: mark by mark.
 use mathlib.Core.List.{map}
 use mathlib.Core.Path.{_≡_, refl, sym, _∙_, ap}
+use Prim.Native.Nat.{_≤_, _-_}
+use borrow.Author.Needs.{needs}
+use lib.ListN.{length, take, drop, getD, length-set}
+use native.Mathlib.Omega.{arith}
+use Rattle.boards.specs.Boards.{zeroSender}
+use Rattle.senders.proofs.Alone.{mapped-step, mapped-end}
+use Rattle.senders.specs.Seen.{markBy}
+use Rattle.flat_judges.specs.Rows.{sendersIn}
+use Rattle.flat_judges.proofs.RowWalks.{senders-count, nth-sender}
 use Rattle.flat_judges.proofs.marks_at.Statement.{statement}
 use Rattle.flat_judges.proofs.marks_at.Tie as tie
-use Rattle.flat_judges.proofs.marks_at.Reads as reads
-use Rattle.flat_judges.proofs.marks_at.Lts as lts
-use Rattle.flat_judges.proofs.mark_at.Reads as mark-at-reads
 
 abbrev Inv-loop : tie.InvT-loop
 Inv-loop s r₀ i₀ r i = (i ≤ 32) × (length r ≡ 32) × (take i r ≡ map markBy (take i (sendersIn s)))
@@ -21,39 +19,30 @@ Inv-loop s r₀ i₀ r i = (i ≤ 32) × (length r ≡ 32) × (take i r ≡ map 
 abbrev μ-loop : tie.MeasureT-loop
 μ-loop s r₀ i₀ r i = 32 - i
 
--- src/lib.rt:133:5
 loop-holds : tie.Need-loop-holds Inv-loop μ-loop
 loop-holds c = (omega arith, refl, refl)
 
--- src/lib.rt:134:31
 mul-mark-at : tie.Need-mul-mark-at Inv-loop μ-loop
 mul-mark-at c = search needs
 
--- src/lib.rt:134:27
 add-mark-at : tie.Need-add-mark-at Inv-loop μ-loop
 add-mark-at c = search needs
 
--- src/lib.rt:134:16
 mark-at-requires : tie.Need-mark-at-requires Inv-loop μ-loop
 mark-at-requires c κs = search needs
 
--- src/lib.rt:134:9
 mul-r : tie.Need-mul-r Inv-loop μ-loop
 mul-r c = search needs
 
--- src/lib.rt:134:9
 array-write-r : tie.Need-array-write-r Inv-loop μ-loop
 array-write-r c = search needs
 
--- src/lib.rt:135:9
 add-i : tie.Need-add-i Inv-loop μ-loop
 add-i c = search needs
 
--- src/lib.rt:133:5
 loop-less : tie.Need-loop-less Inv-loop μ-loop
 loop-less c = search needs
 
--- src/lib.rt:133:5
 loop-again : tie.Need-loop-again Inv-loop μ-loop
 loop-again c =
     let p = c .before .before in
@@ -68,7 +57,6 @@ loop-again c =
           (mapped-step markBy (sendersIn s) (l .r) (l .i) (l .inv .1 ∙ sym n) (l .inv .2) zeroSender (omega arith)),
     )
 
--- src/lib.rt:127:1
 returns : tie.Need-returns Inv-loop μ-loop
 returns c =
     let p = c .before in

@@ -1,22 +1,18 @@
-use Rattle.flat_judges.proofs.RowLaws.{row-at, kind-below, numbers-ok, row-yes, row-no, phase-no}
-use Rattle.flat_judges.specs.Rows.{row, within, limits}
-use Rattle.flat.specs.Flat.{phaseOk}
-use Rattle.model.specs.Layout.{tableOf}
-use lib.ListN.{getD}
-use native.Mathlib.Omega.{arith}
-use borrow.Author.Tests.{not-true, not-false}
-use Prim.Native.Nat.{ℕ, _+_, _<_, _≤_}
+-- `flat_judges::row_ok` meets its contract: the limits, the phase, and then the state.
 use mathlib.Core.List.{List}
 use mathlib.Core.Bool.{true}
 use mathlib.Core.Path.{_≡_, sym, _∙_}
+use Prim.Native.Nat.{ℕ, _+_, _<_, _≤_}
+use borrow.Author.Tests.{not-true, not-false}
 use borrow.Author.Needs.{needs}
+use lib.ListN.{getD}
+use native.Mathlib.Omega.{arith}
+use Rattle.model.specs.Layout.{tableOf}
+use Rattle.flat.specs.Flat.{phaseOk}
+use Rattle.flat_judges.specs.Rows.{row, within, limits}
+use Rattle.flat_judges.proofs.RowLaws.{row-at, kind-below, numbers-ok, row-yes, row-no, phase-no}
 use Rattle.flat_judges.proofs.row_ok.Statement.{statement}
 use Rattle.flat_judges.proofs.row_ok.Tie as tie
-use Rattle.flat_judges.proofs.row_ok.Reads as reads
-use Rattle.flat_judges.proofs.row_ok.Lts as lts
-use Rattle.flat_judges.proofs.phase_ok.Reads as phase-ok-reads
-use Rattle.flat_judges.proofs.state_ok.Reads as state-ok-reads
-use Rattle.flat_judges.proofs.within.Reads as within-reads
 
 -- where the function starts, and the sender's numbers
 abbrev start : tie.After-within → tie.Start
@@ -54,11 +50,9 @@ phase-says c =
     let at = row-at (a .s .now) (a .at) in
     rw (at 8 (omega arith), at 9 (omega arith), at 10 (omega arith)) (sym (c .phase-ok .ensures))
 
--- src/lib.rt:86:9
 within-requires : tie.Need-within-requires
 within-requires c κs = search needs
 
--- src/lib.rt:87:9
 returns : tie.Need-returns
 returns c b sees =
     let q = c .before in
@@ -66,57 +60,45 @@ returns c b sees =
     sym (row-no (tableOf (a .table .now)) b (numbers q) (a .n) (a .k) _ sees (small q)
     (within-says q ∙ not-true _ (c .if1 .taken)))
 
--- src/lib.rt:89:20
 add-phase-ok : tie.Need-add-phase-ok
 add-phase-ok c = search needs
 
--- src/lib.rt:89:18
 mul-phase-ok : tie.Need-mul-phase-ok
 mul-phase-ok c = search needs
 
--- src/lib.rt:89:18
 shared-slice-read-phase-ok : tie.Need-shared-slice-read-phase-ok
 shared-slice-read-phase-ok c = search needs
 
--- src/lib.rt:89:31
 add-phase-ok-2 : tie.Need-add-phase-ok-2
 add-phase-ok-2 c = search needs
 
--- src/lib.rt:89:29
 mul-phase-ok-2 : tie.Need-mul-phase-ok-2
 mul-phase-ok-2 c = search needs
 
--- src/lib.rt:89:29
 shared-slice-read-phase-ok-2 : tie.Need-shared-slice-read-phase-ok-2
 shared-slice-read-phase-ok-2 c = search needs
 
--- src/lib.rt:89:42
 add-phase-ok-3 : tie.Need-add-phase-ok-3
 add-phase-ok-3 c = search needs
 
--- src/lib.rt:89:40
 mul-phase-ok-3 : tie.Need-mul-phase-ok-3
 mul-phase-ok-3 c = search needs
 
--- src/lib.rt:89:40
 shared-slice-read-phase-ok-3 : tie.Need-shared-slice-read-phase-ok-3
 shared-slice-read-phase-ok-3 c = search needs
 
--- src/lib.rt:89:9
 phase-ok-requires : tie.Need-phase-ok-requires
 phase-ok-requires c κs =
     let q = c .before .before .before in
     let a = start (q .before) .args in
     rw (row-at (a .s .now) (a .at) 8 (omega arith)) at (kind-below (numbers (q .before)) (a .n) (a .k) (all-within q))
 
--- src/lib.rt:90:9
 returns-2 : tie.Need-returns-2
 returns-2 c b sees =
     let p = c .before in
     let q = limited p .before in
     sym (phase-no (tableOf (start q .args .table .now)) b (numbers q) (phase-says p ∙ not-true _ (c .if2 .taken)))
 
--- src/lib.rt:92:5
 state-ok-requires : tie.Need-state-ok-requires
 state-ok-requires c κs =
     let p = c .before in
@@ -130,7 +112,6 @@ state-ok-requires c κs =
       ),
     )
 
--- src/lib.rt:72:1
 returns-3 : tie.Need-returns-3
 returns-3 c b sees =
     let p = c .before .before in

@@ -1,23 +1,20 @@
-use Rattle.flat_judges.proofs.RowLaws.{row-at, row-first, idle-ok, ownless, blocked-ok, working-ok, row-len}
-use Rattle.flat_judges.specs.Rows.{row}
+-- `flat_judges::state_ok` meets its contract: a state at a time; the job is that of the decoded sender.
+use mathlib.Core.List.{List}
+use mathlib.Core.Logic.{_≢_}
+use mathlib.Core.Path.{_≡_, sym, _∙_, ap}
+use Prim.Native.Nat.{ℕ, _≤_}
+use borrow.Author.Needs.{needs}
+use lib.ListN.{getD}
+use native.Mathlib.Omega.{arith}
+use Rattle.model.specs.Layout.{tableOf}
 use Rattle.flat.proofs.WalkLaws.{span}
 use Rattle.flat.proofs.SenderLaws.{sender-fits}
 use Rattle.flat.proofs.Encoded.{sender-back}
 use Rattle.flat.specs.Decoded.{senderFrom}
-use Rattle.model.specs.Layout.{tableOf}
-use lib.ListN.{getD}
-use native.Mathlib.Omega.{arith}
-use Prim.Native.Nat.{ℕ, _+_, _≤_}
-use mathlib.Core.List.{List}
-use mathlib.Core.Logic.{_≢_}
-use mathlib.Core.Path.{_≡_, sym, _∙_, ap}
-use borrow.Author.Needs.{needs}
+use Rattle.flat_judges.specs.Rows.{row}
+use Rattle.flat_judges.proofs.RowLaws.{row-at, row-first, idle-ok, ownless, blocked-ok, working-ok, row-len}
 use Rattle.flat_judges.proofs.state_ok.Statement.{statement}
 use Rattle.flat_judges.proofs.state_ok.Tie as tie
-use Rattle.flat_judges.proofs.state_ok.Reads as reads
-use Rattle.flat_judges.proofs.state_ok.Lts as lts
-use Rattle.flat.proofs.sender_of.Reads as sender-of-reads
-use Rattle.senders.proofs.job_ok.Reads as job-ok-reads
 
 -- where the function starts
 abbrev start : tie.Else1 → tie.Start
@@ -27,6 +24,7 @@ start c = c .before .before .before .before .before
 abbrev numbers : tie.Start → List ℕ
 numbers s = row (s .args .s .now) (s .args .at)
 
+-- no state but working is left
 only-one : (n : ℕ) → n ≢ 0 → n ≢ 2 → n ≤ 2 → n ≡ 1
 only-one n p q h = omega arith
 
@@ -41,33 +39,26 @@ owned c e =
     let a = start (c .before .before) .args in
     c .if2 .left (sym (row-at (a .s .now) (a .at) 2 (omega arith)) ∙ e)
 
--- src/lib.rt:58:8
-mul-if1 : tie.Need-mul-if1
-mul-if1 c = search needs
+mul-state : tie.Need-mul-state
+mul-state c = search needs
 
--- src/lib.rt:58:8
-shared-slice-read-if1 : tie.Need-shared-slice-read-if1
-shared-slice-read-if1 c = search needs
+shared-slice-read-state : tie.Need-shared-slice-read-state
+shared-slice-read-state c = search needs
 
--- src/lib.rt:59:9
 returns : tie.Need-returns
 returns c b sees =
     let a = c .before .before .before .before .before .args in
     sym (idle-ok (tableOf (a .table .now)) b (row (a .s .now) (a .at)) (row-first (a .s .now) (a .at) ∙ c .if1 .taken))
 
--- src/lib.rt:61:10
 add-if2 : tie.Need-add-if2
 add-if2 c = search needs
 
--- src/lib.rt:61:8
 mul-if2 : tie.Need-mul-if2
 mul-if2 c = search needs
 
--- src/lib.rt:61:8
 shared-slice-read-if2 : tie.Need-shared-slice-read-if2
 shared-slice-read-if2 c = search needs
 
--- src/lib.rt:62:9
 returns-2 : tie.Need-returns-2
 returns-2 c b sees =
     let e = c .before .before in
@@ -75,58 +66,41 @@ returns-2 c b sees =
     sym (ownless (tableOf (a .table .now)) b (row (a .s .now) (a .at)) (busy e)
     (row-at (a .s .now) (a .at) 2 (omega arith) ∙ c .if2 .taken))
 
--- src/lib.rt:64:8
-mul-if3 : tie.Need-mul-if3
-mul-if3 c = search needs
-
--- src/lib.rt:64:8
-shared-slice-read-if3 : tie.Need-shared-slice-read-if3
-shared-slice-read-if3 c = search needs
-
--- src/lib.rt:65:9
 returns-3 : tie.Need-returns-3
 returns-3 c b sees =
-    let o = c .before .before in
+    let o = c .before in
     let a = start (o .before .before) .args in
     sym (blocked-ok (tableOf (a .table .now)) b (row (a .s .now) (a .at)) (owned o)
     (row-first (a .s .now) (a .at) ∙ c .if3 .taken))
 
--- src/lib.rt:67:36
 add-sender-of : tie.Need-add-sender-of
 add-sender-of c = search needs
 
--- src/lib.rt:67:29
 mul-sender-of : tie.Need-mul-sender-of
 mul-sender-of c = search needs
 
--- src/lib.rt:67:29
 sub-sender-of : tie.Need-sub-sender-of
 sub-sender-of c = search needs
 
--- src/lib.rt:67:29
 part-sender-of-start : tie.Need-part-sender-of-start
 part-sender-of-start c = search needs
 
--- src/lib.rt:67:29
 part-sender-of-end : tie.Need-part-sender-of-end
 part-sender-of-end c = search needs
 
--- src/lib.rt:67:9
 sender-of-requires : tie.Need-sender-of-requires
 sender-of-requires c κs =
-    let s = start (c .before .before .before .before .before) in
+    let s = start (c .before .before .before .before) in
     rw (span (s .args .at)) (row-len (s .args .s .now) (s .args .at) (s .pre .1 .0), s .pre .1 .1)
 
--- src/lib.rt:68:5
 job-ok-requires : tie.Need-job-ok-requires
 job-ok-requires c κs = search needs
 
--- src/lib.rt:50:1
 returns-4 : tie.Need-returns-4
 returns-4 c b sees =
     let d = c .before in
     let w = d .before .before in
-    let o = w .before .before in
+    let o = w .before in
     let s = start (o .before .before) in
     let a = s .args in
     let f = row-first (a .s .now) (a .at) in
@@ -140,15 +114,13 @@ pub state-ok-spec : {M : Type 1} → statement M
 state-ok-spec =
     tie.close
     (tie.spec
-    mul-if1
-    shared-slice-read-if1
+    mul-state
+    shared-slice-read-state
     returns
     add-if2
     mul-if2
     shared-slice-read-if2
     returns-2
-    mul-if3
-    shared-slice-read-if3
     returns-3
     add-sender-of
     mul-sender-of

@@ -1,17 +1,17 @@
+-- `flat_judges::within` meets its contract: the answer so far is that for the numbers up to here.
+-- The measure is the number of those left.
+use mathlib.Core.Path.{_≡_, sym}
+use Prim.Native.Nat.{_≤_, _-_}
 use borrow.Author.Needs.{needs}
-use Rattle.flat_judges.proofs.RowLaws.{row-at}
-use Rattle.flat_judges.specs.Rows.{row, within}
-use Rattle.soundness.proofs.Each.{each-none, each-one}
-use Rattle.soundness.specs.Tests.{eachBelow}
 use lib.ListN.{getD}
 use lib.Dec.{leb}
 use native.Mathlib.Omega.{arith}
-use Prim.Native.Nat.{_≤_, _-_}
-use mathlib.Core.Path.{_≡_, sym}
+use Rattle.soundness.proofs.Each.{each-none, each-one}
+use Rattle.soundness.specs.Tests.{eachBelow}
+use Rattle.flat_judges.specs.Rows.{row, within}
+use Rattle.flat_judges.proofs.RowLaws.{row-at}
 use Rattle.flat_judges.proofs.within.Statement.{statement}
 use Rattle.flat_judges.proofs.within.Tie as tie
-use Rattle.flat_judges.proofs.within.Reads as reads
-use Rattle.flat_judges.proofs.within.Lts as lts
 
 abbrev Inv-loop : tie.InvT-loop
 Inv-loop s at most ok₀ i₀ ok i =
@@ -20,46 +20,36 @@ Inv-loop s at most ok₀ i₀ ok i =
 abbrev μ-loop : tie.MeasureT-loop
 μ-loop s at most ok₀ i₀ ok i = 16 - i
 
--- src/lib.rt:33:5
 loop-holds : tie.Need-loop-holds Inv-loop μ-loop
 loop-holds c = (search needs, sym (each-none _))
 
--- src/lib.rt:34:22
 add-ok : tie.Need-add-ok Inv-loop μ-loop
 add-ok c = search needs
 
--- src/lib.rt:34:20
 mul-ok : tie.Need-mul-ok Inv-loop μ-loop
 mul-ok c = search needs
 
--- src/lib.rt:34:20
 shared-slice-read-ok : tie.Need-shared-slice-read-ok Inv-loop μ-loop
 shared-slice-read-ok c = search needs
 
--- src/lib.rt:34:33
 mul-ok-2 : tie.Need-mul-ok-2 Inv-loop μ-loop
 mul-ok-2 c = search needs
 
--- src/lib.rt:34:33
 element-copy-out-ok : tie.Need-element-copy-out-ok Inv-loop μ-loop
 element-copy-out-ok c = search needs
 
--- src/lib.rt:35:9
 add-i : tie.Need-add-i Inv-loop μ-loop
 add-i c = search needs
 
--- src/lib.rt:33:5
 loop-less : tie.Need-loop-less Inv-loop μ-loop
 loop-less c = search needs
 
--- src/lib.rt:33:5
 loop-again : tie.Need-loop-again Inv-loop μ-loop
 loop-again c =
     let p = c .before .before .before in
     let a = p .before .args in
     (search needs, rw (each-one _ (p .loop .i), p .loop .inv .1, row-at (a .s .now) (a .at) (p .loop .i) (omega arith)))
 
--- src/lib.rt:27:1
 returns : tie.Need-returns Inv-loop μ-loop
 unfolding within
 returns c =
