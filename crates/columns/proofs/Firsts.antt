@@ -96,6 +96,12 @@ module _ (p : ℕ → Bool) where
   pub first-most : (n : ℕ) → firstFrom p 0 n ≤ n
   first-most n = let h = first-below 0 n in omega arith
 
+  -- none of them passes
+  pub first-empty : (i n : ℕ) → ((k : ℕ) → k < i + n → p k ≡ false) → firstFrom p i n ≡ 0
+  unfolding firstFrom
+  first-empty i zero h = refl
+  first-empty i (suc n) h = rw (h i (omega arith)) (first-empty (suc i) n (λ k l. h k (omega arith)))
+
   -- a wider test that none of them passes
   module _ (q : ℕ → Bool) (w : (k : ℕ) → q k ≡ false → p k ≡ false) where
     first-none : (i n : ℕ) → firstFrom q i n ≡ 0 → firstFrom p i n ≡ 0

@@ -3,3 +3,4 @@ pub mod ListFrom
 pub mod Messages
 pub mod Firsts
 pub mod Walks
+pub mod Passed

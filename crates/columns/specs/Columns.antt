@@ -1,6 +1,7 @@
 -- The lent messages, a list for each field, as the model's messages (01: "The host lends the list of items").
 use mathlib.Core.List.{List, [], _∷_}
-use Prim.Native.Nat.{ℕ, zero, suc, _≤_}
+use mathlib.Core.Path.{_≡_}
+use Prim.Native.Nat.{ℕ, zero, suc, _<_, _≤_}
 use lib.IntN.{ℤ, pos}
 use lib.ListN.{getD, length}
 use Rattle.model.specs.Boards.{Status, pending, claimed, woken, consumed, Message, Match, Sender, Board}
@@ -78,3 +79,8 @@ pub record Lent (n : ℕ) (channels properties statuses : List ℕ) : Type 0 whe
   pub channels-all : n ≤ length channels
   pub properties-all : n ≤ length properties
   pub statuses-all : n ≤ length statuses
+
+-- the messages below number start are consumed, so that no look takes one of them, nor finds one claimed
+pub record Passed (start n : ℕ) (statuses : List ℕ) : Type 0 where
+  pub within : start ≤ n
+  pub consumed : (i : ℕ) → i < start → getD statuses i 0 ≡ 3

@@ -9,7 +9,7 @@ ghost use Rattle.model.specs.Basics.{isIn};
 ghost use Rattle.model.specs.Tables.{Chord};
 ghost use Rattle.model.specs.Boards.{Sent};
 ghost use Rattle.model.specs.Looks.{isFree, lowest, someClaimed};
-ghost use Rattle.columns.specs.Columns.{Lent, Unread, columnsBy, messagesFrom};
+ghost use Rattle.columns.specs.Columns.{Lent, Passed, Unread, columnsBy, messagesFrom};
 ghost use Rattle.columns.specs.Firsts.{firstFrom, found, ofKind, eligible};
 
 // The numbers hold x.
@@ -134,11 +134,12 @@ fn first_in(
     0
 }
 
-// The same of the first n messages, block by block.
+// The same of the first n messages, block by block from number `start` on: those below it are consumed.
 fn first(
     channels: &[u8],
     properties: &[u32],
     statuses: &[u8],
+    start: u16,
     n: u16,
     wanted: u8,
     status: u8,
@@ -147,10 +148,11 @@ fn first(
     chosen: &[u16],
 ) -> u16
     requires { ⌜ Lent n (now channels) (now properties) (now statuses) ⌝ }
+    requires { ⌜ Passed start n (now statuses) × (status < 3) ⌝ }
     ensures { λ r. ⌜ r ≡ firstFrom (eligible (now (channels .entry)) (now (properties .entry)) (now (statuses .entry))
         wanted status equal property (now (chosen .entry))) 0 n ⌝ }
 {
-    let mut at: u16 = 0;
+    let mut at = start;
     while at < n {
         let from = next_block(channels, statuses, at, n, wanted, status);
         let to = block_end(from, n);
@@ -180,6 +182,7 @@ pub fn lowest(
     channels: &[u8],
     properties: &[u32],
     statuses: &[u8],
+    start: u16,
     n: u16,
     wanted: u8,
     equal: bool,
@@ -187,6 +190,7 @@ pub fn lowest(
     chosen: &[u16],
 ) -> u16
     requires { ⌜ Lent n (now channels) (now properties) (now statuses) ⌝ }
+    requires { ⌜ Passed start n (now statuses) ⌝ }
     ensures { λ r. ⌜ (r ≤ n) × ((o : Unread) (c : Chord) (s : Sent) → c .equal ≡ equal → s .property ≡ property
         → r ≡ lowest (isFree c wanted s (now (chosen .entry))) 0
         (messagesFrom (columnsBy (now (channels .entry)) (now (properties .entry)) (now (statuses .entry)) o) 0 n)) ⌝ }
@@ -195,6 +199,7 @@ pub fn lowest(
         channels,
         properties,
         statuses,
+        start,
         n,
         wanted,
         0,
@@ -209,12 +214,14 @@ pub fn some_claimed(
     channels: &[u8],
     properties: &[u32],
     statuses: &[u8],
+    start: u16,
     n: u16,
     wanted: u8,
     equal: bool,
     property: u32,
 ) -> bool
     requires { ⌜ Lent n (now channels) (now properties) (now statuses) ⌝ }
+    requires { ⌜ Passed start n (now statuses) ⌝ }
     ensures { λ r. ⌜ ((o : Unread) (c : Chord) (s : Sent) → c .equal ≡ equal → s .property ≡ property
         → r ≡ someClaimed c wanted s
         (messagesFrom (columnsBy (now (channels .entry)) (now (properties .entry)) (now (statuses .entry)) o) 0 n)) ⌝ }
@@ -224,6 +231,7 @@ pub fn some_claimed(
         channels,
         properties,
         statuses,
+        start,
         n,
         wanted,
         1,

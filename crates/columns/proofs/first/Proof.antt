@@ -1,23 +1,24 @@
 -- `columns::first` meets its contract: the first of all is the first of what is left.
 use mathlib.Core.Logic.{⊎-elim}
-use mathlib.Core.Path.{_≡_, ap, sym, _∙_}
+use mathlib.Core.Path.{_≡_, sym, _∙_}
 use Prim.Native.Nat.{ℕ, _≤_, _-_}
 use native.Mathlib.Omega.{arith}
 use borrow.Author.Needs.{needs}
 use Rattle.columns.specs.Firsts.{firstFrom, ofKind, eligible}
 use Rattle.columns.proofs.Firsts.{first-here, first-later, first-end}
 use Rattle.columns.proofs.Messages.{lent-less}
+use Rattle.columns.proofs.Passed.{passed-skip}
 use Rattle.columns.proofs.Walks.{kind-skip}
 use Rattle.columns.proofs.first.Statement.{statement}
 use Rattle.columns.proofs.first.Tie as tie
 
 abbrev Inv-loop : tie.InvT-loop
-Inv-loop channels properties statuses n wanted status equal property chosen at₀ at =
+Inv-loop channels properties statuses start n wanted status equal property chosen at₀ at =
     (at ≤ n) × (firstFrom (eligible channels properties statuses wanted status equal property chosen) 0 n
     ≡ firstFrom (eligible channels properties statuses wanted status equal property chosen) at (n - at))
 
 abbrev μ-loop : tie.MeasureT-loop
-μ-loop channels properties statuses n wanted status equal property chosen at₀ at = n - at
+μ-loop channels properties statuses start n wanted status equal property chosen at₀ at = n - at
 
 -- the first of all is the first from the block on
 from-block : (p : tie.At-loop Inv-loop μ-loop) → let a = p .before .before .before .before .before .args in
@@ -35,9 +36,13 @@ from-block p from h l e =
 
 loop-holds : tie.Need-loop-holds Inv-loop μ-loop
 loop-holds c =
-    let n = c .before .before .before .before .args .n in
-    let z : n ≡ n - 0 = omega arith in
-    (search needs, ap (firstFrom _ 0) z)
+    let s = c .before .before .before .before in
+    let a = s .args in
+    let p = s .pre .1 in (
+      p .0 .within,
+      passed-skip (a .channels .now) (a .properties .now) (a .statuses .now) (a .wanted) (a .status) (a .equal)
+          (a .property) (a .chosen .now) (a .start) (a .n) (p .0) (p .1),
+    )
 
 next-block-requires : tie.Need-next-block-requires Inv-loop μ-loop
 next-block-requires c κs = search needs
@@ -48,7 +53,7 @@ block-end-requires c κs = search needs
 first-in-requires : tie.Need-first-in-requires Inv-loop μ-loop
 first-in-requires c κs =
     let s = c .before .before .before .before .before .before .before .before in
-    (search needs, lent-less (c .block-end .result) (s .args .n) (omega arith) (s .pre))
+    (search needs, lent-less (c .block-end .result) (s .args .n) (omega arith) (s .pre .0))
 
 returns : tie.Need-returns Inv-loop μ-loop
 returns c =
