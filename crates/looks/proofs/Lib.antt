@@ -1,1 +1,3 @@
+-- Laws of a look.
 pub mod Looking
+pub mod Anew

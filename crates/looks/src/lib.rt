@@ -2,14 +2,16 @@
 ghost use mathlib.Core.Path.{_≡_};
 ghost use mathlib.Core.List.{[], _∷_, _++_};
 ghost use Prim.Native.Nat.{suc, _<_, _≤_};
-ghost use lib.ListN.{length};
+ghost use lib.ListN.{length, set};
+ghost use lib.Dec.{eqb};
+ghost use Rattle.model.specs.Basics.{pick};
 ghost use Rattle.model.specs.Tables as MT;
 ghost use Rattle.model.specs.Boards as MB;
 ghost use Rattle.model.specs.Jobs as MJ;
 ghost use Rattle.model.specs.Layout.{tableRefusal, tableOf};
 ghost use Rattle.model.specs.Looks as ML;
 ghost use Rattle.model.specs.Steps as MS;
-ghost use Rattle.columns.specs.Columns.{Unread, boardBy, Lent};
+ghost use Rattle.columns.specs.Columns.{Unread, boardBy, Lent, Passed};
 ghost use Rattle.state.specs.declared.Phase.the-variants as P;
 ghost use Rattle.state.specs.Views.{phaseIn, chosenBy, jobIn, senderIn, effectIn};
 use state::Change;
@@ -26,6 +28,7 @@ fn choice(
     chord: u8,
     k: u8,
     subject: u16,
+    start: u16,
     n: u16,
     channels: &[u8],
     properties: &[u32],
@@ -35,6 +38,7 @@ fn choice(
     requires { ⌜ (tableRefusal (now table) ≡ 0) × (chord < length (tableOf (now table) .chords)) ⌝ }
     requires { ⌜ (k < MT.size (tableOf (now table)) chord) × (subject < n) ⌝ }
     requires { ⌜ Lent n (now channels) (now properties) (now statuses) ⌝ }
+    requires { ⌜ Passed start n (now statuses) ⌝ }
     ensures { λ r. ⌜ ((o : Unread) (w : MB.Job) → w .subject ≡ subject → w .chord ≡ chord
         → w .chosen ≡ now (chosen .entry) → r ≡ ML.choice (tableOf (now (table .entry)))
         (boardBy (now (channels .entry)) (now (properties .entry)) (now (statuses .entry)) n o) w k) ⌝ }
@@ -51,6 +55,7 @@ fn choice(
         channels,
         properties,
         statuses,
+        start,
         n,
         wanted,
         equal,
@@ -64,6 +69,7 @@ fn missed(
     table: &[u8],
     d: Sender,
     k: u8,
+    start: u16,
     n: u16,
     channels: &[u8],
     properties: &[u32],
@@ -72,6 +78,7 @@ fn missed(
     requires { ⌜ (tableRefusal (now table) ≡ 0) × (d .job .chord < length (tableOf (now table) .chords)) ⌝ }
     requires { ⌜ (k < MT.size (tableOf (now table)) (d .job .chord)) × (d .job .subject < n) ⌝ }
     requires { ⌜ Lent n (now channels) (now properties) (now statuses) ⌝ }
+    requires { ⌜ Passed start n (now statuses) ⌝ }
     ensures { λ r. ⌜ ((o : Unread) → effectIn (tableOf (now (table .entry))) r
         ≡ MS.lookedBy (tableOf (now (table .entry)))
         (boardBy (now (channels .entry)) (now (properties .entry)) (now (statuses .entry)) n o)
@@ -83,9 +90,33 @@ fn missed(
     let property = properties[at];
     let wanted = chords::channel_at(table, j.chord, k);
     let equal = table::is_equal(table, j.chord);
-    let claimed = columns::some_claimed(channels, properties, statuses, n, wanted, equal, property);
+    let claimed = columns::some_claimed(channels, properties, statuses, start, n, wanted, equal, property);
     let next = state::next_chord(table, j, channel, j.retry | claimed);
     state::works(d, next, Said::Missed, Change::None)
+}
+
+// The number m in place k, and x in any other place i.
+fn pick_at(i: u16, k: u16, m: u16, x: u16) -> u16
+    ensures { λ r. ⌜ r ≡ pick (eqb i k) m x ⌝ }
+{
+    if i == k {
+        return m;
+    }
+    x
+}
+
+// The eight numbers with m in place k, written anew.
+fn with_at(c: [u16; 8], k: u8, m: u16) -> [u16; 8]
+    requires { ⌜ k < 8 ⌝ }
+    ensures { λ r. ⌜ r ≡ set c k m ⌝ }
+{
+    let mut r = [0u16; 8];
+    let mut i: u16 = 0;
+    while i < 8 {
+        r[i as usize] = pick_at(i, k as u16, m, c[i as usize]);
+        i += 1;
+    }
+    r
 }
 
 // The job with message m chosen for the k-th member, in another phase.
@@ -94,8 +125,8 @@ fn chose(j: Job, k: u8, m: u16, phase: Phase) -> Job
     ensures { λ r. ⌜ ((t : MT.Table) → chosenBy phase (MT.size t (j .chord)) ≡ suc k → jobIn t r
         ≡ MJ.withChosen (jobIn t j) (jobIn t j .chosen ++ (m ∷ [])) (phaseIn phase)) ⌝ }
 {
-    let mut chosen = j.chosen;
-    chosen[k as usize] = m;
+    let old = j.chosen;
+    let chosen = with_at(old, k, m);
     Job {
         subject: j.subject,
         chord: j.chord,
@@ -121,11 +152,12 @@ fn found(d: Sender, size: u8, k: u8, m: u16) -> Effect
     state::works(d, next, Said::Looked(m), Change::None)
 }
 
-// Looks for a message for the k-th member of the job's chord.
+// Looks for a message for the k-th member of the job's chord; the messages below `start` are consumed.
 pub fn look_step(
     table: &[u8],
     d: Sender,
     k: u8,
+    start: u16,
     n: u16,
     channels: &[u8],
     properties: &[u32],
@@ -134,6 +166,7 @@ pub fn look_step(
     requires { ⌜ (tableRefusal (now table) ≡ 0) × (d .job .chord < length (tableOf (now table) .chords)) ⌝ }
     requires { ⌜ (d .job .phase ≡ P.Look k) × (k < MT.size (tableOf (now table)) (d .job .chord)) ⌝ }
     requires { ⌜ (d .job .subject < n) × Lent n (now channels) (now properties) (now statuses) ⌝ }
+    requires { ⌜ Passed start n (now statuses) ⌝ }
     ensures { λ r. ⌜ ((o : Unread) → effectIn (tableOf (now (table .entry))) r
         ≡ MS.look-step (tableOf (now (table .entry)))
         (boardBy (now (channels .entry)) (now (properties .entry)) (now (statuses .entry)) n o)
@@ -146,6 +179,7 @@ pub fn look_step(
         j.chord,
         k,
         j.subject,
+        start,
         n,
         channels,
         properties,
@@ -153,7 +187,7 @@ pub fn look_step(
         &chosen[..k as usize],
     );
     if taken == 0 {
-        return missed(table, d, k, n, channels, properties, statuses);
+        return missed(table, d, k, start, n, channels, properties, statuses);
     }
     let size = table::chord_len(table, j.chord);
     found(d, size, k, taken - 1)

@@ -11,7 +11,7 @@ ghost use Rattle.model.specs.Boards.{builtinBackoffs};
 ghost use Rattle.model.specs.Effects.{does};
 ghost use Rattle.model.specs.Layout.{tableRefusal, tableOf};
 ghost use Rattle.model.specs.Steps as MS;
-ghost use Rattle.columns.specs.Columns.{Unread, boardBy};
+ghost use Rattle.columns.specs.Columns.{Unread, boardBy, Passed};
 ghost use Rattle.state.specs.declared.State.the-variants as S;
 ghost use Rattle.state.specs.Views.{phaseIn, jobIn, senderIn, effectIn, canStep};
 ghost use Rattle.steps.specs.Ready.{Ready, Saw};
@@ -62,6 +62,7 @@ fn is_pending(d: Sender, k: u8, statuses: &[u8]) -> bool
 pub fn job_step(
     table: &[u8],
     d: Sender,
+    start: u16,
     n: u16,
     count: u16,
     channels: &[u8],
@@ -70,6 +71,7 @@ pub fn job_step(
 ) -> Effect
     requires { ⌜ (tableRefusal (now table) ≡ 0) × (d .state ≡ S.Working) ⌝ }
     requires { ⌜ Ready (tableOf (now table)) (now channels) (now properties) (now statuses) n count d ⌝ }
+    requires { ⌜ Passed start n (now statuses) ⌝ }
     ensures { λ r. ⌜ ((o : Unread) → length (o .matches) ≡ count → o .backoffs ≡ builtinBackoffs
         → effectIn (tableOf (now (table .entry))) r ≡ MS.job-step (tableOf (now (table .entry)))
         (boardBy (now (channels .entry)) (now (properties .entry)) (now (statuses .entry)) n o)
@@ -82,7 +84,7 @@ pub fn job_step(
     let opened = statuses[at] < 2;
     let phase = j.phase;
     match phase {
-        Phase::Look(k) => looks::look_step(table, d, k, n, channels, properties, statuses),
+        Phase::Look(k) => looks::look_step(table, d, k, start, n, channels, properties, statuses),
         Phase::Claim(k) => {
             claims::claim_step(table, d, k, channel, count, is_pending(d, k, statuses))
         }
@@ -143,6 +145,7 @@ pub fn blocked_step(
 pub fn effect_of(
     table: &[u8],
     d: Sender,
+    start: u16,
     n: u16,
     count: u16,
     channels: &[u8],
@@ -154,6 +157,7 @@ pub fn effect_of(
     requires { ⌜ (tableRefusal (now table) ≡ 0) × (canStep d ≡ true) ⌝ }
     requires { ⌜ Ready (tableOf (now table)) (now channels) (now properties) (now statuses) n count d ⌝ }
     requires { ⌜ (n ≤ length (now matched)) × (n ≤ length (now wakers)) ⌝ }
+    requires { ⌜ Passed start n (now statuses) ⌝ }
     ensures { λ r. ⌜ ((o : Unread) → length (o .matches) ≡ count → o .backoffs ≡ builtinBackoffs
         → o .matched ≡ now (matched .entry) → o .wakers ≡ now (wakers .entry)
         → MS.stateStep (tableOf (now (table .entry)))
@@ -168,7 +172,7 @@ pub fn effect_of(
             change: Change::None,
             sender: d,
         },
-        State::Working => job_step(table, d, n, count, channels, properties, statuses),
+        State::Working => job_step(table, d, start, n, count, channels, properties, statuses),
         State::Blocked => blocked_step(table, d, n, channels, statuses, matched, wakers),
     }
 }

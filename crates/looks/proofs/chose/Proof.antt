@@ -7,18 +7,15 @@ use borrow.Author.Needs.{needs}
 use Rattle.looks.proofs.chose.Statement.{statement}
 use Rattle.looks.proofs.chose.Tie as tie
 
-mul-chosen : tie.Need-mul-chosen
-mul-chosen c = search needs
-
-array-write-chosen : tie.Need-array-write-chosen
-array-write-chosen c = search needs
+with-at-requires : tie.Need-with-at-requires
+with-at-requires c κs = search needs
 
 returns : tie.Need-returns
 returns c =
-    let s = c .before in
+    let s = c .before .before in
     let a = s .args in
     let l : length (a .j .chosen) ≡ 8 = simp length-map at (s .good .0 .1 .1 .1 .1 .1 .0 .1 .0 .1) in
-    λ t e. rw (e, s .pre .1, take-suc-set (a .j .chosen) (a .k) (a .m) (omega (arith, s .pre .0)))
+    λ t e. rw (c .with-at .ensures, e, s .pre .1, take-suc-set (a .j .chosen) (a .k) (a .m) (omega (arith, s .pre .0)))
 
 pub chose-spec : {M : Type 1} → statement M
-chose-spec = tie.close (tie.spec mul-chosen array-write-chosen returns)
+chose-spec = tie.close (tie.spec with-at-requires returns)

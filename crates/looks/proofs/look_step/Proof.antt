@@ -58,7 +58,10 @@ slice-aggregate-choice c =
     sym (length-take-le (s .args .k) (s .args .d .job .chosen) (omega arith))
 
 choice-requires : tie.Need-choice-requires
-choice-requires c κs = search needs
+choice-requires c κs =
+    let s = c .before .before .before .before .before .before .before in
+    let p = s .pre .1 in
+    (s .pre .0, ((p .0 .1, p .1 .0 .0), (p .1 .0 .1, p .1 .1)))
 
 missed-requires : tie.Need-missed-requires
 missed-requires c κs = search needs

@@ -39,7 +39,7 @@ blocked-step-requires c κs =
     let r = s .pre .1 .0 in
     let l = r .lent in (
       (s .pre .0 .0, own-some _ _ _ _ _ _ _ r (c .enum-told3 .given .1), own-in _ _ _ _ _ _ _ r),
-      (l .channels-all, l .statuses-all, s .pre .1 .1 .0, s .pre .1 .1 .1),
+      (l .channels-all, l .statuses-all, s .pre .1 .1 .0 .0, s .pre .1 .1 .0 .1),
     )
 
 returns-3 : tie.Need-returns-3

@@ -32,14 +32,14 @@ board s o = boardBy (s .args .channels .now) (s .args .properties .now) (s .args
 
 -- the board of the sender's facts
 abbrev ready : tie.Start → Board
-ready s = board s (s .pre .1 .others)
+ready s = board s (s .pre .1 .0 .others)
 
 subject-in : (s : tie.Start) → s .args .d .job .subject < s .args .n
-subject-in s = L.subject-in _ _ _ _ _ _ _ (s .pre .1) (s .pre .0 .1)
+subject-in s = L.subject-in _ _ _ _ _ _ _ (s .pre .1 .0) (s .pre .0 .1)
 
 place : (s : tie.Start) (p : DP.Phase) → s .args .d .job .phase ≡ p
     → PlaceOk (tab s) (ready s) (jobIn (tab s) (s .args .d .job)) (phaseIn p)
-place s p e = L.place _ _ _ _ _ _ _ (s .pre .1) (s .pre .0 .1) p e
+place s p e = L.place _ _ _ _ _ _ _ (s .pre .1 .0) (s .pre .0 .1) p e
 
 -- a message is chosen for each member
 all : (s : tie.Start) (p : DP.Phase) → s .args .d .job .phase ≡ p → chosenBy p (members s) ≡ members s
@@ -56,7 +56,7 @@ sees-asks : (s : tie.Start)
     × (((a .n ≤ length (a .channels .now)) × (a .n ≤ length (a .statuses .now)))
     × ((i : ℕ) → i < a .n → getD (a .channels .now) i 0 < length (tab s .kinds)))
 sees-asks s =
-    let r = s .pre .1 in
+    let r = s .pre .1 .0 in
     let h = subject-in s in (
       (s .pre .0 .0, omega arith, L.own-in _ _ _ _ _ _ _ r, L.waker-in _ _ _ _ _ _ _ r),
       ((r .lent .channels-all, r .lent .statuses-all), r .known),
@@ -81,13 +81,13 @@ shared-slice-read-channel : tie.Need-shared-slice-read-channel
 shared-slice-read-channel c =
     let s = c .before .before .before .before .before .before .before in
     let h = subject-in s in
-    omega (arith, s .pre .1 .lent .channels-all)
+    omega (arith, s .pre .1 .0 .lent .channels-all)
 
 shared-slice-read-opened : tie.Need-shared-slice-read-opened
 shared-slice-read-opened c =
     let s = c .before .before .before .before .before .before .before .before in
     let h = subject-in s in
-    omega (arith, s .pre .1 .lent .statuses-all)
+    omega (arith, s .pre .1 .0 .lent .statuses-all)
 
 enum-known-phase : tie.Need-enum-known-phase
 enum-known-phase c = search needs
@@ -98,7 +98,7 @@ look-step-requires c κs =
     let s = q .before .before .before .before .before .before .before .before .before .before in
     let g = q .phase .given in
     let p = place s (P.Look (g .0 .0)) (g .1) in
-    ((s .pre .0 .0, p .0 .chord-in), ((g .1, p .1), (subject-in s, s .pre .1 .lent)))
+    ((s .pre .0 .0, p .0 .chord-in), ((g .1, p .1), ((subject-in s, s .pre .1 .0 .lent), s .pre .1 .1)))
 
 returns : tie.Need-returns
 returns c =
@@ -118,9 +118,9 @@ is-pending-requires c κs =
     let g = q .phase2 .given in
     let p = place s (P.Claim (g .0 .0)) (g .1) in
     let l = few s (p .0 .chord-in) in
-    let h = L.chosen-in _ _ _ _ _ _ _ (s .pre .1) (s .pre .0 .1) (all s (P.Claim (g .0 .0)) (g .1) refl) (p .0)
+    let h = L.chosen-in _ _ _ _ _ _ _ (s .pre .1 .0) (s .pre .0 .1) (all s (P.Claim (g .0 .0)) (g .1) refl) (p .0)
     (g .0 .0) (p .1) in
-    (omega (arith, p .1), omega (arith, s .pre .1 .lent .statuses-all))
+    (omega (arith, p .1), omega (arith, s .pre .1 .0 .lent .statuses-all))
 
 claim-step-requires : tie.Need-claim-step-requires
 claim-step-requires c κs =
@@ -128,7 +128,7 @@ claim-step-requires c κs =
     let s = q .before .before .before .before .before .before .before .before .before .before in
     let g = q .phase2 .given in
     let p = place s (P.Claim (g .0 .0)) (g .1) in
-    ((s .pre .0 .0, p .0 .chord-in), ((g .1, p .1), (s .pre .1 .known _ (subject-in s), s .pre .1 .few)))
+    ((s .pre .0 .0, p .0 .chord-in), ((g .1, p .1), (s .pre .1 .0 .known _ (subject-in s), s .pre .1 .0 .few)))
 
 returns-2 : tie.Need-returns-2
 returns-2 c =
@@ -137,7 +137,7 @@ returns-2 c =
     let g = q .phase2 .given in
     λ o em eb. step-is s o (P.Claim (g .0 .0)) (g .1)
     (c .claim-step .ensures (board s o) (channel-is s o)
-    (L.pending-chosen _ _ _ _ _ _ _ (s .pre .1) (s .pre .0 .1) (all s (P.Claim (g .0 .0)) (g .1) refl)
+    (L.pending-chosen _ _ _ _ _ _ _ (s .pre .1 .0) (s .pre .0 .1) (all s (P.Claim (g .0 .0)) (g .1) refl)
     (place s (P.Claim (g .0 .0)) (g .1) .0) o (g .0 .0) (place s (P.Claim (g .0 .0)) (g .1) .1)
     ∙ sym (c .before .is-pending .ensures)) em)
 
@@ -177,7 +177,7 @@ consume-step-requires c κs =
       (
         g .1,
         p .1,
-        L.held _ _ _ _ _ _ _ (s .pre .1) (s .pre .0 .1)
+        L.held _ _ _ _ _ _ _ (s .pre .1 .0) (s .pre .0 .1)
             (all s (P.Consume (g .0 .0) (g .0 .1 .0)) (g .1) refl) (p .0),
       ),
     )
@@ -210,8 +210,8 @@ tell-step-requires c κs =
       (s .pre .0 .0, p .0 .chord-in),
       (
         g .1,
-        L.held _ _ _ _ _ _ _ (s .pre .1) (s .pre .0 .1) a (p .0),
-        L.left _ _ _ _ _ _ _ (s .pre .1) (s .pre .0 .1) a (p .0) (g .0 .0) p,
+        L.held _ _ _ _ _ _ _ (s .pre .1 .0) (s .pre .0 .1) a (p .0),
+        L.left _ _ _ _ _ _ _ (s .pre .1 .0) (s .pre .0 .1) a (p .0) (g .0 .0) p,
       ),
     )
 
