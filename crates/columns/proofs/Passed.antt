@@ -30,6 +30,6 @@ pub passed-skip : (channels properties statuses : List ℕ) (wanted status : ℕ
 passed-skip channels properties statuses wanted status equal property chosen start n p h =
     let z : n ≡ n - 0 = omega arith in
     let none = first-empty (ofKind channels statuses wanted status) 0 (start - 0)
-        (λ k l. consumed-kind channels statuses wanted status k (p .consumed k (omega arith)) h) in
+    (λ k l. consumed-kind channels statuses wanted status k (p .consumed k (omega arith)) h) in
     ap (firstFrom _ 0) z
     ∙ kind-skip channels properties statuses wanted status equal property chosen 0 start n (omega arith) (p .within) none

@@ -23,8 +23,12 @@ module _ (c : List ℕ) (k m : ℕ) where
         → take (i + 1) (set r i (pick (eqb i k) m (getD c i 0))) ≡ take (i + 1) (set c k m)
     anew-step i h e =
         let s = length-set c k m in
-        rw (add-one i, take-suc-set r i (pick (eqb i k) m (getD c i 0)) (omega arith), e,
-        ← nth-anew i h (same? i k)) (sym (take-suc (set c k m) i 0 (omega arith)))
+        rw (
+          add-one i,
+          take-suc-set r i (pick (eqb i k) m (getD c i 0)) (omega arith),
+          e,
+          ← nth-anew i h (same? i k),
+        ) (sym (take-suc (set c k m) i 0 (omega arith)))
 
     pub anew-end : (i : ℕ) → length c ≤ i → take i r ≡ take i (set c k m) → r ≡ set c k m
     anew-end i h e =

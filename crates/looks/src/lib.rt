@@ -90,7 +90,16 @@ fn missed(
     let property = properties[at];
     let wanted = chords::channel_at(table, j.chord, k);
     let equal = table::is_equal(table, j.chord);
-    let claimed = columns::some_claimed(channels, properties, statuses, start, n, wanted, equal, property);
+    let claimed = columns::some_claimed(
+        channels,
+        properties,
+        statuses,
+        start,
+        n,
+        wanted,
+        equal,
+        property,
+    );
     let next = state::next_chord(table, j, channel, j.retry | claimed);
     state::works(d, next, Said::Missed, Change::None)
 }

@@ -4,3 +4,4 @@ pub mod AfterLaws
 pub mod AddLaws
 pub mod MoveLaws
 pub mod WriteLaws
+pub mod StartLaws

@@ -10,6 +10,7 @@ use Rattle.model.specs.Basics.{pick}
 use Rattle.model.specs.Pools.{Call, adds, steps}
 use Rattle.columns.specs.Columns.{columnsOf}
 use Rattle.columns.specs.MatchColumns.{matchesOf}
+use Rattle.state.specs.declared.Change as DG
 use Rattle.state.specs.declared.Change.the-variants as G
 use Rattle.state.specs.declared.Said.the-variants as W
 use Rattle.state.specs.declared.Sender as DD
@@ -50,6 +51,13 @@ putIf false xs n a = xs
 abbrev pub messagesBy : Bool → ℕ → ℕ
 messagesBy true n = n + 1
 messagesBy false n = n
+
+-- the message that a change turns; start where it turns none
+abbrev pub turnedFrom : DG.Change → ℕ → ℕ
+turnedFrom G.None start = start
+turnedFrom (G.Turn n u) start = n
+turnedFrom (G.Record n) start = n
+turnedFrom (G.Signal n) start = start
 
 -- the board after a move of the sender at place i
 abbrev pub movedBoard : DB.Board → ℕ → DM.Move → DB.Board

@@ -1,12 +1,13 @@
 // What a call does: computed from its sender and the columns, then written.
 ghost use mathlib.Core.Path.{_≡_};
-ghost use mathlib.Core.Bool.{true, false};
+ghost use mathlib.Core.Bool.{Bool, true, false};
 ghost use mathlib.Core.List.{List};
+ghost use mathlib.Core.Logic.{_⊎_};
 ghost use Prim.Native.Nat.{ℕ, _<_, _≤_};
 ghost use lib.ListN.{length};
 ghost use Rattle.model.specs.Layout.{tableRefusal};
 ghost use Rattle.model.specs.Pools.{adds, steps};
-ghost use Rattle.columns.specs.Columns.{columnsOf};
+ghost use Rattle.columns.specs.Columns.{columnsOf, Passed};
 ghost use Rattle.columns.specs.MatchColumns.{matchesOf};
 ghost use Rattle.state.specs.declared.Change.the-variants as G;
 ghost use Rattle.state.specs.Views.{saidIn};
@@ -15,8 +16,9 @@ ghost use Rattle.boards.specs.Calls.{heldBy, callIn};
 ghost use Rattle.judges.specs.Judged.{Lengths};
 ghost use Rattle.judges.specs.Calls.{refusalOf, Plays};
 ghost use Rattle.adds.specs.Sends.{sent};
+ghost use Rattle.applies.specs.Writes.{statusesBy};
 ghost use Rattle.moves.specs.Moves.{placeOf, callerOf, refusesBy, putIf, messagesBy, movedBoard, movedHeld};
-ghost use Rattle.moves.specs.Moves.{Fits, reads, Stands, PlaysMoved};
+ghost use Rattle.moves.specs.Moves.{Fits, reads, Stands, PlaysMoved, turnedFrom};
 use boards::Answer;
 use boards::Board;
 use boards::Call;
@@ -104,11 +106,13 @@ pub fn add_move(
     }
 }
 
-// What a step does: refused for a sender past the last, or one that may not step.
+// What a step does: refused for a sender past the last, or one that may not step. The messages below `start` are
+// consumed.
 pub fn step_move(
     table: &[u8],
     i: u16,
     d: Sender,
+    start: u16,
     n: u16,
     k: u16,
     channels: &[u8],
@@ -119,6 +123,7 @@ pub fn step_move(
 ) -> Move
     requires { ⌜ Stands (now table) (reads (placeOf i) d n k (now channels) (now properties) (now statuses)
         (now matched) (now wakers)) ⌝ }
+    requires { ⌜ Passed start n (now statuses) ⌝ }
     ensures { λ r. ⌜ PlaysMoved (now (table .entry))
         (reads (placeOf i) d n k (now (channels .entry)) (now (properties .entry)) (now (statuses .entry))
         (now (matched .entry)) (now (wakers .entry))) (steps i) r × Fits n k r ⌝ }
@@ -133,6 +138,7 @@ pub fn step_move(
     let e = steps::effect_of(
         table,
         d,
+        start,
         n,
         k,
         channels,
@@ -160,6 +166,7 @@ pub fn move_of(
     table: &[u8],
     call: Call,
     d: Sender,
+    start: u16,
     n: u16,
     k: u16,
     channels: &[u8],
@@ -170,6 +177,7 @@ pub fn move_of(
 ) -> Move
     requires { ⌜ Stands (now table) (reads (placeOf (callerOf (callIn call))) d n k (now channels) (now properties)
         (now statuses) (now matched) (now wakers)) ⌝ }
+    requires { ⌜ Passed start n (now statuses) ⌝ }
     ensures { λ r. ⌜ PlaysMoved (now (table .entry))
         (reads (placeOf (callerOf (callIn call))) d n k (now (channels .entry)) (now (properties .entry))
         (now (statuses .entry)) (now (matched .entry)) (now (wakers .entry))) (callIn call) r × Fits n k r ⌝ }
@@ -183,6 +191,7 @@ pub fn move_of(
                 table,
                 i,
                 d,
+                start,
                 n,
                 k,
                 channels,
@@ -327,6 +336,7 @@ pub fn play(
         table,
         call,
         d,
+        0,
         n,
         k,
         channels,
@@ -354,4 +364,52 @@ pub fn play(
         said: said,
         board: r,
     }
+}
+
+// The message that a change turns; `start` where it turns none.
+fn turned_from(c: Change, start: u16) -> u16
+    ensures { λ r. ⌜ r ≡ turnedFrom c start ⌝ }
+{
+    match c {
+        Change::None => start,
+        Change::Turn(n, _) => n,
+        Change::Record(n) => n,
+        Change::Signal(_) => start,
+    }
+}
+
+// The lesser of two numbers.
+fn lesser(x: u16, y: u16) -> u16
+    ensures { λ r. ⌜ (r ≤ x) × (r ≤ y) × ((r ≡ x) ⊎ (r ≡ y)) ⌝ }
+{
+    if x < y {
+        return x;
+    }
+    y
+}
+
+// Past message `low` where it is consumed.
+fn past_consumed(low: u16, n: u16, statuses: &[u8]) -> u16
+    requires { ⌜ (n ≤ length (now statuses)) × (n ≤ 1024) ⌝ }
+    ensures { λ r. ⌜ (Passed low n (now (statuses .entry)) → Passed r n (now (statuses .entry))) ⌝ }
+{
+    if low >= n {
+        return low;
+    }
+    if statuses[low as usize] != 3 {
+        return low;
+    }
+    low + 1
+}
+
+// Where the messages start that are not all consumed, after a change: no later than the message that it turns, or that
+// message's successor.
+pub fn start_after(c: Change, start: u16, n: u16, statuses: &[u8]) -> u16
+    requires { ⌜ (n ≤ length (now statuses)) × (n ≤ 1024) ⌝ }
+    ensures { λ r. ⌜ ((k : ℕ) (adds : Bool) (before : List ℕ) → Passed start k before → k ≤ n
+        → now (statuses .entry) ≡ statusesBy c (putIf adds before k 0) → Passed r n (now (statuses .entry))) ⌝ }
+{
+    let x = turned_from(c, start);
+    let low = lesser(x, start);
+    past_consumed(low, n, statuses)
 }

@@ -170,6 +170,7 @@ fn replay_core(
             table,
             call,
             d,
+            0,
             n,
             count,
             channels,

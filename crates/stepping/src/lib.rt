@@ -40,6 +40,7 @@ fn step_core(
         table,
         i,
         d,
+        0,
         n,
         k,
         channels,

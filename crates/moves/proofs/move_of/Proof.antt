@@ -23,7 +23,7 @@ enum-known-call c = search needs
 
 add-move-requires : tie.Need-add-move-requires
 add-move-requires c κs = let s = c .before .before .before .before .before .before .before .before .before in
-    table-accepted _ _ _ _ (s .pre .accepted)
+    table-accepted _ _ _ _ (s .pre .0 .accepted)
 
 enum-known-call-2 : tie.Need-enum-known-call-2
 enum-known-call-2 c = search needs
@@ -32,7 +32,7 @@ step-move-requires : tie.Need-step-move-requires
 step-move-requires c κs =
     let k = c .before in
     let s = k .before .before .before .before .before .before .before .before in
-    subst (λ (x : DC.Call). Stands (s .args .table .now) (view s x)) (k .call2 .given .1) (s .pre)
+    (subst (λ (x : DC.Call). Stands (s .args .table .now) (view s x)) (k .call2 .given .1) (s .pre .0), s .pre .1)
 
 returns : tie.Need-returns
 returns c =

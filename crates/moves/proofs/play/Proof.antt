@@ -1,6 +1,7 @@
 -- `moves::play` meets its contract: the call's move, written.
 use mathlib.Core.Path.{_≡_, refl, sym, ap, _∙_}
 use borrow.Author.Needs.{needs}
+use Rattle.columns.proofs.Passed.{passed-none}
 use Rattle.boards.specs.Calls.{Held, heldBy, callIn}
 use Rattle.judges.proofs.Refusals.{lent-whole, messages-few, matches-few}
 use Rattle.moves.specs.Moves.{placeOf, callerOf, Stands}
@@ -46,7 +47,7 @@ element-copy-out-d : tie.Need-element-copy-out-d
 element-copy-out-d c = search needs
 
 move-of-requires : tie.Need-move-of-requires
-move-of-requires c κs = stood (c .before .before .before .before .before .before)
+move-of-requires c κs = (stood (c .before .before .before .before .before .before), passed-none _ _)
 
 write-move-requires : tie.Need-write-move-requires
 write-move-requires c κs =

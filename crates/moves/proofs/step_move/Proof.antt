@@ -125,14 +125,14 @@ effect-of-requires : tie.Need-effect-of-requires
 effect-of-requires c κs =
     let s = start c in
     let a = s .args in
-    let p = s .pre in
+    let p = s .pre .0 in
     let g = h (a .table .now) (view s) p in
     let l = lent-whole _ _ _ _ (p .accepted) in
     let f = messages-few _ _ _ _ (p .accepted) in (
       (table-accepted _ _ _ _ (p .accepted), sym (c .before .can-step .ensures) ∙ not-false _ (c .if2 .left)),
       (
         is-ready _ (g .board) (g .columns) (g .matches) (p .accepted) (a .i) (a .d) (is-sender c p),
-        (omega (arith, f, l .matched-len), omega (arith, f, l .wakers-len)),
+        ((omega (arith, f, l .matched-len), omega (arith, f, l .wakers-len)), s .pre .1),
       ),
     )
 
@@ -145,7 +145,7 @@ returns-3 c =
       (
         λ p. step-move (a .table .now) (view s) p (a .i) refl (q .effect-of .result) (below y)
             (is-effect q p) (effect-sure q p) (eight q),
-        record { room = λ z. never z; sure = effect-sure q (s .pre) },
+        record { room = λ z. never z; sure = effect-sure q (s .pre .0) },
       ),
       refl,
     )

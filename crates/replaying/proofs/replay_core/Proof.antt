@@ -6,6 +6,7 @@ use Prim.Native.Nat.{_-_, _*_, _^_, _<_, _≤_}
 use native.Mathlib.Omega.{arith}
 use borrow.Author.Needs.{needs, scaled-fits}
 use lib.ListN.{length, length-map, length-set}
+use Rattle.columns.proofs.Passed.{passed-none}
 use Rattle.boards.specs.declared.Board as DB
 use Rattle.boards.specs.Calls.{Held, heldBy, callIn}
 use Rattle.judges.specs.Judged.{Lengths}
@@ -161,7 +162,7 @@ element-copy-out-d : tie.Need-element-copy-out-d Inv-loop μ-loop
 element-copy-out-d c = omega (arith, c .place-of .ensures .1, looped c .loop .inv .0)
 
 move-of-requires : tie.Need-move-of-requires Inv-loop μ-loop
-move-of-requires c κs = stood (c .before .before .before .before .before .before)
+move-of-requires c κs = (stood (c .before .before .before .before .before .before), passed-none _ _)
 
 write-move-requires : tie.Need-write-move-requires Inv-loop μ-loop
 write-move-requires c κs =

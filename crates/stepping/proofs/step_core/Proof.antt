@@ -2,6 +2,7 @@
 use mathlib.Core.Path.{sym}
 use borrow.Author.Needs.{needs}
 use Rattle.model.specs.Pools.{steps}
+use Rattle.columns.proofs.Passed.{passed-none}
 use Rattle.boards.specs.Calls.{Held, heldBy}
 use Rattle.judges.proofs.Refusals.{lent-whole, messages-few, matches-few}
 use Rattle.moves.proofs.MoveLaws.{standsAt, moved-plays}
@@ -38,7 +39,7 @@ element-copy-out-d c = search needs
 step-move-requires : tie.Need-step-move-requires
 step-move-requires c κs =
     let w = c .before .before .before .before in
-    standsAt _ (lent (begun w)) _ _ (begun w .pre) (w .place-of .ensures .0)
+    (standsAt _ (lent (begun w)) _ _ (begun w .pre) (w .place-of .ensures .0), passed-none _ _)
 
 write-change-requires : tie.Need-write-change-requires
 write-change-requires c κs =
