@@ -2,7 +2,7 @@
 use mathlib.Core.Path.{_≡_, ap, _∙_}
 use mathlib.Core.Bool.{Bool, false}
 use mathlib.Core.List.{List}
-use Prim.Native.Nat.{ℕ, _-_, _<_, _≤_}
+use Prim.Native.Nat.{ℕ, _-_, _<_}
 use native.Mathlib.Omega.{arith}
 use lib.Dec.{eqb}
 use lib.ListN.{getD}
@@ -32,4 +32,5 @@ passed-skip channels properties statuses wanted status equal property chosen sta
     let none = first-empty (ofKind channels statuses wanted status) 0 (start - 0)
     (λ k l. consumed-kind channels statuses wanted status k (p .consumed k (omega arith)) h) in
     ap (firstFrom _ 0) z
-    ∙ kind-skip channels properties statuses wanted status equal property chosen 0 start n (omega arith) (p .within) none
+    ∙ kind-skip channels properties statuses wanted status equal property chosen 0 start n (omega arith)
+    (p .within) none

@@ -19,7 +19,8 @@ put-other : (adds : Bool) (s : List ℕ) (k i : ℕ) → i < k → getD (putIf a
 put-other true s k i h = getD-set-other s k i 0 0 (λ e. omega arith)
 put-other false s k i h = refl
 
-turn-other : (g : DG.Change) (s : List ℕ) (start i : ℕ) → i < turnedFrom g start → getD (statusesBy g s) i 0 ≡ getD s i 0
+turn-other : (g : DG.Change) (s : List ℕ) (start i : ℕ) → i < turnedFrom g start
+    → getD (statusesBy g s) i 0 ≡ getD s i 0
 turn-other G.None s start i h = refl
 turn-other (G.Turn x u) s start i h = getD-set-other s x i _ 0 (λ e. omega arith)
 turn-other (G.Record x) s start i h = getD-set-other s x i _ 0 (λ e. omega arith)

@@ -402,8 +402,8 @@ fn past_consumed(low: u16, n: u16, statuses: &[u8]) -> u16
     low + 1
 }
 
-// Where the messages start that are not all consumed, after a change: no later than the message that it turns, or that
-// message's successor.
+// Where the messages start that are not all consumed, after a change: at the lesser of `start` and the message that it
+// turns, or past that one where it is consumed.
 pub fn start_after(c: Change, start: u16, n: u16, statuses: &[u8]) -> u16
     requires { ⌜ (n ≤ length (now statuses)) × (n ≤ 1024) ⌝ }
     ensures { λ r. ⌜ ((k : ℕ) (adds : Bool) (before : List ℕ) → Passed start k before → k ≤ n

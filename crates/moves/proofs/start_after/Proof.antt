@@ -1,5 +1,4 @@
 -- `moves::start_after` meets its contract: what is consumed below the lesser start stays so.
-use mathlib.Core.Path.{_≡_}
 use Prim.Native.Nat.{_≤_}
 use native.Mathlib.Omega.{arith}
 use borrow.Author.Needs.{needs}
