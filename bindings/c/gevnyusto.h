@@ -49,23 +49,22 @@ uint8_t gv_table_refusal(const uint8_t *table, size_t table_len);
 /* Writes an empty board; the columns may hold anything. 0, 1 to 7, or 30 for a board of another length. */
 uint8_t gv_open(const uint8_t *table, size_t table_len, uint16_t *board, size_t board_len);
 
+/* The columns of a call that may write them. An add leaves chords and messages as they are, a step channels,
+ * properties and cents. */
+#define GV_COLUMNS \
+    uint8_t *channels, size_t channels_len, uint32_t *properties, size_t properties_len, \
+    int64_t *cents, size_t cents_len, uint8_t *statuses, size_t statuses_len, \
+    uint16_t *matched, size_t matched_len, uint16_t *wakers, size_t wakers_len, \
+    uint8_t *chords, size_t chords_len, uint16_t *messages, size_t messages_len
+
 /* Adds a message: an answer. */
 uint32_t gv_add(
-    const uint8_t *table, size_t table_len, uint16_t *board, size_t board_len,
-    uint8_t *channels, size_t channels_len, uint32_t *properties, size_t properties_len,
-    int64_t *cents, size_t cents_len,
-    uint8_t *statuses, size_t statuses_len, uint16_t *matched, size_t matched_len,
-    uint16_t *wakers, size_t wakers_len, const uint8_t *chords, size_t chords_len,
-    const uint16_t *messages, size_t messages_len,
+    const uint8_t *table, size_t table_len, uint16_t *board, size_t board_len, GV_COLUMNS,
     uint16_t sender, uint16_t channel, uint32_t property, int64_t amount);
 
 /* Takes one step of a sender: an answer. */
 uint32_t gv_step(
-    const uint8_t *table, size_t table_len, uint16_t *board, size_t board_len,
-    const uint8_t *channels, size_t channels_len, const uint32_t *properties, size_t properties_len,
-    const int64_t *cents, size_t cents_len, uint8_t *statuses, size_t statuses_len,
-    uint16_t *matched, size_t matched_len, uint16_t *wakers, size_t wakers_len, uint8_t *chords, size_t chords_len,
-    uint16_t *messages, size_t messages_len, uint16_t sender);
+    const uint8_t *table, size_t table_len, uint16_t *board, size_t board_len, GV_COLUMNS, uint16_t sender);
 
 /* Plays a list of calls, one after another, on a board that is tested once: call i is kinds[i] (0 a step, else an
  * add), callers[i], and for an add targets[i], numbers[i], amounts[i]; its answer goes to answers[i].
@@ -74,12 +73,7 @@ uint8_t gv_replay(
     const uint8_t *table, size_t table_len, uint16_t *board, size_t board_len,
     const uint8_t *kinds, size_t kinds_len, const uint16_t *callers, size_t callers_len,
     const uint16_t *targets, size_t targets_len, const uint32_t *numbers, size_t numbers_len,
-    const int64_t *amounts, size_t amounts_len, uint32_t *answers, size_t answers_len,
-    uint8_t *channels, size_t channels_len, uint32_t *properties, size_t properties_len,
-    int64_t *cents, size_t cents_len,
-    uint8_t *statuses, size_t statuses_len, uint16_t *matched, size_t matched_len,
-    uint16_t *wakers, size_t wakers_len, uint8_t *chords, size_t chords_len,
-    uint16_t *messages, size_t messages_len);
+    const int64_t *amounts, size_t amounts_len, uint32_t *answers, size_t answers_len, GV_COLUMNS);
 
 /* The columns of a call that only reads. */
 #define GV_READ_COLUMNS \

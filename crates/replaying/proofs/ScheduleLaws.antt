@@ -10,7 +10,7 @@ use borrow.Author.Tests.{eqb-true, ne-eqb, leb-true, le-leb, lt-leb}
 use lib.Dec.{eqb, leb}
 use lib.IntN.{pos}
 use lib.ListN.{length, getD, drop, take, set, length-set, take-append-drop}
-use lib.Seq.{drop-drop, drop-set-lt, take-suc-set}
+use lib.Seq.{drop-drop, drop-set-lt, take-suc-set, getD-set-same}
 use Rattle.model.specs.Basics.{firstOf}
 use Rattle.model.specs.Layout.{tableOf}
 use Rattle.model.specs.Boards.{Board}
@@ -82,6 +82,8 @@ pub record Played (s : List ℕ) (h : Held) (c : CallColumns) (before : List ℕ
       ≡ answerNumbers (history (tableOf s) (boardOf s h) (callsOf c))
   pub others : drop k answers ≡ drop k before
   pub beyond : Beyond h g
+  pub none : k ≡ 0 → g ≡ h
+  pub one : k ≡ 1 → (w : Said) × (getD answers 0 0 ≡ answerNumber w) × Plays s h (callAt c 0) w g
 
 module _ (s : List ℕ) (h : Held) (c : CallColumns) (before : List ℕ) where
   pub played-none : refusalOf s h ≡ 0 → Played s h c before 0 h before
@@ -95,6 +97,8 @@ module _ (s : List ℕ) (h : Held) (c : CallColumns) (before : List ℕ) where
         says = rw z;
         others = refl;
         beyond = beyond-same s h;
+        none = λ _. refl;
+        one = λ z. absurd (omega (arith, z));
       }
 
   module _ (k : ℕ) (g : Held) (answers : List ℕ) (p : Played s h c before k g answers) where
@@ -124,8 +128,20 @@ module _ (s : List ℕ) (h : Held) (c : CallColumns) (before : List ℕ) where
               ∙ same-on k (suc k) answers before (omega arith) (p .others)
               ∙ ap (λ n. drop n before) (sym (add-one k)));
           beyond = beyond-then h g g′ (p .beyond) (q .beyond);
+          none = λ z. absurd (omega (arith, z));
+          one = λ z. first w g′ x (omega (arith, z)) in-place q e;
         }
       where
+        first : (w : Said) (g′ : Held) (x : ℕ) → k ≡ 0 → k < length answers → Plays s g (callAt c k) w g′
+            → x ≡ answerNumber w
+            → (w : Said) × (getD (set answers k x) 0 0 ≡ answerNumber w) × Plays s h (callAt c 0) w g′
+        first w g′ x z l q e = (
+          w,
+          rw z (getD-set-same answers 0 x 0 (omega (arith, l)) ∙ e),
+          subst (λ (i : ℕ). Plays s h (callAt c i) w g′) z
+              (subst (λ (f : Held). Plays s f (callAt c k) w g′) (p .none z) q),
+        )
+
         next : (w : Said) (g′ : Held) (x : ℕ) → left c k ≡ callAt c k ∷ left c (k + 1)
             → w ≡ answerTo (tableOf s) (boardOf s g) (callAt c k) .said
             → boardOf s g′ ≡ answerTo (tableOf s) (boardOf s g) (callAt c k) .board → x ≡ answerNumber w
@@ -146,6 +162,7 @@ module _ (s : List ℕ) (h : Held) (c : CallColumns) (before : List ℕ) where
               (p .others ∙ ap (λ i. drop i before) n));
           accepted = p .accepted;
           beyond = p .beyond;
+          one = λ z. p .one (n ∙ z);
         }
 
 -- One call by its columns

@@ -13,7 +13,7 @@ use Rattle.model.specs.Effects.{Said, wordOf, valueOf, numberOf}
 use Rattle.model.specs.Pools.{Call, adds, steps, Exchange, afterAll, history}
 use Rattle.columns.specs.Columns.{listFrom}
 use Rattle.boards.specs.Calls.{Held}
-use Rattle.judges.specs.Calls.{boardOf, refusalOf, Beyond}
+use Rattle.judges.specs.Calls.{boardOf, refusalOf, Beyond, Plays}
 
 -- the lent calls: which kind, by which sender, to which channel, with which property number and cents
 pub record CallColumns : Type 0 where
@@ -78,6 +78,8 @@ pub record Plays-all (s : List ℕ) (h : Held) (c : CallColumns) (before after :
       ≡ answerNumbers (history (tableOf s) (boardOf s h) (callsOf c)) ++ drop (length (c .kinds)) before
   pub accepted : refusalOf s h′ ≡ 0
   pub beyond : Beyond h h′
+  -- a list of one call is that call
+  pub one : length (c .kinds) ≡ 1 → (w : Said) × (getD after 0 0 ≡ answerNumber w) × Plays s h (callAt c 0) w h′
 
 -- a replay of the calls c on h answers f, leaves h′, and turns the lent answers from before to after
 pub record Replays (s : List ℕ) (h : Held) (c : CallColumns) (before after : List ℕ) (f : ℕ) (h′ : Held) : Type 0 where
