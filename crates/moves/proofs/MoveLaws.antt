@@ -210,14 +210,15 @@ module _ (s : List ℕ) (r : Read) (p : Stands s r) where
           (statuses-after (x .change) (r .messages) (r .statuses) (statuses-known s _ _ _ (p .accepted)))
           beyond-after)
 
--- what is read where the sender at place j calls
-abbrev pub readAt : Held → ℕ → ℕ → Read
-readAt h i j =
-    reads i (getD (h .board .senders) j zeroSender) (h .board .messages) (h .board .matches) (h .columns .channels)
-    (h .columns .properties) (h .columns .statuses) (h .columns .matched) (h .columns .wakers)
+-- what is read where sender d at place i calls
+abbrev pub readBy : Held → ℕ → DD.Sender → Read
+readBy h i d =
+    reads i d (h .board .messages) (h .board .matches) (h .columns .channels) (h .columns .properties)
+    (h .columns .statuses) (h .columns .matched) (h .columns .wakers)
 
-abbrev pub standsAt : (s : List ℕ) (h : Held) (i j : ℕ) → refusalOf s h ≡ 0 → j ≡ i → Stands s (readAt h i j)
-standsAt s h i j z at = record {
+abbrev pub standsBy : (s : List ℕ) (h : Held) (i : ℕ) (d : DD.Sender) → refusalOf s h ≡ 0
+    → d ≡ getD (h .board .senders) i zeroSender → Stands s (readBy h i d)
+standsBy s h i d z e = record {
   others = record {
     senders = h .board .senders;
     cents = h .columns .cents;
@@ -225,8 +226,15 @@ standsAt s h i j z at = record {
     messages = h .matches .messages;
   };
   accepted = z;
-  caller = ap (λ k. getD (h .board .senders) k zeroSender) at;
+  caller = e;
 }
+
+-- the same for the sender that stands at place j
+abbrev pub readAt : Held → ℕ → ℕ → Read
+readAt h i j = readBy h i (getD (h .board .senders) j zeroSender)
+
+abbrev pub standsAt : (s : List ℕ) (h : Held) (i j : ℕ) → refusalOf s h ≡ 0 → j ≡ i → Stands s (readAt h i j)
+standsAt s h i j z at = standsBy s h i _ z (ap (λ k. getD (h .board .senders) k zeroSender) at)
 
 -- a move that refuses
 pub refuses-move : (s : List ℕ) (r : Read) (k : Call) (f : ℕ) (m : DM.Move) → m ≡ refusesBy (r .sender) f

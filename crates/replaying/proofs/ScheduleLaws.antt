@@ -23,7 +23,7 @@ use Rattle.boards.specs.Calls.{Held}
 use Rattle.judges.specs.Calls.{boardOf, refusalOf, SameFrom, Beyond, Plays}
 use Rattle.judges.proofs.CallLaws.{beyond-same}
 use Rattle.replaying.specs.Replays.{CallColumns, callAt, callsOf, columnsFit, answerNumber, answerNumbers}
-use Rattle.replaying.specs.Replays.{replayNumber, Fit, Plays-all, Replays}
+use Rattle.replaying.specs.Replays.{refusalAfter, replayNumber, Fit, Plays-all, Replays}
 
 -- Records past the counts
 
@@ -208,25 +208,26 @@ first-none : (x y : ℕ) → firstOf x y ≡ 0 → (x ≡ 0) × (y ≡ 0)
 first-none zero y e = (refl, e)
 first-none (suc n) y e = absurd (omega arith)
 
-module _ (s : List ℕ) (h : Held) (c : CallColumns) (n : ℕ) where
-  pub refused-board : (f : ℕ) → f ≢ 0 → f ≡ refusalOf s h → f ≡ replayNumber s h c n
-  refused-board f z e = e ∙ first-some (refusalOf s h) _ (λ x. z (e ∙ x))
+-- x is the board's refusal
+module _ (x : ℕ) (c : CallColumns) (n : ℕ) where
+  pub refused-board : (f : ℕ) → f ≢ 0 → f ≡ x → f ≡ refusalAfter x c n
+  refused-board f z e = e ∙ first-some x _ (λ y. z (e ∙ y))
 
-  module _ (e : refusalOf s h ≡ 0) where
-    pub refused-columns : columnsFit c ≡ false → 30 ≡ replayNumber s h c n
+  module _ (e : x ≡ 0) where
+    pub refused-columns : columnsFit c ≡ false → 30 ≡ refusalAfter x c n
     refused-columns u = rw (e, u)
 
     module _ (u : columnsFit c ≡ true) where
-      pub refused-room : n < length (c .kinds) → 31 ≡ replayNumber s h c n
+      pub refused-room : n < length (c .kinds) → 31 ≡ refusalAfter x c n
       refused-room l = rw (e, u, lt-leb (length (c .kinds)) n l)
 
-      pub refused-none : length (c .kinds) ≤ n → 0 ≡ replayNumber s h c n
+      pub refused-none : length (c .kinds) ≤ n → 0 ≡ refusalAfter x c n
       refused-none l = rw (e, u, le-leb (length (c .kinds)) n l)
 
   -- what is not refused may be played
-  pub may-play : replayNumber s h c n ≡ 0 → (refusalOf s h ≡ 0) × Fit c n
+  pub may-play : refusalAfter x c n ≡ 0 → (x ≡ 0) × Fit c n
   may-play e =
-      let p = first-none (refusalOf s h) _ e in
+      let p = first-none x _ e in
       let q = unless-none (columnsFit c) 29 _ (p .1) in
       let r = unless-none (leb (length (c .kinds)) n) 30 0 (q .1) in
       (p .0, fit-by c n (q .0) (leb-true (length (c .kinds)) n (r .0)))

@@ -57,10 +57,12 @@ answerNumber w = wordOf w * 65536 + (valueOf w + numberOf w)
 abbrev pub answerNumbers : List Exchange → List ℕ
 answerNumbers es = map (λ e. answerNumber (e .said)) es
 
--- the board's refusal, then 30 for columns that do not fit, then 31 for no room for the answers
+-- the refusal of the board, then 30 for columns that do not fit, then 31 for no room for the answers
+abbrev pub refusalAfter : ℕ → CallColumns → ℕ → ℕ
+refusalAfter f c room = firstOf f (unless (columnsFit c) 30 (unless (leb (length (c .kinds)) room) 31 0))
+
 abbrev pub replayNumber : List ℕ → Held → CallColumns → ℕ → ℕ
-replayNumber s h c room =
-    firstOf (refusalOf s h) (unless (columnsFit c) 30 (unless (leb (length (c .kinds)) room) 31 0))
+replayNumber s h c room = refusalAfter (refusalOf s h) c room
 
 -- the calls are of one length, and there is room for their answers
 pub record Fit (c : CallColumns) (room : ℕ) : Type 0 where

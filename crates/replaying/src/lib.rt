@@ -1,22 +1,21 @@
-// A list of calls played one after another on a board that is tested once; each answer goes to a lent slice.
+// A list of calls played one after another, in place, on a board that is tested once; each answer goes to a lent slice.
 ghost use mathlib.Core.Path.{_≡_};
+ghost use mathlib.Core.Bool.{true};
 ghost use Prim.Native.Nat.{_<_};
 ghost use lib.ListN.{length};
 ghost use Rattle.model.specs.Effects.{wordOf, valueOf, numberOf};
 ghost use Rattle.state.specs.Views.{saidIn};
 ghost use Rattle.boards.specs.Calls.{heldBy, callIn};
+ghost use Rattle.columns.specs.Columns.{columnsOf};
+ghost use Rattle.columns.specs.MatchColumns.{matchesOf};
 ghost use Rattle.judges.specs.Calls.{refusalOf};
+ghost use Rattle.flat.specs.Flat.{flatOk};
+ghost use Rattle.flat.specs.Decoded.{boardFrom};
+ghost use Rattle.flat_judges.specs.Judged.{flatRefusal};
 ghost use Rattle.replaying.specs.Replays.{callColumns, callAt, columnsFit, answerNumber};
-ghost use Rattle.replaying.specs.Replays.{replayNumber, Fit, Plays-all, Replays};
-use boards::Board;
+ghost use Rattle.replaying.specs.Replays.{refusalAfter, Fit, Plays-all};
 use boards::Call;
 use state::Said;
-
-// 0 or the refusal, and the board after the calls.
-pub struct Replayed {
-    pub number: u8,
-    pub board: Board,
-}
 
 // The word by its number.
 fn word_of(said: Said) -> u8
@@ -127,10 +126,11 @@ fn call_at(
     Call::Add(i, targets[k], numbers[k], amounts[k])
 }
 
-// The calls on a board that the first tests accept, with room for each answer; the board is altered in place.
-fn replay_core(
+// The calls on the numbers of a board that the first tests accept, with room for each answer; the numbers are altered
+// in place. Messages below `start` are consumed, so that no look reads them again.
+pub fn replay_core(
     table: &[u8],
-    b: Board,
+    board: &mut [u16],
     kinds: &[u8],
     callers: &[u16],
     targets: &[u16],
@@ -145,32 +145,35 @@ fn replay_core(
     wakers: &mut [u16],
     chords: &mut [u8],
     messages: &mut [u16],
-) -> Board
-    requires { ⌜ refusalOf (now table) (heldBy b (now channels) (now properties) (now cents)
+)
+    requires { ⌜ flatOk (now board) ≡ true ⌝ }
+    requires { ⌜ refusalOf (now table) (heldBy (boardFrom (now board)) (now channels) (now properties) (now cents)
         (now statuses) (now matched) (now wakers) (now chords) (now messages)) ≡ 0 ⌝ }
     requires { ⌜ Fit (callColumns (now kinds) (now callers) (now targets) (now numbers) (now amounts))
         (length (now answers)) ⌝ }
-    ensures { λ r. ⌜ Plays-all (now (table .entry))
-        (heldBy b (now (channels .entry)) (now (properties .entry)) (now (cents .entry)) (now (statuses .entry))
-        (now (matched .entry)) (now (wakers .entry)) (now (chords .entry)) (now (messages .entry)))
+    ensures { λ _. ⌜ (flatOk (now (board .exit)) ≡ true) × Plays-all (now (table .entry))
+        (heldBy (boardFrom (now (board .entry))) (now (channels .entry)) (now (properties .entry)) (now (cents .entry))
+        (now (statuses .entry)) (now (matched .entry)) (now (wakers .entry)) (now (chords .entry))
+        (now (messages .entry)))
         (callColumns (now (kinds .entry)) (now (callers .entry)) (now (targets .entry)) (now (numbers .entry))
         (now (amounts .entry))) (now (answers .entry)) (now (answers .exit))
-        (heldBy r (now (channels .exit)) (now (properties .exit)) (now (cents .exit)) (now (statuses .exit))
-        (now (matched .exit)) (now (wakers .exit)) (now (chords .exit)) (now (messages .exit))) ⌝ }
+        (heldBy (boardFrom (now (board .exit))) (now (channels .exit)) (now (properties .exit)) (now (cents .exit))
+        (now (statuses .exit)) (now (matched .exit)) (now (wakers .exit)) (now (chords .exit))
+        (now (messages .exit))) ⌝ }
 {
-    let mut r = b;
+    let mut start: u16 = 0;
     let mut k: usize = 0;
     while k < kinds.len() {
         let call = call_at(kinds, callers, targets, numbers, amounts, k);
-        let at = moves::place_of(moves::caller_of(call)) as usize;
-        let d = r.senders[at];
-        let n = r.messages;
-        let count = r.matches;
+        let at = moves::place_of(moves::caller_of(call));
+        let d = flat_moves::sender_at(board, at);
+        let n = board[0];
+        let count = board[1];
         let m = moves::move_of(
             table,
             call,
             d,
-            0,
+            start,
             n,
             count,
             channels,
@@ -192,22 +195,13 @@ fn replay_core(
             chords,
             messages,
         );
-        let e = m.sender;
+        flat_moves::put_moved(m, at, board);
         let c = m.change;
-        r.senders[at] = e;
-        r.messages = moves::messages_after(m.adds, n);
-        r.matches = applies::matches_after(c, count);
-        let x = applies::signals(c);
-        if x != 0 {
-            let ds = r.senders;
-            let es = applies::signal_all(ds, x - 1);
-            r.senders = es;
-        }
+        start = moves::start_after(c, start, board[0], statuses);
         let said = m.said;
         answers[k] = answer_number(said);
         k += 1;
     }
-    r
 }
 
 // Whether the columns of calls are of one length.
@@ -227,9 +221,9 @@ fn columns_fit(
 
 // The first refusal: that of every board call, then 30 for columns of calls that are not of one length, then 31 for
 // too few answers; 0 for none.
-fn replay_refusal(
+pub fn replay_refusal(
     table: &[u8],
-    b: Board,
+    board: &[u16],
     kinds: &[u8],
     callers: &[u16],
     targets: &[u16],
@@ -245,15 +239,16 @@ fn replay_refusal(
     chords: &[u8],
     messages: &[u16],
 ) -> u8
-    ensures { λ r. ⌜ r ≡ replayNumber (now (table .entry))
-        (heldBy b (now (channels .entry)) (now (properties .entry)) (now (cents .entry)) (now (statuses .entry))
-        (now (matched .entry)) (now (wakers .entry)) (now (chords .entry)) (now (messages .entry)))
+    ensures { λ r. ⌜ r ≡ refusalAfter (flatRefusal (now (table .entry)) (now (board .entry))
+        (columnsOf (now (channels .entry)) (now (properties .entry)) (now (cents .entry))
+        (now (statuses .entry)) (now (matched .entry)) (now (wakers .entry)))
+        (matchesOf (now (chords .entry)) (now (messages .entry))))
         (callColumns (now (kinds .entry)) (now (callers .entry)) (now (targets .entry)) (now (numbers .entry))
         (now (amounts .entry))) room ⌝ }
 {
-    let refusal = judges::board_refusal(
+    let refusal = flat_judges::flat_refusal(
         table,
-        b,
+        board,
         channels,
         properties,
         cents,
@@ -273,79 +268,4 @@ fn replay_refusal(
         return 31;
     }
     0
-}
-
-// The calls on any board: refused, or played.
-pub fn replay(
-    table: &[u8],
-    b: Board,
-    kinds: &[u8],
-    callers: &[u16],
-    targets: &[u16],
-    numbers: &[u32],
-    amounts: &[i64],
-    answers: &mut [u32],
-    channels: &mut [u8],
-    properties: &mut [u32],
-    cents: &mut [i64],
-    statuses: &mut [u8],
-    matched: &mut [u16],
-    wakers: &mut [u16],
-    chords: &mut [u8],
-    messages: &mut [u16],
-) -> Replayed
-    ensures { λ r. ⌜ Replays (now (table .entry))
-        (heldBy b (now (channels .entry)) (now (properties .entry)) (now (cents .entry)) (now (statuses .entry))
-        (now (matched .entry)) (now (wakers .entry)) (now (chords .entry)) (now (messages .entry)))
-        (callColumns (now (kinds .entry)) (now (callers .entry)) (now (targets .entry)) (now (numbers .entry))
-        (now (amounts .entry))) (now (answers .entry)) (now (answers .exit)) (r .number)
-        (heldBy (r .board) (now (channels .exit)) (now (properties .exit)) (now (cents .exit)) (now (statuses .exit))
-        (now (matched .exit)) (now (wakers .exit)) (now (chords .exit)) (now (messages .exit))) ⌝ }
-{
-    let number = replay_refusal(
-        table,
-        b,
-        kinds,
-        callers,
-        targets,
-        numbers,
-        amounts,
-        answers.len(),
-        channels,
-        properties,
-        cents,
-        statuses,
-        matched,
-        wakers,
-        chords,
-        messages,
-    );
-    if number != 0 {
-        return Replayed {
-            number: number,
-            board: b,
-        };
-    }
-    let r = replay_core(
-        table,
-        b,
-        kinds,
-        callers,
-        targets,
-        numbers,
-        amounts,
-        answers,
-        channels,
-        properties,
-        cents,
-        statuses,
-        matched,
-        wakers,
-        chords,
-        messages,
-    );
-    Replayed {
-        number: 0,
-        board: r,
-    }
 }

@@ -1,146 +1,120 @@
 -- `replaying::replay_core` meets its contract: each turn plays one call more, in place.
 -- The measure is the number of calls left.
 use mathlib.Core.Path.{_≡_, refl, sym, ap, _∙_}
-use mathlib.Core.Logic.{⊎-elim}
+use mathlib.Core.Bool.{true}
 use Prim.Native.Nat.{_-_, _*_, _^_, _<_, _≤_}
 use native.Mathlib.Omega.{arith}
 use borrow.Author.Needs.{needs, scaled-fits}
-use lib.ListN.{length, length-map, length-set}
-use Rattle.columns.proofs.Passed.{passed-none}
-use Rattle.boards.specs.declared.Board as DB
+use lib.ListN.{length, getD}
+use Rattle.state.specs.Views.{saidIn}
 use Rattle.boards.specs.Calls.{Held, heldBy, callIn}
+use Rattle.boards.specs.Boards.{zeroSender}
+use Rattle.columns.specs.Columns.{Passed}
+use Rattle.columns.proofs.Passed.{passed-none}
 use Rattle.judges.specs.Judged.{Lengths}
+use Rattle.judges.specs.Calls.{Plays, refusalOf}
 use Rattle.judges.proofs.Refusals.{lent-whole, messages-few, matches-few}
-use Rattle.applies.specs.Writes.{SignalFits}
-use Rattle.moves.specs.Moves.{placeOf, callerOf, movedBoard, Stands}
-use Rattle.moves.proofs.MoveLaws.{readAt, standsAt, moved-plays}
-use Rattle.moves.proofs.WriteLaws.{sure-signal, signal-few, signal-none, signal-some, senders-long, moved-by}
+use Rattle.moves.specs.Moves.{placeOf, callerOf, Stands}
+use Rattle.moves.proofs.MoveLaws.{readBy, standsBy, moved-plays}
+use Rattle.flat.specs.Flat.{flatOk}
+use Rattle.flat.specs.Decoded.{boardFrom}
+use Rattle.flat.proofs.WalkLaws.{all-numbers}
 use Rattle.replaying.specs.Replays.{callColumns}
 use Rattle.replaying.proofs.ScheduleLaws.{Played, played-none, played-next, played-all}
 use Rattle.replaying.proofs.replay_core.Statement.{statement}
 use Rattle.replaying.proofs.replay_core.Tie as tie
 
 abbrev Inv-loop : tie.InvT-loop
-Inv-loop table kinds callers targets numbers amounts answers₀ channels₀ properties₀ cents₀ statuses₀ matched₀ wakers₀
-    chords₀ messages₀ r₀ k₀ answers channels properties cents statuses matched wakers chords messages r k =
-    (length (r .senders) ≡ 32)
-    × Played table (heldBy r₀ channels₀ properties₀ cents₀ statuses₀ matched₀ wakers₀ chords₀ messages₀)
+Inv-loop table board₀ kinds callers targets numbers amounts answers₀ channels₀ properties₀ cents₀ statuses₀ matched₀ wakers₀ chords₀ messages₀ start₀ k₀ board answers channels properties cents statuses matched wakers chords messages start k =
+    (flatOk board ≡ true)
+    × Passed start (getD board 0 0) statuses
+    × Played table (heldBy (boardFrom board₀) channels₀ properties₀ cents₀ statuses₀ matched₀ wakers₀ chords₀ messages₀)
     (callColumns kinds callers targets numbers amounts) answers₀ k
-    (heldBy r channels properties cents statuses matched wakers chords messages) answers
+    (heldBy (boardFrom board) channels properties cents statuses matched wakers chords messages) answers
 
 abbrev μ-loop : tie.MeasureT-loop
-μ-loop table kinds callers targets numbers amounts answers₀ channels₀ properties₀ cents₀ statuses₀ matched₀ wakers₀
-    chords₀ messages₀ r₀ k₀ answers channels properties cents statuses matched wakers chords messages r k =
+μ-loop table board₀ kinds callers targets numbers amounts answers₀ channels₀ properties₀ cents₀ statuses₀ matched₀ wakers₀ chords₀ messages₀ start₀ k₀ board answers channels properties cents statuses matched wakers chords messages start k =
     length kinds - k
 
 -- the places of a turn, one before another
-abbrev start : tie.After-slice-known8 Inv-loop μ-loop → tie.Start Inv-loop μ-loop
-start c = c .before .before .before .before .before .before .before .before .before .before .before .before .before
-
 abbrev begun : tie.At-loop Inv-loop μ-loop → tie.Start Inv-loop μ-loop
-begun c = start (c .before)
+begun c = c .before .before .before .before .before .before .before .before .before .before .before .before .before .before .before
 
 abbrev looped : tie.After-place-of Inv-loop μ-loop → tie.At-loop Inv-loop μ-loop
 looped c = c .before .before .before .before
 
-abbrev placed : tie.After-move-of Inv-loop μ-loop → tie.After-place-of Inv-loop μ-loop
-placed c = c .before .before .before .before .before .before .before
+abbrev called : tie.After-place-of Inv-loop μ-loop → tie.After-call-at Inv-loop μ-loop
+called c = c .before .before
+
+abbrev placed : tie.After-sender-at Inv-loop μ-loop → tie.After-place-of Inv-loop μ-loop
+placed c = c .before .before
+
+abbrev caught : tie.After-move-of Inv-loop μ-loop → tie.After-sender-at Inv-loop μ-loop
+caught c = c .before .before .before .before .before .before .before .before
 
 abbrev decided : tie.After-write-move Inv-loop μ-loop → tie.After-move-of Inv-loop μ-loop
 decided c = c .before .before .before .before .before .before .before .before .before
 
-abbrev written : tie.After-e Inv-loop μ-loop → tie.After-write-move Inv-loop μ-loop
-written c = c .before .before .before .before .before .before .before .before .before .before .before .before .before
-    .before .before .before
+abbrev written : tie.After-put-moved Inv-loop μ-loop → tie.After-write-move Inv-loop μ-loop
+written c = c .before .before .before .before .before .before .before .before .before .before .before .before .before .before .before .before .before
+
+abbrev put : tie.After-answer-number Inv-loop μ-loop → tie.After-put-moved Inv-loop μ-loop
+put c = c .before .before .before .before .before .before
+
+abbrev turn : tie.After-put-moved Inv-loop μ-loop → tie.After-place-of Inv-loop μ-loop
+turn c = placed (caught (decided (written c)))
 
 -- the caller's place
 place-is : (c : tie.After-place-of Inv-loop μ-loop)
-    → c .place-of .result ≡ placeOf (callerOf (callIn (c .before .before .call-at .result)))
+    → c .place-of .result ≡ placeOf (callerOf (callIn (called c .call-at .result)))
 place-is c = c .place-of .ensures .0 ∙ ap placeOf (c .before .caller-of .ensures)
 
--- what is held at the start and in a turn, and what its call reads
+-- what is held at the start and in a turn
 abbrev lent : tie.Start Inv-loop μ-loop → Held
 lent s =
     let a = s .args in
-    heldBy (a .b) (a .channels .now) (a .properties .now) (a .cents .now) (a .statuses .now) (a .matched .now)
-    (a .wakers .now) (a .chords .now) (a .messages .now)
+    heldBy (boardFrom (a .board .now)) (a .channels .now) (a .properties .now) (a .cents .now) (a .statuses .now)
+    (a .matched .now) (a .wakers .now) (a .chords .now) (a .messages .now)
 
 abbrev holds : tie.At-loop Inv-loop μ-loop → Held
 holds c =
     let l = c .loop in
-    heldBy (l .r) (l .channels) (l .properties) (l .cents) (l .statuses) (l .matched) (l .wakers) (l .chords)
-    (l .messages)
+    heldBy (boardFrom (l .board)) (l .channels) (l .properties) (l .cents) (l .statuses) (l .matched) (l .wakers)
+    (l .chords) (l .messages)
 
-abbrev stood : (c : tie.After-place-of Inv-loop μ-loop)
-    → Stands (begun (looped c) .args .table .now)
-    (readAt (holds (looped c)) (placeOf (callerOf (callIn (c .before .before .call-at .result)))) (c .place-of .result))
-stood c = standsAt _ (holds (looped c)) _ _ (looped c .loop .inv .1 .accepted) (place-is c)
+accepted : (c : tie.At-loop Inv-loop μ-loop) → refusalOf (begun c .args .table .now) (holds c) ≡ 0
+accepted c = c .loop .inv .2 .accepted
 
--- the turn's move
-abbrev moving : tie.After-e Inv-loop μ-loop → tie.After-move-of Inv-loop μ-loop
-moving c = decided (written c)
-
-few : (c : tie.At-loop Inv-loop μ-loop) → (c .loop .r .messages ≤ 1024) × (c .loop .r .matches ≤ 1024)
-few c = (messages-few _ _ _ _ (c .loop .inv .1 .accepted), matches-few _ _ _ _ (c .loop .inv .1 .accepted))
-
-signal-fits : (c : tie.After-e Inv-loop μ-loop) → SignalFits (moving c .move-of .result .change)
-signal-fits c =
-    let l = looped (placed (moving c)) in
-    sure-signal (l .loop .r .messages) (l .loop .r .matches) (moving c .move-of .result .change)
-    (moving c .move-of .ensures .1 .sure)
-
--- what is held after the turn
-abbrev turned : tie.Joined1 Inv-loop μ-loop → tie.After-e Inv-loop μ-loop
-turned c = c .before .before .before .before
-
-abbrev called : tie.Joined1 Inv-loop μ-loop → tie.After-call-at Inv-loop μ-loop
-called c = placed (moving (turned c)) .before .before
-
-moved-is : (c : tie.Joined1 Inv-loop μ-loop)
-    → let q = moving (turned c) in
-    c .if1 .r ≡ movedBoard (looped (placed q) .loop .r) (placed q .place-of .result) (q .move-of .result)
-moved-is c =
-    let g = c .before in
-    let m = g .before in
-    let q = moving (turned c) in
-    let w = placed q in
-    let v = q .move-of .result in
-    let l = looped w .loop .r in
-    let n = m .before .messages-after .ensures in
-    let k = m .matches-after .ensures in
-    ⊎-elim
-    (λ x. x .3 ∙ moved-by l (w .place-of .result) v _ _ _ n k
-    (signal-some (v .change) _ (g .signals .ensures) _ (x .0 .taken) _ (x .2 .ensures)))
-    (λ x. x .1 ∙ moved-by l (w .place-of .result) v _ _ _ n k
-    (signal-none (v .change) _ (g .signals .ensures) _ (x .0 .left)))
-    (c .if1 .came)
-
-moved-senders : (c : tie.Joined1 Inv-loop μ-loop) → length (c .if1 .r .senders) ≡ 32
-moved-senders c =
-    let q = moving (turned c) in
-    let w = placed q in
-    ap (λ (x : DB.Board). length (x .senders)) (moved-is c)
-    ∙ senders-long (q .move-of .result .change) _ ∙ length-set (looped w .loop .r .senders) (w .place-of .result) _
-    ∙ looped w .loop .inv .0
-
--- the lengths of the columns, in a turn and at the start
+-- the lengths of the columns, in a turn and at the start, and of the board's numbers
 lengths : (c : tie.At-loop Inv-loop μ-loop)
     → Lengths (holds c .columns) (holds c .matches) × Lengths (lent (begun c) .columns) (lent (begun c) .matches)
-lengths c = (lent-whole _ _ _ _ (c .loop .inv .1 .accepted), lent-whole _ _ _ _ (begun c .pre .0))
+lengths c = (lent-whole _ _ _ _ (accepted c), lent-whole _ _ _ _ (begun c .pre .1 .0))
 
--- there is a place for the turn's answer
-in-place : (c : tie.In-loop Inv-loop μ-loop) → c .before .loop .k < length (begun (c .before) .args .answers .now)
-in-place c = omega (arith, c .loop-test .taken, begun (c .before) .pre .1 .answers-all)
+all-of : (c : tie.At-loop Inv-loop μ-loop) → length (c .loop .board) ≡ 674
+all-of c = all-numbers _ (c .loop .inv .0) .0
 
-room : (c : tie.In-loop Inv-loop μ-loop) → length (begun (c .before) .args .answers .now) * 4 < 2 ^ 63
-room c = begun (c .before) .good .1 .1 .1 .1 .1 .1 .1 .0 .1
+few : (c : tie.At-loop Inv-loop μ-loop) → (getD (c .loop .board) 0 0 ≤ 1024) × (getD (c .loop .board) 1 0 ≤ 1024)
+unfolding boardFrom
+few c = (messages-few _ _ _ _ (accepted c), matches-few _ _ _ _ (accepted c))
+
+-- what the turn's call reads
+abbrev stood : (c : tie.After-sender-at Inv-loop μ-loop)
+    → Stands (begun (looped (placed c)) .args .table .now)
+    (readBy (holds (looped (placed c))) (placeOf (callerOf (callIn (called (placed c) .call-at .result))))
+    (c .sender-at .result))
+stood c =
+    standsBy _ (holds (looped (placed c))) _ _ (accepted (looped (placed c)))
+    (c .sender-at .ensures
+    ∙ ap (λ k. getD (boardFrom (looped (placed c) .loop .board) .senders) k zeroSender) (place-is (placed c)))
 
 loop-holds : tie.Need-loop-holds Inv-loop μ-loop
-loop-holds c = (simp length-map at (start c .good .1 .0 .1 .1 .1 .1 .0 .1 .0 .1), played-none _ _ _ _ (start c .pre .0))
+loop-holds c =
+    let s = c .before .before .before .before .before .before .before .before .before .before .before .before .before .before in
+    (s .pre .0, passed-none _ _, played-none _ _ _ _ (s .pre .1 .0))
 
 call-at-requires : tie.Need-call-at-requires Inv-loop μ-loop
 call-at-requires c κs =
-    let f = begun (c .before) .pre .1 in
+    let f = begun (c .before) .pre .1 .1 in
     let l = c .loop-test .taken in (
       (l, omega (arith, f .callers-len), omega (arith, f .targets-len)),
       (omega (arith, f .numbers-len), omega (arith, f .amounts-len)),
@@ -152,119 +126,145 @@ caller-of-requires c κs = search needs
 place-of-requires : tie.Need-place-of-requires Inv-loop μ-loop
 place-of-requires c κs = search needs
 
-cast-at : tie.Need-cast-at Inv-loop μ-loop
-cast-at c = search needs
+sender-at-requires : tie.Need-sender-at-requires Inv-loop μ-loop
+sender-at-requires c κs = (looped (c .before) .loop .inv .0, c .before .place-of .ensures .1)
 
-mul-d : tie.Need-mul-d Inv-loop μ-loop
-mul-d c = search needs
+slice-read-n : tie.Need-slice-read-n Inv-loop μ-loop
+slice-read-n c = omega (arith, all-of (looped (placed (c .before))))
 
-element-copy-out-d : tie.Need-element-copy-out-d Inv-loop μ-loop
-element-copy-out-d c = omega (arith, c .place-of .ensures .1, looped c .loop .inv .0)
+slice-read-count : tie.Need-slice-read-count Inv-loop μ-loop
+slice-read-count c = omega (arith, all-of (looped (placed (c .before .before))))
 
 move-of-requires : tie.Need-move-of-requires Inv-loop μ-loop
-move-of-requires c κs = (stood (c .before .before .before .before .before .before), passed-none _ _)
+unfolding boardFrom
+move-of-requires c κs =
+    let w = c .before .before .before .before .before .before .before in
+    (stood w, looped (placed w) .loop .inv .1)
 
 write-move-requires : tie.Need-write-move-requires Inv-loop μ-loop
 write-move-requires c κs =
     let q = c .before .before .before .before .before .before .before .before in
-    let l = looped (placed q) in
-    (q .move-of .ensures .1, few l .0, lent-whole _ _ _ _ (l .loop .inv .1 .accepted))
+    let l = looped (placed (caught q)) in
+    (q .move-of .ensures .1, few l .0, lengths l .0)
 
-mul-e : tie.Need-mul-e Inv-loop μ-loop
-mul-e c = record { fits = omega (arith, placed (moving c) .place-of .ensures .1) }
+put-moved-requires : tie.Need-put-moved-requires Inv-loop μ-loop
+put-moved-requires c κs =
+    let q = decided (c .before .before .before .before .before .before .before .before .before .before .before .before .before .before .before .before) in
+    let w = placed (caught q) in
+    let l = looped w in
+    (l .loop .inv .0, w .place-of .ensures .1, few l .0, few l .1, q .move-of .ensures .1)
 
-element-set-from-e : tie.Need-element-set-from-e Inv-loop μ-loop
-element-set-from-e c =
-    let w = placed (moving c) in
-    omega (arith, w .place-of .ensures .1, looped w .loop .inv .0)
+-- the call, and what is held after it
+abbrev left : tie.After-put-moved Inv-loop μ-loop → Held
+left c =
+    let w = written c .write-move .last .1 .1 .1 in
+    heldBy (boardFrom (c .put-moved .last .1 .1 .0)) (w .0) (w .1 .0) (w .1 .1 .0) (w .1 .1 .1 .0) (w .1 .1 .1 .1 .0)
+    (w .1 .1 .1 .1 .1 .0) (w .1 .1 .1 .1 .1 .1 .0) (w .1 .1 .1 .1 .1 .1 .1 .0)
 
-messages-after-requires : tie.Need-messages-after-requires Inv-loop μ-loop
-messages-after-requires c κs = few (looped (placed (moving c))) .0
+plays : (c : tie.After-put-moved Inv-loop μ-loop)
+    → Plays (begun (looped (turn c)) .args .table .now) (holds (looped (turn c)))
+    (callIn (called (turn c) .call-at .result)) (saidIn (decided (written c) .move-of .result .said)) (left c)
+unfolding boardFrom
+plays c =
+    let u = written c in
+    let q = decided u in
+    let w = turn c in
+    let l = looped w in
+    moved-plays _ (holds l) _ _ (q .move-of .result) _ _ _ _ _ (sym (place-is w))
+    (q .move-of .ensures .0 (stood (caught q))) (u .write-move .ensures (boardFrom (l .loop .board)) _ refl refl)
+    (c .put-moved .ensures .1)
 
-matches-after-requires : tie.Need-matches-after-requires Inv-loop μ-loop
-matches-after-requires c κs = few (looped (placed (moving (c .before)))) .1
+stays : (c : tie.After-put-moved Inv-loop μ-loop) → refusalOf (begun (looped (turn c)) .args .table .now) (left c) ≡ 0
+stays c = plays c .accepted (accepted (looped (turn c)))
 
-signals-requires : tie.Need-signals-requires Inv-loop μ-loop
-signals-requires c κs = signal-fits (c .before .before)
+slice-read-start-after : tie.Need-slice-read-start-after Inv-loop μ-loop
+slice-read-start-after c = omega (arith, all-numbers _ (c .before .before .before .put-moved .ensures .0) .0)
 
-sub-signal-all : tie.Need-sub-signal-all Inv-loop μ-loop
-sub-signal-all c = search needs
-
-signal-all-requires : tie.Need-signal-all-requires Inv-loop μ-loop
-signal-all-requires c κs =
-    let g = c .before .before in
-    let e = g .before .before .before in
-    signal-few (moving e .move-of .result .change) _ (g .signals .ensures) (signal-fits e) (c .before .if1 .taken)
+start-after-requires : tie.Need-start-after-requires Inv-loop μ-loop
+unfolding boardFrom
+start-after-requires c κs =
+    let p = c .before .before .before .before in
+    let few = messages-few _ _ _ _ (stays p) in
+    (omega (arith, few, lent-whole _ _ _ _ (stays p) .statuses-len), few)
 
 answer-number-requires : tie.Need-answer-number-requires Inv-loop μ-loop
 answer-number-requires c κs = search needs
 
+-- there is a place for the turn's answer
+in-place : (c : tie.In-loop Inv-loop μ-loop) → c .before .loop .k < length (begun (c .before) .args .answers .now)
+in-place c = omega (arith, c .loop-test .taken, begun (c .before) .pre .1 .1 .answers-all)
+
+room : (c : tie.In-loop Inv-loop μ-loop) → length (begun (c .before) .args .answers .now) * 4 < 2 ^ 63
+room c = begun (c .before) .good .1 .1 .1 .1 .1 .1 .1 .0 .1
+
 mul-answers : tie.Need-mul-answers Inv-loop μ-loop
 mul-answers c =
-    let i = called (c .before) .before in
+    let i = called (turn (put c)) .before in
     scaled-fits _ (length (begun (i .before) .args .answers .now)) 4 (in-place i) (room i)
 
 slice-write-answers : tie.Need-slice-write-answers Inv-loop μ-loop
 slice-write-answers c =
-    let i = called (c .before) .before in
-    omega (arith, in-place i, i .before .loop .inv .1 .len)
+    let i = called (turn (put c)) .before in
+    omega (arith, in-place i, i .before .loop .inv .2 .len)
 
 add-k : tie.Need-add-k Inv-loop μ-loop
 add-k c =
-    let i = called (c .before) .before in
+    let i = called (turn (put c)) .before in
     record { fits = omega (arith, in-place i, room i) }
 
 loop-less : tie.Need-loop-less Inv-loop μ-loop
-loop-less c = let i = called (c .before) .before in omega (arith, i .loop-test .taken)
+loop-less c = let i = called (turn (put c)) .before in omega (arith, i .loop-test .taken)
 
 loop-again : tie.Need-loop-again Inv-loop μ-loop
+unfolding boardFrom
 loop-again c =
-    let j = c .before in
-    let u = written (turned j) in
-    let q = decided u in
-    let w = placed q in
-    let l = looped w in
-    let k = called j in
-    let i = k .before in
-    let s = begun l in (
-      moved-senders j,
-      played-next _ _ _ _ _ _ _ (l .loop .inv .1) _ _ _ _ (i .loop-test .taken) (s .pre .1 .answers-all)
-          (k .call-at .ensures)
-          (moved-plays (s .args .table .now) (holds l) (callIn (k .call-at .result)) _ (q .move-of .result) _ _ _ _ _
-          (sym (place-is w)) (q .move-of .ensures .0 (stood w)) (u .write-move .ensures (l .loop .r) _ refl refl)
-          (moved-is j))
-          (c .answer-number .ensures),
+    let p = put c in
+    let u = written p in
+    let m = decided u .move-of .result in
+    let k = called (turn p) in
+    let l = looped (turn p) .loop in (
+      p .put-moved .ensures .0,
+      c .before .start-after .ensures (getD (l .board) 0 0) (m .adds) (l .statuses) (l .inv .1)
+          (plays p .beyond .messages-grow)
+          (ap (λ (h : Held). h .columns .statuses) (u .write-move .ensures (boardFrom (l .board)) 0 refl refl)),
+      played-next _ _ _ _ _ _ _ (l .inv .2) _ _ _ _ (k .before .loop-test .taken)
+          (begun (looped (turn p)) .pre .1 .1 .answers-all) (k .call-at .ensures) (plays p) (c .answer-number .ensures),
     )
 
 same-length : tie.Need-same-length Inv-loop μ-loop
-same-length c = c .before .loop .inv .1 .len
+same-length c = all-of (c .before) ∙ sym (all-numbers _ (begun (c .before) .pre .0) .0)
 
 same-length-2 : tie.Need-same-length-2 Inv-loop μ-loop
-same-length-2 c = lengths (c .before) .0 .channels-len ∙ sym (lengths (c .before) .1 .channels-len)
+same-length-2 c = c .before .loop .inv .2 .len
 
 same-length-3 : tie.Need-same-length-3 Inv-loop μ-loop
-same-length-3 c = lengths (c .before) .0 .properties-len ∙ sym (lengths (c .before) .1 .properties-len)
+same-length-3 c = lengths (c .before) .0 .channels-len ∙ sym (lengths (c .before) .1 .channels-len)
 
 same-length-4 : tie.Need-same-length-4 Inv-loop μ-loop
-same-length-4 c = lengths (c .before) .0 .cents-len ∙ sym (lengths (c .before) .1 .cents-len)
+same-length-4 c = lengths (c .before) .0 .properties-len ∙ sym (lengths (c .before) .1 .properties-len)
 
 same-length-5 : tie.Need-same-length-5 Inv-loop μ-loop
-same-length-5 c = lengths (c .before) .0 .statuses-len ∙ sym (lengths (c .before) .1 .statuses-len)
+same-length-5 c = lengths (c .before) .0 .cents-len ∙ sym (lengths (c .before) .1 .cents-len)
 
 same-length-6 : tie.Need-same-length-6 Inv-loop μ-loop
-same-length-6 c = lengths (c .before) .0 .matched-len ∙ sym (lengths (c .before) .1 .matched-len)
+same-length-6 c = lengths (c .before) .0 .statuses-len ∙ sym (lengths (c .before) .1 .statuses-len)
 
 same-length-7 : tie.Need-same-length-7 Inv-loop μ-loop
-same-length-7 c = lengths (c .before) .0 .wakers-len ∙ sym (lengths (c .before) .1 .wakers-len)
+same-length-7 c = lengths (c .before) .0 .matched-len ∙ sym (lengths (c .before) .1 .matched-len)
 
 same-length-8 : tie.Need-same-length-8 Inv-loop μ-loop
-same-length-8 c = lengths (c .before) .0 .chords-len ∙ sym (lengths (c .before) .1 .chords-len)
+same-length-8 c = lengths (c .before) .0 .wakers-len ∙ sym (lengths (c .before) .1 .wakers-len)
 
 same-length-9 : tie.Need-same-length-9 Inv-loop μ-loop
-same-length-9 c = lengths (c .before) .0 .messages-len ∙ sym (lengths (c .before) .1 .messages-len)
+same-length-9 c = lengths (c .before) .0 .chords-len ∙ sym (lengths (c .before) .1 .chords-len)
+
+same-length-10 : tie.Need-same-length-10 Inv-loop μ-loop
+same-length-10 c = lengths (c .before) .0 .messages-len ∙ sym (lengths (c .before) .1 .messages-len)
 
 returns : tie.Need-returns Inv-loop μ-loop
-returns c = played-all _ _ _ _ _ _ _ (c .before .loop .inv .1) (omega arith)
+returns c =
+    let l = c .before .loop in
+    (l .inv .0, played-all _ _ _ _ _ _ _ (l .inv .2) (omega arith))
 
 pub replay-core-spec : {M : Type 1} → statement M
 replay-core-spec =
@@ -276,18 +276,14 @@ replay-core-spec =
     call-at-requires
     caller-of-requires
     place-of-requires
-    cast-at
-    mul-d
-    element-copy-out-d
+    sender-at-requires
+    slice-read-n
+    slice-read-count
     move-of-requires
     write-move-requires
-    mul-e
-    element-set-from-e
-    messages-after-requires
-    matches-after-requires
-    signals-requires
-    sub-signal-all
-    signal-all-requires
+    put-moved-requires
+    slice-read-start-after
+    start-after-requires
     answer-number-requires
     mul-answers
     slice-write-answers
@@ -303,4 +299,5 @@ replay-core-spec =
     same-length-7
     same-length-8
     same-length-9
+    same-length-10
     returns)
