@@ -3,3 +3,4 @@ pub mod PhaseBy
 pub mod RowLaws
 pub mod RowWalks
 pub mod FlatSound
+pub mod FlatLaws

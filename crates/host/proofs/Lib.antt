@@ -1,4 +1,5 @@
 -- Laws of the host calls.
-pub mod HostLaws
+pub mod PlayLaws
 pub mod ReadLaws
-pub mod Chains
+pub mod FlatReads
+pub mod SenderRows

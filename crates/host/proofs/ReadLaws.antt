@@ -16,7 +16,7 @@ use Rattle.lines.proofs.Reading.{to-pos}
 use Rattle.reads.specs.declared.MessageRead as DM
 use Rattle.reads.specs.declared.MatchRead as DR
 use Rattle.reads.specs.Reads.{messageOf, readOf}
-use Rattle.host.specs.Host.{statusNumber, messageNumbers, matchNumbers, stored}
+use Rattle.host.specs.Reads.{statusNumber, messageNumbers, matchNumbers, stored}
 
 -- a byte up to 3 is a status
 status-back : (x : ℕ) → x ≤ 3 → statusNumber (statusOf x) ≡ x

@@ -1,2 +1,4 @@
--- What the calls of a host in another language say and leave.
-pub mod Host
+-- The calls of a host that holds the board as plain numbers.
+pub mod Lent
+pub mod Plays
+pub mod Reads

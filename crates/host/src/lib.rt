@@ -2,31 +2,28 @@
 ghost use mathlib.Core.Path.{_≡_};
 ghost use mathlib.Core.List.{[], _∷_, map};
 ghost use Prim.Native.Nat.{_≤_};
+ghost use lib.Dec.{eqb};
 ghost use lib.IntN.{pos};
 ghost use lib.ListN.{length, drop, replicate};
 ghost use lib.Seq.{paste};
 ghost use Rattle.model.specs.Layout.{tableRefusal};
-ghost use Rattle.model.specs.Pools.{adds, steps};
+ghost use Rattle.model.specs.Pools.{adds, steps, quiet};
+ghost use Rattle.model.specs.Tables.{Table};
 ghost use Rattle.adds.specs.Sends.{sent};
 ghost use Rattle.reads.specs.Reads.{messageOf, readOf};
+ghost use Rattle.columns.specs.Columns.{Columns};
+ghost use Rattle.columns.specs.MatchColumns.{MatchColumns};
+ghost use Rattle.state.specs.Views.{stepsIn};
+ghost use Rattle.boards.specs.Boards.{boardIn};
+ghost use Rattle.flat.specs.Decoded.{stateFrom, boardFrom};
 ghost use Rattle.replaying.specs.Replays.{callColumns};
-ghost use Rattle.host.specs.Host.{lent, noBoard, Flat-plays, Flat-replays, Flat-opens};
-ghost use Rattle.host.specs.Host.{messageNumbers, matchNumbers, stored, ofMessage, ofMatch, ofReply, ofQuiet};
-ghost use Rattle.host.specs.Host.{Flat-reads};
+ghost use Rattle.host.specs.Lent.{lent};
+ghost use Rattle.host.specs.Plays.{oneCall, Flat-opens, Flat-plays, Flat-replays};
+ghost use Rattle.host.specs.Reads.{messageNumbers, matchNumbers, stored, ofMessage, ofMatch, ofReply, ofQuiet};
+ghost use Rattle.host.specs.Reads.{Flat-reads};
 use reads::MatchRead;
 use reads::MessageRead;
 use state::Said;
-
-// The number for a board's numbers that are none.
-fn no_board(table: &[u8]) -> u8
-    ensures { λ r. ⌜ r ≡ noBoard (now (table .entry)) ⌝ }
-{
-    let number = table::table_refusal(table);
-    if number != 0 {
-        return number;
-    }
-    30
-}
 
 // The number that refuses a table, 0 for none.
 #[no_mangle]
@@ -54,14 +51,78 @@ pub extern "C" fn gv_open(table: &[u8], board: &mut [u16]) -> u8
     0
 }
 
+// One call, which stands in its columns, on any numbers: refused, or played.
+fn one_call(
+    table: &[u8],
+    board: &mut [u16],
+    kind: u8,
+    sender: u16,
+    channel: u16,
+    property: u32,
+    amount: i64,
+    channels: &mut [u8],
+    properties: &mut [u32],
+    cents: &mut [i64],
+    statuses: &mut [u8],
+    matched: &mut [u16],
+    wakers: &mut [u16],
+    chords: &mut [u8],
+    messages: &mut [u16],
+) -> u32
+    ensures { λ r. ⌜ Flat-plays (now (table .entry))
+        (lent (now (board .entry)) (now (channels .entry)) (now (properties .entry)) (now (cents .entry))
+        (now (statuses .entry)) (now (matched .entry)) (now (wakers .entry)) (now (chords .entry))
+        (now (messages .entry)))
+        (oneCall kind sender channel property amount) r
+        (lent (now (board .exit)) (now (channels .exit)) (now (properties .exit)) (now (cents .exit))
+        (now (statuses .exit)) (now (matched .exit)) (now (wakers .exit)) (now (chords .exit))
+        (now (messages .exit))) ⌝ }
+{
+    let number = flat_judges::flat_refusal(
+        table,
+        board,
+        channels,
+        properties,
+        cents,
+        statuses,
+        matched,
+        wakers,
+        chords,
+        messages,
+    );
+    if number != 0 {
+        return replaying::answer_number(Said::Refused(number));
+    }
+    let mut answers = [0u32; 1];
+    replaying::replay_core(
+        table,
+        board,
+        &[kind],
+        &[sender],
+        &[channel],
+        &[property],
+        &[amount],
+        &mut answers,
+        channels,
+        properties,
+        cents,
+        statuses,
+        matched,
+        wakers,
+        chords,
+        messages,
+    );
+    answers[0]
+}
+
 // A step of a sender.
 #[no_mangle]
 pub extern "C" fn gv_step(
     table: &[u8],
     board: &mut [u16],
-    channels: &[u8],
-    properties: &[u32],
-    cents: &[i64],
+    channels: &mut [u8],
+    properties: &mut [u32],
+    cents: &mut [i64],
     statuses: &mut [u8],
     matched: &mut [u16],
     wakers: &mut [u16],
@@ -74,20 +135,18 @@ pub extern "C" fn gv_step(
         (now (statuses .entry)) (now (matched .entry)) (now (wakers .entry)) (now (chords .entry))
         (now (messages .entry)))
         (steps sender) r
-        (lent (now (board .exit)) (now (channels .entry)) (now (properties .entry)) (now (cents .entry))
+        (lent (now (board .exit)) (now (channels .exit)) (now (properties .exit)) (now (cents .exit))
         (now (statuses .exit)) (now (matched .exit)) (now (wakers .exit)) (now (chords .exit))
         (now (messages .exit))) ⌝ }
 {
-    let d = flat::board_of(board);
-    if !d.ok {
-        let number = no_board(table);
-        return replaying::answer_number(Said::Refused(number));
-    }
-    let b = d.board;
-    let a = stepping::step(
+    one_call(
         table,
-        b,
+        board,
+        0,
         sender,
+        0,
+        0,
+        0,
         channels,
         properties,
         cents,
@@ -96,15 +155,7 @@ pub extern "C" fn gv_step(
         wakers,
         chords,
         messages,
-    );
-    let said = a.said;
-    let answer = replaying::answer_number(said);
-    if replaying::number_of(said) != 0 {
-        return answer;
-    }
-    let after = a.board;
-    flat::put_board(after, board);
-    answer
+    )
 }
 
 // An add by a sender.
@@ -118,8 +169,8 @@ pub extern "C" fn gv_add(
     statuses: &mut [u8],
     matched: &mut [u16],
     wakers: &mut [u16],
-    chords: &[u8],
-    messages: &[u16],
+    chords: &mut [u8],
+    messages: &mut [u16],
     sender: u16,
     channel: u16,
     property: u32,
@@ -131,18 +182,13 @@ pub extern "C" fn gv_add(
         (now (messages .entry)))
         (adds sender (sent channel property amount)) r
         (lent (now (board .exit)) (now (channels .exit)) (now (properties .exit)) (now (cents .exit))
-        (now (statuses .exit)) (now (matched .exit)) (now (wakers .exit)) (now (chords .entry))
-        (now (messages .entry))) ⌝ }
+        (now (statuses .exit)) (now (matched .exit)) (now (wakers .exit)) (now (chords .exit))
+        (now (messages .exit))) ⌝ }
 {
-    let d = flat::board_of(board);
-    if !d.ok {
-        let number = no_board(table);
-        return replaying::answer_number(Said::Refused(number));
-    }
-    let b = d.board;
-    let a = adding::add(
+    one_call(
         table,
-        b,
+        board,
+        1,
         sender,
         channel,
         property,
@@ -155,15 +201,7 @@ pub extern "C" fn gv_add(
         wakers,
         chords,
         messages,
-    );
-    let said = a.said;
-    let answer = replaying::answer_number(said);
-    if replaying::number_of(said) != 0 {
-        return answer;
-    }
-    let after = a.board;
-    flat::put_board(after, board);
-    answer
+    )
 }
 
 // A list of calls, one after another.
@@ -196,14 +234,30 @@ pub extern "C" fn gv_replay(
         (now (statuses .exit)) (now (matched .exit)) (now (wakers .exit)) (now (chords .exit))
         (now (messages .exit))) ⌝ }
 {
-    let d = flat::board_of(board);
-    if !d.ok {
-        return no_board(table);
-    }
-    let b = d.board;
-    let r = replaying::replay(
+    let number = replaying::replay_refusal(
         table,
-        b,
+        board,
+        kinds,
+        callers,
+        targets,
+        numbers,
+        amounts,
+        answers.len(),
+        channels,
+        properties,
+        cents,
+        statuses,
+        matched,
+        wakers,
+        chords,
+        messages,
+    );
+    if number != 0 {
+        return number;
+    }
+    replaying::replay_core(
+        table,
+        board,
         kinds,
         callers,
         targets,
@@ -219,13 +273,7 @@ pub extern "C" fn gv_replay(
         chords,
         messages,
     );
-    let number = r.number;
-    if number != 0 {
-        return number;
-    }
-    let after = r.board;
-    flat::put_board(after, board);
-    number
+    0
 }
 
 // A message's six numbers.
@@ -299,14 +347,9 @@ pub extern "C" fn gv_read_message(
         (now (messages .entry)))
         (ofMessage n) r (now (out .entry)) (now (out .exit)) ⌝ }
 {
-    let d = flat::board_of(board);
-    if !d.ok {
-        return no_board(table);
-    }
-    let b = d.board;
-    let a = reading::read_message(
+    let number = flat_judges::flat_refusal(
         table,
-        b,
+        board,
         channels,
         properties,
         cents,
@@ -315,16 +358,17 @@ pub extern "C" fn gv_read_message(
         wakers,
         chords,
         messages,
-        n,
     );
-    let number = a.number;
     if number != 0 {
         return number;
+    }
+    if n >= board[0] {
+        return 14;
     }
     if out.len() < 6 {
         return 31;
     }
-    let m = a.message;
+    let m = reads::message_read(n, channels, properties, cents, statuses, matched, wakers);
     put_message(out, m);
     0
 }
@@ -351,14 +395,9 @@ pub extern "C" fn gv_read_match(
         (now (messages .entry)))
         (ofMatch k) r (now (out .entry)) (now (out .exit)) ⌝ }
 {
-    let d = flat::board_of(board);
-    if !d.ok {
-        return no_board(table);
-    }
-    let b = d.board;
-    let a = reading::read_match(
+    let number = flat_judges::flat_refusal(
         table,
-        b,
+        board,
         channels,
         properties,
         cents,
@@ -367,16 +406,17 @@ pub extern "C" fn gv_read_match(
         wakers,
         chords,
         messages,
-        k,
     );
-    let number = a.number;
     if number != 0 {
         return number;
+    }
+    if k >= board[1] {
+        return 15;
     }
     if out.len() < 11 {
         return 31;
     }
-    let m = a.read;
+    let m = reads::match_read(table, k, chords, messages, board[0], cents);
     put_match(out, m);
     0
 }
@@ -403,14 +443,9 @@ pub extern "C" fn gv_read_reply(
         (now (messages .entry)))
         (ofReply sender) r (now (out .entry)) (now (out .exit)) ⌝ }
 {
-    let d = flat::board_of(board);
-    if !d.ok {
-        return no_board(table);
-    }
-    let b = d.board;
-    let a = reading::read_reply(
+    let number = flat_judges::flat_refusal(
         table,
-        b,
+        board,
         channels,
         properties,
         cents,
@@ -419,17 +454,43 @@ pub extern "C" fn gv_read_reply(
         wakers,
         chords,
         messages,
-        sender,
     );
-    let number = a.number;
     if number != 0 {
         return number;
+    }
+    if sender >= 32 {
+        return 8;
     }
     if out.len() < 1 {
         return 31;
     }
-    put_one(out, a.reply);
+    let at = 2 + 21 * (sender as usize);
+    put_one(out, board[at + 4]);
     0
+}
+
+// Whether a sender may step, by the numbers of its state and signal.
+fn steps_at(state: u16, signalled: u16) -> bool
+    ensures { λ r. ⌜ r ≡ stepsIn (stateFrom state) (eqb signalled 1) ⌝ }
+{
+    (state == 1) | ((state >= 2) & (signalled == 1))
+}
+
+// Whether no sender has a step to take: each is idle, or blocked without a signal.
+fn is_quiet(board: &[u16]) -> bool
+    requires { ⌜ length (now board) ≡ 674 ⌝ }
+    ensures { λ r. ⌜ ((t : Table) (c : Columns) (m : MatchColumns)
+        → r ≡ quiet (boardIn t (boardFrom (now (board .entry))) c m)) ⌝ }
+{
+    let mut i: usize = 0;
+    while i < 32 {
+        let at = 2 + 21 * i;
+        if steps_at(board[at], board[at + 1]) {
+            return false;
+        }
+        i += 1;
+    }
+    true
 }
 
 // Reads whether the board is quiet: 1 or 0.
@@ -453,14 +514,9 @@ pub extern "C" fn gv_quiet(
         (now (messages .entry)))
         ofQuiet r (now (out .entry)) (now (out .exit)) ⌝ }
 {
-    let d = flat::board_of(board);
-    if !d.ok {
-        return no_board(table);
-    }
-    let b = d.board;
-    let a = reading::quiet_read(
+    let number = flat_judges::flat_refusal(
         table,
-        b,
+        board,
         channels,
         properties,
         cents,
@@ -470,13 +526,12 @@ pub extern "C" fn gv_quiet(
         chords,
         messages,
     );
-    let number = a.number;
     if number != 0 {
         return number;
     }
     if out.len() < 1 {
         return 31;
     }
-    put_one(out, a.quiet as u16);
+    put_one(out, is_quiet(board) as u16);
     0
 }

@@ -1,43 +1,19 @@
--- `host::gv_add` meets its contract: no board, refused as found, or added and written.
-use mathlib.Core.Path.{refl, sym, _∙_}
-use borrow.Author.Tests.{not-true, not-false}
-use borrow.Author.Needs.{needs}
+-- `host::gv_add` meets its contract: the one call is an add.
+use mathlib.Core.Path.{sym}
 use mir.Syntax.{w64}
 use mir.ValLaws.{toZ-ofZ}
-use Rattle.moves.proofs.AddLaws.{by-cents}
-use Rattle.flat.proofs.WalkLaws.{all-numbers}
-use Rattle.host.proofs.HostLaws.{plays-none, plays-kept, plays-put}
+use native.Mathlib.Omega.{arith}
+use Rattle.replaying.proofs.ScheduleLaws.{add-at}
+use Rattle.host.proofs.PlayLaws.{plays-as, one-by}
+use borrow.Author.Needs.{needs}
 use Rattle.host.proofs.gv_add.Statement.{statement}
 use Rattle.host.proofs.gv_add.Tie as tie
 
-board-of-requires : tie.Need-board-of-requires
-board-of-requires c κs = search needs
-
-no-board-requires : tie.Need-no-board-requires
-no-board-requires c κs = search needs
-
-answer-number-requires : tie.Need-answer-number-requires
-answer-number-requires c κs = search needs
+one-call-requires : tie.Need-one-call-requires
+one-call-requires c κs = search needs
 
 same-length : tie.Need-same-length
 same-length c = search needs
-
-returns : tie.Need-returns
-returns c =
-    let n = c .before in
-    let i = n .before in
-    let d = i .before .before in
-    plays-none _ _ _ _ _ (sym (d .board-of .ensures .0) ∙ not-true _ (i .if1 .taken)) (n .no-board .ensures)
-    (c .answer-number .ensures)
-
-add-requires : tie.Need-add-requires
-add-requires c κs = search needs
-
-answer-number-requires-2 : tie.Need-answer-number-requires-2
-answer-number-requires-2 c κs = search needs
-
-number-of-requires : tie.Need-number-of-requires
-number-of-requires c κs = search needs
 
 same-length-2 : tie.Need-same-length-2
 same-length-2 c = search needs
@@ -60,74 +36,22 @@ same-length-7 c = search needs
 same-length-8 : tie.Need-same-length-8
 same-length-8 c = search needs
 
-returns-2 : tie.Need-returns-2
-returns-2 c =
-    let f = c .before in
-    let a = f .before in
-    let p = a .before .before .before .before .before .before .before .before .before .before .before .before in
-    let i = p .before .before .before .before .before .before .before .before in
-    let d = i .before .before in
-    let yes = not-false _ (i .if1 .left) in
-    let s = d .before .before .before .before .before .before .before .before .before .before .before in
-    let plays = by-cents (toZ-ofZ w64 (s .args .amount) (s .fits .amount)) (p .add .ensures) in
-    let e = f .number-of .ensures in
-    plays-kept _ _ _ _ _ _ _ _ (sym (d .board-of .ensures .0) ∙ yes) (d .board-of .ensures .1 yes)
-    (a .answer-number2 .ensures) plays (λ z. c .if2 .taken (e ∙ z)) refl
-
-put-board-requires : tie.Need-put-board-requires
-put-board-requires c κs =
-    let i = c .before .before .before .before .before .before .before .before .before .before in
-    let i = i .before .before .before .before .before .before .before .before .before .before in
-    let i = i .before .before .before .before in
-    let d = i .before .before in
-    all-numbers _ (sym (d .board-of .ensures .0) ∙ not-false _ (i .if1 .left)) .0
-
 same-length-9 : tie.Need-same-length-9
 same-length-9 c = search needs
 
-same-length-10 : tie.Need-same-length-10
-same-length-10 c = search needs
-
-same-length-11 : tie.Need-same-length-11
-same-length-11 c = search needs
-
-same-length-12 : tie.Need-same-length-12
-same-length-12 c = search needs
-
-same-length-13 : tie.Need-same-length-13
-same-length-13 c = search needs
-
-same-length-14 : tie.Need-same-length-14
-same-length-14 c = search needs
-
-same-length-15 : tie.Need-same-length-15
-same-length-15 c = search needs
-
-returns-3 : tie.Need-returns-3
-returns-3 c =
-    let w = c .before .before in
-    let a = w .before .before .before .before .before in
-    let p = a .before .before .before .before .before .before .before .before .before .before .before .before in
-    let i = p .before .before .before .before .before .before .before .before in
-    let d = i .before .before in
-    let yes = not-false _ (i .if1 .left) in
-    let s = d .before .before .before .before .before .before .before .before .before .before .before in
-    let plays = by-cents (toZ-ofZ w64 (s .args .amount) (s .fits .amount)) (p .add .ensures) in
-    plays-put _ _ _ _ _ _ _ _ (sym (d .board-of .ensures .0) ∙ yes) (d .board-of .ensures .1 yes)
-    (a .answer-number2 .ensures) plays (w .put-board .ensures)
+returns : tie.Need-returns
+returns c =
+    let w = c .before .before .before .before .before .before .before .before .before .before .before .before .before .before .before .before .before in
+    let s = w .before .before .before .before .before .before .before .before .before .before .before .before .before .before .before .before .before .before .before in
+    plays-as _ _ _ _ _ _ (sym (add-at _ 0 (λ z. omega (arith, z))))
+    (one-by _ _ _ _ _ _ _ _ _ _ (toZ-ofZ w64 (s .args .amount) (s .fits .amount)) (w .one-call .ensures))
 
 pub gv-add-spec : {M : Type 1} → statement M
 gv-add-spec =
     tie.close
     (tie.spec
-    board-of-requires
-    no-board-requires
-    answer-number-requires
+    one-call-requires
     same-length
-    returns
-    add-requires
-    answer-number-requires-2
-    number-of-requires
     same-length-2
     same-length-3
     same-length-4
@@ -135,13 +59,5 @@ gv-add-spec =
     same-length-6
     same-length-7
     same-length-8
-    returns-2
-    put-board-requires
     same-length-9
-    same-length-10
-    same-length-11
-    same-length-12
-    same-length-13
-    same-length-14
-    same-length-15
-    returns-3)
+    returns)

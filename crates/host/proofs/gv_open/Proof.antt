@@ -2,7 +2,7 @@
 use mathlib.Core.Path.{sym, _∙_, ap}
 use borrow.Author.Needs.{needs}
 use Rattle.flat.specs.Flat.{boardNumbers}
-use Rattle.host.proofs.HostLaws.{opens-table, opens-none, opens-empty}
+use Rattle.host.proofs.PlayLaws.{opens-table, opens-none, opens-empty}
 use Rattle.host.proofs.gv_open.Statement.{statement}
 use Rattle.host.proofs.gv_open.Tie as tie
 

@@ -1,54 +1,60 @@
--- `host::gv_quiet` meets its contract: no board, refused, a short slice, or the flag.
-use mathlib.Core.Path.{sym, _∙_, ap}
+-- `host::gv_quiet` meets its contract: refused, a short slice, or the flag.
+use mathlib.Core.Path.{_≡_, sym, _∙_, ap}
+use mathlib.Core.Bool.{true}
 use mathlib.Core.List.{[], _∷_}
 use Prim.Native.Nat.{ℕ}
-use borrow.Author.Tests.{not-true, not-false}
 use borrow.Author.Needs.{needs}
 use lib.IntN.{pos}
 use native.Mathlib.Omega.{arith}
+use Rattle.model.specs.Layout.{flag, tableOf}
+use Rattle.judges.specs.Judged.{boardRefusal}
+use Rattle.reading.proofs.ReadLaws.{quiet-is}
+use Rattle.flat.specs.Flat.{flatOk}
+use Rattle.flat.specs.Decoded.{boardFrom}
 use Rattle.flat.proofs.PhaseLaws.{byte-flag}
-use Rattle.model.specs.Layout.{flag}
-use Rattle.host.proofs.HostLaws.{reads-none, reads-refused, reads-short, reads-put}
-use Rattle.host.specs.Host.{ofQuiet, stored}
+use Rattle.flat.proofs.WalkLaws.{all-numbers}
+use Rattle.flat_judges.specs.Judged.{flatRefusal}
+use Rattle.flat_judges.proofs.FlatLaws.{flat-accepted}
+use Rattle.host.specs.Lent.{Lent, lent}
+use Rattle.host.specs.Reads.{ofQuiet, stored}
+use Rattle.host.proofs.FlatReads.{reads-refused, reads-short, reads-put}
 use Rattle.host.proofs.gv_quiet.Statement.{statement}
 use Rattle.host.proofs.gv_quiet.Tie as tie
 
-board-of-requires : tie.Need-board-of-requires
-board-of-requires c κs = search needs
+-- where the function starts, and what is lent
+abbrev start : tie.After-flat-refusal → tie.Start
+start c = c .before .before .before .before .before .before .before .before .before .before
 
-no-board-requires : tie.Need-no-board-requires
-no-board-requires c κs = search needs
+abbrev given : tie.Start → Lent
+given s =
+    let a = s .args in
+    lent (a .board .now) (a .channels .now) (a .properties .now) (a .cents .now) (a .statuses .now) (a .matched .now)
+    (a .wakers .now) (a .chords .now) (a .messages .now)
+
+-- numbers that are not refused
+passed : (c : tie.Else1) → let s = start (c .before) in let h = given s in
+    flatRefusal (s .args .table .now) (h .flat) (h .columns) (h .matches) ≡ 0
+passed c = sym (c .before .flat-refusal .ensures) ∙ c .if1 .left
+
+accepted : (c : tie.Else1) → let s = start (c .before) in let h = given s in
+    (flatOk (h .flat) ≡ true) × (boardRefusal (s .args .table .now) (boardFrom (h .flat)) (h .columns) (h .matches) ≡ 0)
+accepted c = flat-accepted _ _ _ _ (passed c)
+
+flat-refusal-requires : tie.Need-flat-refusal-requires
+flat-refusal-requires c κs = search needs
 
 returns : tie.Need-returns
 returns c =
-    let i = c .before in
-    let d = i .before .before in
-    reads-none _ _ ofQuiet _ _ (sym (d .board-of .ensures .0) ∙ not-true _ (i .if1 .taken))
-    (c .no-board .ensures)
-
-quiet-read-requires : tie.Need-quiet-read-requires
-quiet-read-requires c κs = search needs
+    let q = c .before in
+    reads-refused _ (given (start q)) ofQuiet _ _ (q .flat-refusal .ensures) (c .if1 .taken) (λ e. e)
 
 returns-2 : tie.Need-returns-2
 returns-2 c =
-    let r = c .before in
-    let i = r .before .before in
-    let d = i .before .before in
-    let yes = not-false _ (i .if1 .left) in
-    let board = sym (d .board-of .ensures .0) ∙ yes in
-    reads-refused _ _ ofQuiet _ _ board (d .board-of .ensures .1 yes) _
-    (r .quiet-read .ensures .0) (c .if2 .taken)
+    let d = c .before in
+    reads-short _ (given (start (d .before))) ofQuiet _ (passed d) (sym (accepted d .1)) (c .if2 .taken)
 
-returns-3 : tie.Need-returns-3
-returns-3 c =
-    let j = c .before in
-    let r = j .before in
-    let i = r .before .before in
-    let d = i .before .before in
-    let yes = not-false _ (i .if1 .left) in
-    let board = sym (d .board-of .ensures .0) ∙ yes in
-    let none = sym (r .quiet-read .ensures .0) ∙ j .if2 .left in
-    reads-short _ _ ofQuiet _ _ board (d .board-of .ensures .1 yes) none (c .if3 .taken)
+is-quiet-requires : tie.Need-is-quiet-requires
+is-quiet-requires c κs = all-numbers _ (accepted (c .before .before) .0) .0
 
 cast-put-one : tie.Need-cast-put-one
 cast-put-one c = search needs
@@ -59,34 +65,30 @@ put-one-requires c κs = search needs
 same-length : tie.Need-same-length
 same-length c = search needs
 
-returns-4 : tie.Need-returns-4
-returns-4 c =
+returns-3 : tie.Need-returns-3
+returns-3 c =
     let p = c .before in
-    let k = p .before .before .before in
-    let j = k .before in
-    let r = j .before in
-    let i = r .before .before in
-    let d = i .before .before in
-    let s = d .before .before .before .before .before .before .before .before .before .before in
-    let yes = not-false _ (i .if1 .left) in
-    let board = sym (d .board-of .ensures .0) ∙ yes in
-    let none = sym (r .quiet-read .ensures .0) ∙ j .if2 .left in
-    reads-put _ _ ofQuiet _ _ board (d .board-of .ensures .1 yes) _ none (omega (arith, k .if3 .left))
+    let r = p .before in
+    let j = r .before .before in
+    let d = j .before in
+    let s = start (d .before) in
+    let h = given s in
+    let e = quiet-is (s .args .table .now) (boardFrom (h .flat)) (h .columns) (h .matches) (accepted d .1) in
+    reads-put _ h ofQuiet _ (passed d) _ (sym (accepted d .1)) (omega (arith, j .if2 .left))
     (p .put-one .ensures
     ∙ ap (λ (x : ℕ). stored (pos x ∷ []) (s .args .out .now))
-    (byte-flag (r .quiet-read .result .quiet) ∙ ap flag (r .quiet-read .ensures .1)))
+    (byte-flag (r .is-quiet .result)
+    ∙ ap flag (r .is-quiet .ensures (tableOf (s .args .table .now)) (h .columns) (h .matches) ∙ e)))
 
 pub gv-quiet-spec : {M : Type 1} → statement M
 gv-quiet-spec =
     tie.close
     (tie.spec
-    board-of-requires
-    no-board-requires
+    flat-refusal-requires
     returns
-    quiet-read-requires
     returns-2
-    returns-3
+    is-quiet-requires
     cast-put-one
     put-one-requires
     same-length
-    returns-4)
+    returns-3)

@@ -1,29 +1,17 @@
--- `host::gv_replay` meets its contract: no board, refused as found, or replayed and written.
-use mathlib.Core.Path.{refl, sym, _∙_}
-use borrow.Author.Tests.{not-true, not-false}
+-- `host::gv_replay` meets its contract: refused as found, or all calls played.
+use mathlib.Core.Path.{sym, _∙_}
+use Rattle.replaying.proofs.ScheduleLaws.{may-play}
+use Rattle.flat_judges.proofs.FlatLaws.{flat-accepted}
+use Rattle.host.proofs.PlayLaws.{replays-refused, replays-all}
 use borrow.Author.Needs.{needs}
-use Rattle.flat.proofs.WalkLaws.{all-numbers}
-use Rattle.host.proofs.HostLaws.{replays-none, replays-kept, replays-put}
 use Rattle.host.proofs.gv_replay.Statement.{statement}
 use Rattle.host.proofs.gv_replay.Tie as tie
 
-board-of-requires : tie.Need-board-of-requires
-board-of-requires c κs = search needs
-
-no-board-requires : tie.Need-no-board-requires
-no-board-requires c κs = search needs
+replay-refusal-requires : tie.Need-replay-refusal-requires
+replay-refusal-requires c κs = search needs
 
 same-length : tie.Need-same-length
 same-length c = search needs
-
-returns : tie.Need-returns
-returns c =
-    let i = c .before in
-    let d = i .before .before in
-    replays-none _ _ _ _ _ (sym (d .board-of .ensures .0) ∙ not-true _ (i .if1 .taken)) (c .no-board .ensures)
-
-replay-requires : tie.Need-replay-requires
-replay-requires c κs = search needs
 
 same-length-2 : tie.Need-same-length-2
 same-length-2 c = search needs
@@ -49,30 +37,21 @@ same-length-8 c = search needs
 same-length-9 : tie.Need-same-length-9
 same-length-9 c = search needs
 
+returns : tie.Need-returns
+returns c = replays-refused _ _ _ _ _ (c .before .replay-refusal .ensures) (c .if1 .taken)
+
+replay-core-requires : tie.Need-replay-core-requires
+replay-core-requires c κs =
+    let o = c .before .before .before .before .before .before .before .before .before .before in
+    let m = may-play _ _ _ (sym (o .before .replay-refusal .ensures) ∙ o .if1 .left) in
+    let a = flat-accepted _ _ _ _ (m .0) in
+    (a .0, (a .1, m .1))
+
 same-length-10 : tie.Need-same-length-10
 same-length-10 c = search needs
 
 same-length-11 : tie.Need-same-length-11
 same-length-11 c = search needs
-
-returns-2 : tie.Need-returns-2
-returns-2 c =
-    let p = c .before .before .before .before .before .before .before .before .before .before in
-    let p = p .before .before .before .before .before .before .before .before in
-    let i = p .before .before .before .before .before .before .before .before .before .before .before in
-    let d = i .before .before in
-    let yes = not-false _ (i .if1 .left) in
-    replays-kept _ _ _ _ _ _ _ _ _ (sym (d .board-of .ensures .0) ∙ yes) (d .board-of .ensures .1 yes)
-    (p .replay .ensures) (c .if2 .taken) refl
-
-put-board-requires : tie.Need-put-board-requires
-put-board-requires c κs =
-    let i = c .before .before .before .before .before .before .before .before .before .before in
-    let i = i .before .before .before .before .before .before .before .before .before .before in
-    let i = i .before .before .before .before .before .before .before .before .before .before in
-    let i = i .before in
-    let d = i .before .before in
-    all-numbers _ (sym (d .board-of .ensures .0) ∙ not-false _ (i .if1 .left)) .0
 
 same-length-12 : tie.Need-same-length-12
 same-length-12 c = search needs
@@ -98,33 +77,19 @@ same-length-18 c = search needs
 same-length-19 : tie.Need-same-length-19
 same-length-19 c = search needs
 
-same-length-20 : tie.Need-same-length-20
-same-length-20 c = search needs
-
-same-length-21 : tie.Need-same-length-21
-same-length-21 c = search needs
-
-returns-3 : tie.Need-returns-3
-returns-3 c =
-    let w = c .before .before in
-    let p = w .before .before .before .before .before .before .before .before .before .before in
-    let p = p .before .before .before .before .before .before .before .before .before .before in
-    let p = p .before in
-    let i = p .before .before .before .before .before .before .before .before .before .before .before in
-    let d = i .before .before in
-    let yes = not-false _ (i .if1 .left) in
-    replays-put _ _ _ _ _ _ _ _ _ (sym (d .board-of .ensures .0) ∙ yes) (d .board-of .ensures .1 yes)
-    (p .replay .ensures) (w .put-board .ensures)
+returns-2 : tie.Need-returns-2
+returns-2 c =
+    let p = c .before .before .before .before .before .before .before .before .before .before .before .before .before .before .before .before .before .before .before in
+    let o = p .before .before .before .before .before .before .before .before .before .before .before in
+    replays-all _ _ _ (p .replay-core .ensures .0) _ _ _ (p .replay-core .ensures .1)
+    (sym (o .if1 .left) ∙ o .before .replay-refusal .ensures)
 
 pub gv-replay-spec : {M : Type 1} → statement M
 gv-replay-spec =
     tie.close
     (tie.spec
-    board-of-requires
-    no-board-requires
+    replay-refusal-requires
     same-length
-    returns
-    replay-requires
     same-length-2
     same-length-3
     same-length-4
@@ -133,10 +98,10 @@ gv-replay-spec =
     same-length-7
     same-length-8
     same-length-9
+    returns
+    replay-core-requires
     same-length-10
     same-length-11
-    returns-2
-    put-board-requires
     same-length-12
     same-length-13
     same-length-14
@@ -145,6 +110,4 @@ gv-replay-spec =
     same-length-17
     same-length-18
     same-length-19
-    same-length-20
-    same-length-21
-    returns-3)
+    returns-2)
