@@ -1,12 +1,12 @@
 -- Laws of the senders' numbers, read and written one sender after another.
 use mathlib.Core.Path.{_≡_, refl, sym, _∙_}
-use mathlib.Core.Bool.{true, false, _&&_}
+use mathlib.Core.Bool.{true}
 use mathlib.Core.List.{List, [], _∷_, _++_, append-assoc, append-nil}
 use Prim.Native.Nat.{ℕ, zero, suc, _+_, _*_, _-_, _<_, _≤_}
 use borrow.Author.Tests.{eqb-true}
 use lib.Dec.{eqb}
 use lib.ListN.{length, getD, take, drop, set, length-drop}
-use lib.Seq.{length-take-le, drop-drop, take-add, take-all, take-suc, take-suc-set, paste, take-paste}
+use lib.Seq.{length-take-le, drop-drop, take-all, take-suc, paste, take-paste}
 use native.Mathlib.Numerals.{add-one}
 use native.Mathlib.Omega.{arith}
 use Rattle.model.proofs.Tests.{both}
@@ -21,30 +21,6 @@ span at = omega arith
 pub part-len : (s : List ℕ) (i : ℕ) → length s ≡ 674 → i < 32 → length (take 21 (drop (2 + 21 * i) s)) ≡ 21
 part-len s i l h =
     length-take-le 21 (drop (2 + 21 * i) s) (omega (arith, length-drop (2 + 21 * i) s))
-
--- the senders that are left to test
-module _ (s : List ℕ) (i : ℕ) (h : i < 32) where
-  abbrev part : List ℕ
-  part = take 21 (drop (2 + 21 * i) s)
-
-  left-step : sendersOk (32 - i) (drop (2 + 21 * i) s)
-      ≡ (senderOk part && sendersOk (32 - (i + 1)) (drop (2 + 21 * (i + 1)) s))
-  unfolding sendersOk
-  left-step =
-      let e : 32 - i ≡ suc (32 - (i + 1)) = omega arith in
-      let z : 2 + 21 * i + 21 ≡ 2 + 21 * (i + 1) = omega arith in
-      rw (e, drop-drop 21 (2 + 21 * i) s, z)
-
-  pub left-no : senderOk part ≡ false → sendersOk (32 - i) (drop (2 + 21 * i) s) ≡ false
-  left-no e = left-step ∙ rw e
-
-  pub left-next : senderOk part ≡ true
-      → sendersOk (32 - i) (drop (2 + 21 * i) s) ≡ sendersOk (32 - (i + 1)) (drop (2 + 21 * (i + 1)) s)
-  left-next e = left-step ∙ rw e
-
-pub left-none : (i : ℕ) (s : List ℕ) → 32 ≤ i → sendersOk (32 - i) s ≡ true
-unfolding sendersOk
-left-none i s h = let e : 32 - i ≡ 0 = omega arith in rw e
 
 -- each sender of those that pass
 each-ok : (n i : ℕ) (s : List ℕ) → sendersOk n s ≡ true → i < n → senderOk (take 21 (drop (21 * i) s)) ≡ true
@@ -74,42 +50,11 @@ fit-more [] d f g = (g, tt)
 fit-more (x ∷ xs) d f g = (f .0, fit-more xs d (f .1) g)
 
 module _ (ds : List DD.Sender) (i : ℕ) (h : i < length ds) (f : SendersFit (take i ds)) where
-  pub fit-read : (d : DD.Sender) → SenderFits d → SendersFit (take (i + 1) (set ds i d))
-  fit-read d g = rw (add-one i, take-suc-set ds i d h) (fit-more (take i ds) d f g)
-
   pub fit-written : (z : DD.Sender) → SenderFits (getD ds i z) → SendersFit (take (i + 1) ds)
   fit-written z g = rw (add-one i, take-suc ds i z h) (fit-more (take i ds) (getD ds i z) f g)
 
 pub fit-end : (ds : List DD.Sender) (i : ℕ) → length ds ≡ 32 → 32 ≤ i → SendersFit (take i ds) → SendersFit ds
 fit-end ds i l h f = rw (take-all i ds (omega arith)) at f
-
--- no sender is read yet
-pub none-read : (s : List ℕ) → sendersNumbers [] ≡ take (21 * 0) s
-unfolding sendersNumbers
-none-read s = refl
-
--- one sender more is read
-pub read-next : (ds : List DD.Sender) (s : List ℕ) (i : ℕ) (d : DD.Sender) → i < length ds
-    → sendersNumbers (take i ds) ≡ take (21 * i) (drop 2 s) → senderNumbers d ≡ take 21 (drop (2 + 21 * i) s)
-    → sendersNumbers (take (i + 1) (set ds i d)) ≡ take (21 * (i + 1)) (drop 2 s)
-read-next ds s i d h e f =
-    let z : 21 * (i + 1) ≡ 21 * i + 21 = omega arith in
-    rw (
-      z,
-      take-add (21 * i) 21 (drop 2 s),
-      drop-drop (21 * i) 2 s,
-      add-one i,
-      take-suc-set ds i d h,
-      numbers-more (take i ds) d,
-      e,
-      f,
-    )
-
-pub read-end : (ds : List DD.Sender) (s : List ℕ) (i : ℕ) → length ds ≡ 32 → length s ≡ 674 → 32 ≤ i
-    → sendersNumbers (take i ds) ≡ take (21 * i) (drop 2 s) → sendersNumbers ds ≡ drop 2 s
-read-end ds s i l m h e =
-    let short : length (drop 2 s) ≤ 21 * i = omega (arith, length-drop 2 s) in
-    sym (rw (take-all i ds (omega arith))) ∙ e ∙ take-all (21 * i) (drop 2 s) short
 
 -- no sender is written yet
 pub none-written : (front : List ℕ) → front ≡ front ++ sendersNumbers []

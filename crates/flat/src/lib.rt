@@ -9,18 +9,12 @@ ghost use Rattle.model.specs.Layout.{flag};
 ghost use Rattle.flat.specs.Flat.{stateNumber, phaseNumbers, kind, place, second};
 ghost use Rattle.flat.specs.Flat.{senderNumbers, sendersNumbers, boardNumbers};
 ghost use Rattle.flat.specs.Fits.{PhaseFits, SenderFits, SendersFit, BoardFits};
-ghost use Rattle.flat.specs.Flat.{phaseOk, senderOk, sendersOk, flatOk};
+ghost use Rattle.flat.specs.Flat.{phaseOk, senderOk};
 use boards::Board;
 use state::Job;
 use state::Phase;
 use state::Sender;
 use state::State;
-
-// Whether the numbers are those of a board, and that board.
-pub struct Decoded {
-    pub ok: bool,
-    pub board: Board,
-}
 
 // A sender's state by its number.
 fn state_of(n: u16) -> State
@@ -68,16 +62,6 @@ fn byte_of(n: u16) -> u8
     ensures { λ r. ⌜ r ≡ n ⌝ }
 {
     n as u8
-}
-
-// Whether three numbers are those of a phase.
-fn phase_ok(phase: u16, place: u16, second: u16) -> bool
-    ensures { λ r. ⌜ r ≡ phaseOk phase place second ⌝ }
-{
-    let placeless = (phase == 5) | ((phase == 7) | (phase == 8));
-    let placed = !placeless | (place == 0);
-    let seconded = (phase == 3) | ((second == 0) | ((phase == 2) & (second <= 255)));
-    (phase <= 9) & ((place <= 255) & (placed & seconded))
 }
 
 // The phase by its three numbers.
@@ -170,16 +154,6 @@ fn phase_second(p: Phase) -> u16
     }
 }
 
-// Whether 21 numbers are those of a sender.
-fn sender_ok(a: &[u16]) -> bool
-    requires { ⌜ length (now a) ≡ 21 ⌝ }
-    ensures { λ r. ⌜ r ≡ senderOk (now (a .entry)) ⌝ }
-{
-    let phase = phase_ok(a[8], a[9], a[10]);
-    let job = (a[7] <= 255) & (phase & ((a[11] <= 1) & (a[12] <= 255)));
-    (a[0] <= 2) & ((a[1] <= 1) & job)
-}
-
 // The eight messages that a sender has chosen.
 fn chosen_of(a: &[u16]) -> [u16; 8]
     requires { ⌜ length (now a) ≡ 21 ⌝ }
@@ -266,96 +240,4 @@ pub fn put_board(b: Board, s: &mut [u16])
     put_senders(senders, s);
     s[0] = b.messages;
     s[1] = b.matches;
-}
-
-// An idle sender.
-fn idle_sender() -> Sender {
-    let job = Job {
-        subject: 0,
-        chord: 0,
-        phase: Phase::PassEnd,
-        chosen: [0; 8],
-        retry: false,
-        retries: 0,
-    };
-    Sender {
-        state: State::Idle,
-        signalled: false,
-        own: 0,
-        waker: 0,
-        reply: 0,
-        matched: 0,
-        job: job,
-    }
-}
-
-// Whether the numbers from the third on are those of 32 senders.
-fn senders_ok(s: &[u16]) -> bool
-    requires { ⌜ length (now s) ≡ 674 ⌝ }
-    ensures { λ r. ⌜ r ≡ sendersOk 32 (drop 2 (now (s .entry))) ⌝ }
-{
-    let mut i: usize = 0;
-    while i < 32 {
-        let at = 2 + 21 * i;
-        if !sender_ok(&s[at..at + 21]) {
-            return false;
-        }
-        i += 1;
-    }
-    true
-}
-
-// Whether the numbers are those of a board.
-fn numbers_ok(s: &[u16]) -> bool
-    ensures { λ r. ⌜ r ≡ flatOk (now (s .entry)) ⌝ }
-{
-    if s.len() != 674 {
-        return false;
-    }
-    senders_ok(s)
-}
-
-// The 32 senders.
-fn senders_of(s: &[u16]) -> [Sender; 32]
-    requires { ⌜ (length (now s) ≡ 674) × (sendersOk 32 (drop 2 (now s)) ≡ true) ⌝ }
-    ensures { λ r. ⌜ (sendersNumbers r ≡ drop 2 (now (s .entry))) × SendersFit r × (length r ≡ 32) ⌝ }
-{
-    let idle = idle_sender();
-    let mut senders = [idle; 32];
-    let mut i: usize = 0;
-    while i < 32 {
-        let at = 2 + 21 * i;
-        let d = sender_of(&s[at..at + 21]);
-        senders[i] = d;
-        i += 1;
-    }
-    senders
-}
-
-// The board by its numbers; no board where they are not those of one.
-pub fn board_of(s: &[u16]) -> Decoded
-    ensures { λ r. ⌜ r .ok ≡ flatOk (now (s .entry)) ⌝ }
-    ensures { λ r. ⌜ (r .ok ≡ true → (boardNumbers (r .board) ≡ now (s .entry)) × BoardFits (r .board)) ⌝ }
-{
-    let ok = numbers_ok(s);
-    if !ok {
-        let idle = idle_sender();
-        return Decoded {
-            ok: false,
-            board: Board {
-                messages: 0,
-                matches: 0,
-                senders: [idle; 32],
-            },
-        };
-    }
-    let senders = senders_of(s);
-    Decoded {
-        ok: true,
-        board: Board {
-            messages: s[0],
-            matches: s[1],
-            senders: senders,
-        },
-    }
 }

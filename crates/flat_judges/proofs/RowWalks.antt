@@ -13,7 +13,8 @@ use Rattle.model.specs.Sound.{senderOk as soundOk}
 use Rattle.state.specs.declared.Sender as DD
 use Rattle.state.specs.Views.{senderIn}
 use Rattle.flat.specs.Flat.{senderOk, sendersOk}
-use Rattle.flat.specs.Decoded.{senderFrom, sendersFrom}
+use Rattle.flat.proofs.DecodeLaws.{sender-from}
+use Rattle.flat.specs.Decoded.{boardFrom, senderFrom, sendersFrom}
 use Rattle.flat_judges.specs.Rows.{row, senderAt, rowOk, rowsOk, sendersIn}
 
 -- The senders of the numbers
@@ -23,18 +24,10 @@ unfolding sendersFrom
 senders-count zero s = refl
 senders-count (suc n) s = rw (senders-count n (drop 21 s))
 
-nth-from : (n i : ℕ) (s : List ℕ) (z : DD.Sender) → i < n
-    → getD (sendersFrom n s) i z ≡ senderFrom (take 21 (drop (21 * i) s))
-unfolding sendersFrom
-nth-from zero i s z h = absurd (omega arith)
-nth-from (suc n) zero s z h = refl
-nth-from (suc n) (suc i) s z h =
-    let e : 21 * suc i ≡ 21 + 21 * i = omega arith in
-    rw (e, ← drop-drop (21 * i) 21 s) (nth-from n i (drop 21 s) z (omega arith))
-
 pub nth-sender : (s : List ℕ) (i : ℕ) (z : DD.Sender) → i < 32
     → getD (sendersIn s) i z ≡ senderFrom (row s (2 + 21 * i))
-nth-sender s i z h = rw (← drop-drop (21 * i) 2 s) (nth-from 32 i (drop 2 s) z h)
+unfolding boardFrom
+nth-sender s i z h = sender-from s i z h
 
 -- Their tests
 

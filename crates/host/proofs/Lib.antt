@@ -3,3 +3,4 @@ pub mod PlayLaws
 pub mod ReadLaws
 pub mod FlatReads
 pub mod SenderRows
+pub mod Chains
