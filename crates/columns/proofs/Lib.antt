@@ -4,3 +4,4 @@ pub mod Messages
 pub mod Firsts
 pub mod Walks
 pub mod Passed
+pub mod Words

@@ -13,7 +13,7 @@ use Rattle.model.specs.Tables.{Chord}
 use Rattle.model.specs.Boards.{Sent, isClaimed}
 use Rattle.model.specs.Looks.{alike, fits, isFree, lowest, someClaimed}
 use Rattle.columns.specs.Columns.{Columns, messageIn, messagesFrom}
-use Rattle.columns.specs.Firsts.{firstFrom, found, ofKind, suiting, eligible}
+use Rattle.columns.specs.Firsts.{firstFrom, found, ofKind, taking, suiting, eligible}
 use Rattle.columns.proofs.Firsts.{first-step, first-skip, first-lowest, first-found}
 use Rattle.columns.proofs.Messages.{pending-is, claimed-is}
 
@@ -70,6 +70,19 @@ module _ (channels properties statuses : List ℕ) (wanted status : ℕ) (equal 
       go false b d f e = refl
       go true false d f e = refl
       go true true d f e = rw e
+
+  -- of both it is eligible where it is to be taken
+  pub kind-taking : (ofKind channels statuses wanted status k && taking properties equal property chosen k)
+      ≡ eligible channels properties statuses wanted status equal property chosen k
+  unfolding ofKind taking eligible
+  kind-taking =
+      go (eqb (getD channels k 0) wanted) (not equal || eqb (getD properties k 0) property)
+      (eqb (getD statuses k 0) status) (not (isIn k chosen))
+    where
+      go : (a b d f : Bool) → ((a && d) && (b && f)) ≡ (((a && b) && d) && f)
+      go false b d f = refl
+      go true b false f = rw (and-false b)
+      go true b true f = rw (and-true b)
 
 -- messages of other channels or statuses are passed over
 pub kind-skip : (channels properties statuses : List ℕ) (wanted status : ℕ) (equal : Bool) (property : ℕ)

@@ -26,6 +26,10 @@ suiting channels properties statuses wanted status equal property k =
     (eqb (getD channels k 0) wanted && (not equal || eqb (getD properties k 0) property))
     && eqb (getD statuses k 0) status
 
+-- message k has the property number where equal ones are wanted, and is not chosen
+unfoldable pub taking : List ℕ → Bool → ℕ → List ℕ → ℕ → Bool
+taking properties equal property chosen k = (not equal || eqb (getD properties k 0) property) && not (isIn k chosen)
+
 -- message k suits, and is not chosen
 unfoldable pub eligible : List ℕ → List ℕ → List ℕ → ℕ → ℕ → Bool → ℕ → List ℕ → ℕ → Bool
 eligible channels properties statuses wanted status equal property chosen k =

@@ -2,3 +2,4 @@
 pub mod Columns
 pub mod Firsts
 pub mod MatchColumns
+pub mod Words

@@ -50,8 +50,8 @@ next-block-requires c κs = search needs
 block-end-requires : tie.Need-block-end-requires Inv-loop μ-loop
 block-end-requires c κs = search needs
 
-first-in-requires : tie.Need-first-in-requires Inv-loop μ-loop
-first-in-requires c κs =
+in-block-requires : tie.Need-in-block-requires Inv-loop μ-loop
+in-block-requires c κs =
     let s = c .before .before .before .before .before .before .before .before in
     (search needs, lent-less (c .block-end .result) (s .args .n) (omega arith) (s .pre .0))
 
@@ -60,7 +60,7 @@ returns c =
     let p = c .before .before .before .before .before in
     let k = c .before .before .before .next-block in
     let to = c .before .before .block-end .result in
-    let f = c .before .first-in in
+    let f = c .before .in-block in
     sym (from-block p (k .result) (omega arith) (omega arith) (k .ensures .2)
     ∙ first-here _ (k .result) to _ (f .result) (omega arith) (omega arith) (f .ensures) (c .if1 .taken))
 
@@ -75,7 +75,7 @@ loop-again c =
       search needs,
       from-block p (k .result) (omega arith) (omega arith) (k .ensures .2)
           ∙ first-later _ (k .result) to _ (omega arith) (omega arith)
-          (sym (c .before .first-in .ensures) ∙ c .if1 .left),
+          (sym (c .before .in-block .ensures) ∙ c .if1 .left),
     )
 
 returns-2 : tie.Need-returns-2 Inv-loop μ-loop
@@ -92,7 +92,7 @@ first-spec =
     loop-holds
     next-block-requires
     block-end-requires
-    first-in-requires
+    in-block-requires
     returns
     loop-less
     loop-again

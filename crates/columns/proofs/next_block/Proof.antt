@@ -47,7 +47,7 @@ loop-again c =
     let at = p .loop .at in (
       search needs,
       search needs,
-      first-later q (a .from) at (at + 32) (omega arith) (omega arith) (p .loop .inv .2)
+      first-later q (a .from) at (at + 64) (omega arith) (omega arith) (p .loop .inv .2)
           ∙ not-found _ (sym (c .before .any-in .ensures) ∙ c .if1 .left),
     )
 

@@ -1,0 +1,37 @@
+use mathlib.Core.Path.{_≡_}
+use Prim.Native.Nat.{_-_}
+use borrow.Author.Needs.{needs}
+use Rattle.columns.specs.Firsts.{ofKind}
+use Rattle.columns.proofs.Walks.{kind-taking}
+use Rattle.columns.proofs.Words.{bit-first}
+use Rattle.columns.proofs.in_block.Statement.{statement}
+use Rattle.columns.proofs.in_block.Tie as tie
+
+sub-if1 : tie.Need-sub-if1
+sub-if1 c = search needs
+
+word-at-requires : tie.Need-word-at-requires
+word-at-requires c κs = search needs
+
+first-of-requires : tie.Need-first-of-requires
+first-of-requires c κs = search needs
+
+returns : tie.Need-returns
+returns c =
+    let a = c .before .before .before .before .before .before .before .args in
+    let z : a .to - a .from ≡ 64 = c .before .before .if1 .taken in
+    rw (c .first-of .ensures, c .before .word-at .ensures, z)
+    (bit-first (ofKind (a .channels .now) (a .statuses .now) (a .wanted) (a .status)) _ _
+    (kind-taking (a .channels .now) (a .properties .now) (a .statuses .now) (a .wanted) (a .status) (a .equal)
+    (a .property) (a .chosen .now)) (a .from) 64)
+
+first-in-requires : tie.Need-first-in-requires
+first-in-requires c κs = search needs
+
+returns-2 : tie.Need-returns-2
+returns-2 c = search needs
+
+pub in-block-spec : {M : Type 1} → statement M
+in-block-spec =
+    tie.close
+    (tie.spec sub-if1 word-at-requires first-of-requires returns first-in-requires returns-2)

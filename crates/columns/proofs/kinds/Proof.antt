@@ -1,0 +1,78 @@
+-- `columns::kinds` meets its contract: the bytes below i are written.
+use mathlib.Core.Path.{_≡_, refl}
+use Prim.Native.Nat.{ℕ, _+_, _-_, _<_, _≤_}
+use native.Mathlib.Omega.{arith}
+use lib.ListN.{length, getD}
+use borrow.Author.Needs.{needs}
+use Rattle.columns.specs.Firsts.{ofKind}
+use Rattle.columns.specs.Words.{bit}
+use Rattle.columns.proofs.ListFrom.{set-more}
+use Rattle.columns.proofs.kinds.Statement.{statement}
+use Rattle.columns.proofs.kinds.Tie as tie
+
+abbrev Inv-loop : tie.InvT-loop
+Inv-loop channels statuses at wanted status y₀ i₀ y i =
+    (i ≤ 64) × (length y ≡ 64)
+    × ((k : ℕ) → k < i → getD y k 0 ≡ bit (ofKind channels statuses wanted status (at + k)))
+
+abbrev μ-loop : tie.MeasureT-loop
+μ-loop channels statuses at wanted status y₀ i₀ y i = 64 - i
+
+loop-holds : tie.Need-loop-holds Inv-loop μ-loop
+loop-holds c = search needs
+
+add-y : tie.Need-add-y Inv-loop μ-loop
+add-y c = search needs
+
+shared-slice-read-y : tie.Need-shared-slice-read-y Inv-loop μ-loop
+shared-slice-read-y c = search needs
+
+add-y-2 : tie.Need-add-y-2 Inv-loop μ-loop
+add-y-2 c = search needs
+
+shared-slice-read-y-2 : tie.Need-shared-slice-read-y-2 Inv-loop μ-loop
+shared-slice-read-y-2 c = search needs
+
+cast-y : tie.Need-cast-y Inv-loop μ-loop
+cast-y c = search needs
+
+array-write-y : tie.Need-array-write-y Inv-loop μ-loop
+array-write-y c = search needs
+
+add-i : tie.Need-add-i Inv-loop μ-loop
+add-i c = search needs
+
+loop-less : tie.Need-loop-less Inv-loop μ-loop
+loop-less c = search needs
+
+loop-again : tie.Need-loop-again Inv-loop μ-loop
+unfolding bit ofKind
+loop-again c =
+    let p = c .before .before .before in
+    let a = p .before .args in (
+      search needs,
+      search needs,
+      set-more (λ k. bit (ofKind (a .channels .now) (a .statuses .now) (a .wanted) (a .status) (a .at + k)))
+          (p .loop .y) (p .loop .i) _ (omega arith) refl (p .loop .inv .2),
+    )
+
+returns : tie.Need-returns Inv-loop μ-loop
+returns c = λ k h. c .before .loop .inv .2 k (omega arith)
+
+pub kinds-spec : {M : Type 1} → statement M
+kinds-spec =
+    tie.close
+    (tie.spec
+    Inv-loop
+    μ-loop
+    loop-holds
+    add-y
+    shared-slice-read-y
+    add-y-2
+    shared-slice-read-y-2
+    cast-y
+    array-write-y
+    add-i
+    loop-less
+    loop-again
+    returns)
