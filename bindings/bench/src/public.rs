@@ -5,8 +5,7 @@ use crate::schedule::pairs;
 use crate::tables;
 use crate::timing::{CALL_ROUNDS, Times, least, timed};
 use crate::world::{Proved, plain_call, restore};
-use reference::numbers::SENDER_NUMBERS;
-use reference::{Board, Call, Sender, Table, calls};
+use reference::{Board, Call, Table, calls};
 use std::hint::black_box;
 
 const RATIO: Target = Target::AtMost(1.5);
@@ -77,7 +76,7 @@ pub fn calls_of_all_sizes() {
     }
 }
 
-/// The tests alone, on a full board of 512 matches, and their parts.
+/// The tests alone, on a full board of 512 matches, and on an empty one.
 pub fn soundness() {
     heading("5 soundness test", "ns", "ratio");
     let table = tables::rendezvous();
@@ -86,8 +85,6 @@ pub fn soundness() {
     row_of_proved("gv_quiet, 1,024 messages, 512 matches", figures, figures.ratio(), Target::AtMost(2000.0));
     let figures = quiet_times(&table, &pairs(&table, 0));
     row("gv_quiet, no messages", figures, figures.ratio(), Target::None);
-    let figures = decoding_times(&full);
-    row("decoding the 674 numbers", figures, figures.ratio(), Target::None);
 }
 
 fn quiet_times(table: &[u8], board: &Board) -> Times {
@@ -95,18 +92,4 @@ fn quiet_times(table: &[u8], board: &Board) -> Times {
     assert_eq!((proved.quiet(table), calls::quiet(table, board)), (0, Ok(true)));
     let plain = || calls::quiet(black_box(table), black_box(board));
     least(CALL_ROUNDS, || timed(|| proved.quiet(table)), || timed(plain))
-}
-
-/// The proved side decodes before it refuses an empty table.
-fn decoding_times(board: &Board) -> Times {
-    let proved = Proved::of(board);
-    assert_eq!(proved.quiet(&[]), 1);
-    let decode = || {
-        let mut senders = [Sender::default(); 32];
-        for (sender, part) in senders.iter_mut().zip(black_box(&proved.numbers)[2..].chunks_exact(SENDER_NUMBERS)) {
-            *sender = Sender::from_numbers(part).unwrap();
-        }
-        senders
-    };
-    least(CALL_ROUNDS, || timed(|| proved.quiet(&[])), || timed(decode))
 }

@@ -1,16 +1,18 @@
--- Laws of a phase's three numbers.
+-- Laws of a phase's three numbers, and of a state's.
 use mathlib.Core.Path.{_≡_, refl, sym}
 use mathlib.Core.Logic.{_≢_, ⊎-elim}
 use mathlib.Core.Bool.{Bool, true, false, _||_, _&&_, not}
 use mathlib.Core.List.{[], _∷_}
-use Prim.Native.Nat.{ℕ, _+_, _≤_}
-use borrow.Author.Tests.{leb-true, eqb-true, ne-eqb}
+use Prim.Native.Nat.{ℕ, zero, suc, _+_, _≤_}
+use borrow.Author.Tests.{leb-true, le-leb, eqb-true, ne-eqb}
 use lib.Dec.{eqb, leb}
 use native.Mathlib.Omega.{arith}
 use mir.Val.{boolByte}
 use Rattle.model.specs.Layout.{flag}
 use Rattle.model.proofs.Tests.{all-four, either, both, same?, never}
 use Rattle.state.specs.declared.Phase as DP
+use Rattle.state.specs.Views.{stepsIn}
+use Rattle.flat.specs.Decoded.{stateFrom}
 use Rattle.flat.specs.Flat.{place, phaseOk, placeless}
 use Rattle.flat.specs.Fits.{PhaseFits}
 
@@ -74,3 +76,14 @@ last-kind n h e0 e1 e2 e3 e4 e5 e6 e7 e8 =
 -- a phase by its variant
 pub phase-is : (p : DP.Phase) {q : DP.Phase} → p ≡ q → PhaseFits q → (place q ≡ place p) × PhaseFits p
 phase-is p e h = rw e (refl, h)
+
+-- whether a sender may step, by the number of its state
+pub steps-by : (n : ℕ) (g : Bool) → (eqb n 1 || (leb 2 n && g)) ≡ stepsIn (stateFrom n) g
+steps-by zero g = refl
+steps-by (suc zero) g = refl
+steps-by (suc (suc n)) g =
+    rw (
+      ne-eqb (suc (suc n)) 0 (λ e. omega arith),
+      ne-eqb (suc (suc n)) 1 (λ e. omega arith),
+      le-leb 2 (suc (suc n)) (omega arith),
+    )

@@ -6,7 +6,7 @@ use Prim.Native.Nat.{ℕ, zero, suc, _+_, _*_, _-_, _<_, _≤_}
 use borrow.Author.Tests.{eqb-true}
 use lib.Dec.{eqb}
 use lib.ListN.{length, getD, take, drop, set, length-drop}
-use lib.Seq.{length-take-le, drop-drop, take-all, take-suc, paste, take-paste}
+use lib.Seq.{length-take-le, drop-drop, getD-take, getD-drop, take-all, take-suc, paste, take-paste}
 use native.Mathlib.Numerals.{add-one}
 use native.Mathlib.Omega.{arith}
 use Rattle.model.proofs.Tests.{both}
@@ -21,6 +21,12 @@ span at = omega arith
 pub part-len : (s : List ℕ) (i : ℕ) → length s ≡ 674 → i < 32 → length (take 21 (drop (2 + 21 * i) s)) ≡ 21
 part-len s i l h =
     length-take-le 21 (drop (2 + 21 * i) s) (omega (arith, length-drop (2 + 21 * i) s))
+
+pub part-at : (s : List ℕ) (at i : ℕ) → i < 21 → getD (take 21 (drop at s)) i 0 ≡ getD s (at + i) 0
+part-at s at i h = getD-take 21 (drop at s) i 0 h ∙ getD-drop at s i 0
+
+pub part-first : (s : List ℕ) (at : ℕ) → getD (take 21 (drop at s)) 0 0 ≡ getD s at 0
+part-first s at = let z : at + 0 ≡ at = omega arith in rw z at (part-at s at 0 (omega arith))
 
 -- each sender of those that pass
 each-ok : (n i : ℕ) (s : List ℕ) → sendersOk n s ≡ true → i < n → senderOk (take 21 (drop (21 * i) s)) ≡ true

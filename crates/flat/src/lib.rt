@@ -3,9 +3,12 @@ ghost use mathlib.Core.Path.{_≡_};
 ghost use mathlib.Core.Bool.{true};
 ghost use mathlib.Core.List.{[], _∷_, _++_};
 ghost use Prim.Native.Nat.{_+_, _≤_};
+ghost use lib.Dec.{eqb};
 ghost use lib.ListN.{length, take, drop};
 ghost use lib.Seq.{paste};
 ghost use Rattle.model.specs.Layout.{flag};
+ghost use Rattle.state.specs.Views.{stepsIn};
+ghost use Rattle.flat.specs.Decoded.{stateFrom};
 ghost use Rattle.flat.specs.Flat.{stateNumber, phaseNumbers, kind, place, second};
 ghost use Rattle.flat.specs.Flat.{senderNumbers, sendersNumbers, boardNumbers};
 ghost use Rattle.flat.specs.Fits.{PhaseFits, SenderFits, SendersFit, BoardFits};
@@ -39,6 +42,13 @@ fn state_number(s: State) -> u16
         State::Working => 1,
         State::Blocked => 2,
     }
+}
+
+// Whether a sender may step, by the numbers of its state and signal.
+pub fn steps_at(state: u16, signalled: u16) -> bool
+    ensures { λ r. ⌜ r ≡ stepsIn (stateFrom state) (eqb signalled 1) ⌝ }
+{
+    (state == 1) | ((state >= 2) & (signalled == 1))
 }
 
 // A yes or no by its number.

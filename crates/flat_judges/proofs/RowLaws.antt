@@ -7,7 +7,7 @@ use Prim.Native.Nat.{ℕ, _+_, _<_, _≤_}
 use borrow.Author.Tests.{le-leb, leb-true, ne-eqb}
 use lib.Dec.{eqb, leb}
 use lib.ListN.{getD, drop, length, length-drop}
-use lib.Seq.{getD-take, getD-drop, length-take-le}
+use lib.Seq.{length-take-le}
 use native.Mathlib.Omega.{arith}
 use Rattle.model.specs.Basics.{pick}
 use Rattle.model.specs.Tables.{Table}
@@ -26,12 +26,6 @@ use Rattle.flat.proofs.SenderLaws.{sender-fits}
 use Rattle.flat_judges.specs.Rows.{row, within, limits, senderAt, rowOk}
 
 -- a number of a row is that at its place
-pub row-at : (s : List ℕ) (at i : ℕ) → i < 21 → getD (row s at) i 0 ≡ getD s (at + i) 0
-row-at s at i h = getD-take 21 (drop at s) i 0 h ∙ getD-drop at s i 0
-
-pub row-first : (s : List ℕ) (at : ℕ) → getD (row s at) 0 0 ≡ getD s at 0
-row-first s at = let z : at + 0 ≡ at = omega arith in rw z at (row-at s at 0 (omega arith))
-
 pub row-len : (s : List ℕ) (at : ℕ) → at + 21 ≤ length s → length (row s at) ≡ 21
 row-len s at h = length-take-le 21 (drop at s) (omega (arith, length-drop at s))
 

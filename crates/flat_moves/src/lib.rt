@@ -3,6 +3,7 @@ ghost use mathlib.Core.Path.{_≡_};
 ghost use mathlib.Core.Bool.{true};
 ghost use Prim.Native.Nat.{_+_, _-_, _<_, _≤_};
 ghost use lib.ListN.{length, getD};
+ghost use Rattle.state.specs.Views.{canStep};
 ghost use Rattle.boards.specs.Boards.{zeroSender};
 ghost use Rattle.moves.specs.Moves.{movedBoard, Fits};
 ghost use Rattle.flat.specs.Flat.{flatOk};
@@ -18,6 +19,15 @@ pub fn sender_at(s: &[u16], i: u8) -> Sender
 {
     let at = 2 + 21 * (i as usize);
     flat::sender_of(&s[at..at + 21])
+}
+
+// Whether the sender at a place may step.
+pub fn may_step(s: &[u16], i: u8) -> bool
+    requires { ⌜ (flatOk (now s) ≡ true) × (i < 32) ⌝ }
+    ensures { λ r. ⌜ r ≡ canStep (getD (boardFrom (now (s .entry)) .senders) i zeroSender) ⌝ }
+{
+    let at = 2 + 21 * (i as usize);
+    flat::steps_at(s[at], s[at + 1])
 }
 
 // Sets the signal of the sender whose numbers are from a place on, if it is not idle and `own` is its own.

@@ -1,10 +1,9 @@
 -- Laws of what is read of the senders' numbers: a reply, and whether none has a step to take.
 use mathlib.Core.Path.{_≡_, refl, _∙_}
-use mathlib.Core.Bool.{Bool, true, false, _&&_, _||_}
+use mathlib.Core.Bool.{Bool, true, false}
 use mathlib.Core.List.{List}
-use Prim.Native.Nat.{ℕ, zero, suc, _+_, _*_, _<_, _≤_}
-use borrow.Author.Tests.{le-leb, ne-eqb}
-use lib.Dec.{eqb, leb}
+use Prim.Native.Nat.{ℕ, _+_, _*_, _<_, _≤_}
+use lib.Dec.{eqb}
 use lib.ListN.{length, getD, drop}
 use native.Mathlib.Omega.{arith}
 use Rattle.model.specs.Tables.{Table}
@@ -16,24 +15,13 @@ use Rattle.boards.specs.Boards.{boardIn, zeroSender}
 use Rattle.reads.proofs.QuietLaws.{quietFrom, quiet-no, quiet-next, quiet-end}
 use Rattle.flat.specs.Decoded.{stateFrom, boardFrom}
 use Rattle.flat_judges.specs.Rows.{sendersIn}
-use Rattle.flat_judges.proofs.RowLaws.{row-at, row-first}
+use Rattle.flat.proofs.WalkLaws.{part-at, part-first}
 use Rattle.flat_judges.proofs.RowWalks.{senders-count, nth-sender}
 
 pub reply-at : (s : List ℕ) (i : ℕ) → i < 32
     → getD s (2 + 21 * i + 4) 0 ≡ getD (boardFrom s .senders) i zeroSender .reply
 unfolding boardFrom
-reply-at s i h = rw (nth-sender s i zeroSender h, row-at s (2 + 21 * i) 4 (omega arith))
-
--- whether a sender may step, by the number of its state
-pub steps-by : (n : ℕ) (g : Bool) → (eqb n 1 || (leb 2 n && g)) ≡ stepsIn (stateFrom n) g
-steps-by zero g = refl
-steps-by (suc zero) g = refl
-steps-by (suc (suc n)) g =
-    rw (
-      ne-eqb (suc (suc n)) 0 (λ e. omega arith),
-      ne-eqb (suc (suc n)) 1 (λ e. omega arith),
-      le-leb 2 (suc (suc n)) (omega arith),
-    )
+reply-at s i h = rw (nth-sender s i zeroSender h, part-at s (2 + 21 * i) 4 (omega arith))
 
 -- whether the sender of the 21 numbers from a place on may step
 abbrev pub rowSteps : List ℕ → ℕ → Bool
@@ -52,7 +40,7 @@ module _ (t : Table) (s : List ℕ) where
     row-steps : let d = getD (sendersIn s) i zeroSender in
         stepsIn (d .state) (d .signalled) ≡ rowSteps s (2 + 21 * i)
     row-steps =
-        rw (nth-sender s i zeroSender h, row-first s (2 + 21 * i), row-at s (2 + 21 * i) 1 (omega arith))
+        rw (nth-sender s i zeroSender h, part-first s (2 + 21 * i), part-at s (2 + 21 * i) 1 (omega arith))
 
     pub rest-no : rowSteps s (2 + 21 * i) ≡ true → restQuiet i ≡ false
     rest-no e = quiet-no t (sendersIn s) zeroSender i (omega (arith, senders-count 32 (drop 2 s), h)) (row-steps ∙ e)

@@ -2,7 +2,6 @@
 ghost use mathlib.Core.Path.{_≡_};
 ghost use mathlib.Core.List.{[], _∷_, map};
 ghost use Prim.Native.Nat.{_≤_};
-ghost use lib.Dec.{eqb};
 ghost use lib.IntN.{pos};
 ghost use lib.ListN.{length, drop, replicate};
 ghost use lib.Seq.{paste};
@@ -13,9 +12,8 @@ ghost use Rattle.adds.specs.Sends.{sent};
 ghost use Rattle.reads.specs.Reads.{messageOf, readOf};
 ghost use Rattle.columns.specs.Columns.{Columns};
 ghost use Rattle.columns.specs.MatchColumns.{MatchColumns};
-ghost use Rattle.state.specs.Views.{stepsIn};
 ghost use Rattle.boards.specs.Boards.{boardIn};
-ghost use Rattle.flat.specs.Decoded.{stateFrom, boardFrom};
+ghost use Rattle.flat.specs.Decoded.{boardFrom};
 ghost use Rattle.replaying.specs.Replays.{callColumns};
 ghost use Rattle.host.specs.Lent.{lent};
 ghost use Rattle.host.specs.Plays.{oneCall, Flat-opens, Flat-plays, Flat-replays};
@@ -469,13 +467,6 @@ pub extern "C" fn gv_read_reply(
     0
 }
 
-// Whether a sender may step, by the numbers of its state and signal.
-fn steps_at(state: u16, signalled: u16) -> bool
-    ensures { λ r. ⌜ r ≡ stepsIn (stateFrom state) (eqb signalled 1) ⌝ }
-{
-    (state == 1) | ((state >= 2) & (signalled == 1))
-}
-
 // Whether no sender has a step to take: each is idle, or blocked without a signal.
 fn is_quiet(board: &[u16]) -> bool
     requires { ⌜ length (now board) ≡ 674 ⌝ }
@@ -485,7 +476,7 @@ fn is_quiet(board: &[u16]) -> bool
     let mut i: usize = 0;
     while i < 32 {
         let at = 2 + 21 * i;
-        if steps_at(board[at], board[at + 1]) {
+        if flat::steps_at(board[at], board[at + 1]) {
             return false;
         }
         i += 1;

@@ -1,7 +1,7 @@
 -- The calls played so far, and those left, come to all of them.
 use mathlib.Core.Path.{_≡_, refl, sym, ap, subst, _∙_}
 use mathlib.Core.Logic.{_≢_}
-use mathlib.Core.Bool.{true, false}
+use mathlib.Core.Bool.{Bool, true, false}
 use mathlib.Core.List.{List, [], _∷_, _++_}
 use Prim.Native.Nat.{ℕ, zero, suc, _+_, _*_, _-_, _<_, _≤_}
 use native.Mathlib.Numerals.{add-one}
@@ -14,16 +14,23 @@ use lib.Seq.{drop-drop, drop-set-lt, take-suc-set, getD-set-same}
 use Rattle.model.specs.Basics.{firstOf}
 use Rattle.model.specs.Layout.{tableOf}
 use Rattle.model.specs.Boards.{Board}
-use Rattle.model.specs.Effects.{Said}
+use Rattle.model.specs.Effects.{Said, Refused}
 use Rattle.model.specs.Pools.{Call, adds, steps, answerTo, afterAll, history}
 use Rattle.model.proofs.Tests.{both, unless-none}
 use Rattle.columns.specs.Columns.{listFrom}
 use Rattle.columns.proofs.ListFrom.{left-from, none-from}
+use Rattle.state.specs.Views.{senderIn, canStep}
 use Rattle.boards.specs.Calls.{Held}
+use Rattle.boards.specs.Boards.{zeroSender}
+use Rattle.boards.proofs.SenderLaws.{nth-sender}
 use Rattle.judges.specs.Calls.{boardOf, refusalOf, SameFrom, Beyond, Plays}
 use Rattle.judges.proofs.CallLaws.{beyond-same}
 use Rattle.replaying.specs.Replays.{CallColumns, callAt, callsOf, columnsFit, answerNumber, answerNumbers}
-use Rattle.replaying.specs.Replays.{refusalAfter, replayNumber, Fit, Plays-all, Replays}
+use Rattle.steps.proofs.StateSteps.{refused-is}
+use Rattle.moves.specs.Moves.{placeOf, callerOf}
+use Rattle.moves.proofs.StepLaws.{by-state, refused-plays}
+use Rattle.moves.proofs.MoveLaws.{place-in}
+use Rattle.replaying.specs.Replays.{refusalAfter, replayNumber, Fit, Plays-all, Replays, Waits}
 
 -- Records past the counts
 
@@ -56,6 +63,19 @@ beyond-then h g i p q =
 
 pub plays-as : (s : List ℕ) (h : Held) (j k : Call) (w : Said) (g : Held) → j ≡ k → Plays s h j w g → Plays s h k w g
 plays-as s h j k w g e p = subst (λ (i : Call). Plays s h i w g) e p
+
+-- a step of a sender that may not step is refused 13
+pub plays-waiting : (s : List ℕ) (h : Held) (k : Call) (j : ℕ) (may : Bool) → refusalOf s h ≡ 0 → j ≡ placeOf (callerOf k)
+    → may ≡ canStep (getD (h .board .senders) j zeroSender) → Waits k may → Plays s h k (Refused 13) h
+plays-waiting s h (adds i x) j may z at e w = absurd w
+plays-waiting s h (steps i) j may z at e w =
+    let d = getD (h .board .senders) i zeroSender in
+    let is = at ∙ place-in i (w .0) in
+    let no : canStep d ≡ false =
+    ap (λ x. canStep (getD (h .board .senders) x zeroSender)) (sym is) ∙ sym e ∙ w .1 in
+    refused-plays s h z i 13
+    (by-state (tableOf s) (boardOf s h) i (senderIn (tableOf s) d) (nth-sender (tableOf s) (h .board .senders) i) (w .0)
+    ∙ refused-is (tableOf s) (boardOf s h) d no)
 
 -- The calls left
 

@@ -1,9 +1,9 @@
 -- A replay: calls lent in columns, played one after another on a board that is tested once.
 use mathlib.Core.Path.{_≡_}
 use mathlib.Core.Logic.{_≢_}
-use mathlib.Core.Bool.{Bool}
+use mathlib.Core.Bool.{Bool, false}
 use mathlib.Core.List.{List, [], _∷_, _++_, map}
-use Prim.Native.Nat.{ℕ, _+_, _*_, _≤_}
+use Prim.Native.Nat.{ℕ, _+_, _*_, _<_, _≤_}
 use lib.Dec.{eqb, leb}
 use lib.IntN.{ℤ, pos}
 use lib.ListN.{length, getD, drop}
@@ -71,6 +71,11 @@ pub record Fit (c : CallColumns) (room : ℕ) : Type 0 where
   pub numbers-len : length (c .numbers) ≡ length (c .kinds)
   pub amounts-len : length (c .amounts) ≡ length (c .kinds)
   pub answers-all : length (c .kinds) ≤ room
+
+-- a step of a sender that may not step
+abbrev pub Waits : Call → Bool → Type 0
+Waits (adds i x) may = ⊥
+Waits (steps i) may = (i < 32) × (may ≡ false)
 
 -- all calls c played on h leave h′, and turn the lent answers from before to after
 pub record Plays-all (s : List ℕ) (h : Held) (c : CallColumns) (before after : List ℕ) (h′ : Held) : Type 0 where

@@ -13,7 +13,7 @@ ghost use Rattle.flat.specs.Flat.{flatOk};
 ghost use Rattle.flat.specs.Decoded.{boardFrom};
 ghost use Rattle.flat_judges.specs.Judged.{flatRefusal};
 ghost use Rattle.replaying.specs.Replays.{callColumns, callAt, columnsFit, answerNumber};
-ghost use Rattle.replaying.specs.Replays.{refusalAfter, Fit, Plays-all};
+ghost use Rattle.replaying.specs.Replays.{refusalAfter, Fit, Plays-all, Waits};
 use boards::Call;
 use state::Said;
 
@@ -126,6 +126,16 @@ fn call_at(
     Call::Add(i, targets[k], numbers[k], amounts[k])
 }
 
+// Whether a call is a step of a sender that may not step.
+fn waits(call: Call, may: bool) -> bool
+    ensures { λ r. ⌜ (r ≡ true → Waits (callIn call) may) ⌝ }
+{
+    match call {
+        Call::Add(_, _, _, _) => false,
+        Call::Step(i) => (i < 32) & !may,
+    }
+}
+
 // The calls on the numbers of a board that the first tests accept, with room for each answer; the numbers are altered
 // in place. Messages below `start` are consumed, so that no look reads them again.
 pub fn replay_core(
@@ -166,6 +176,11 @@ pub fn replay_core(
     while k < kinds.len() {
         let call = call_at(kinds, callers, targets, numbers, amounts, k);
         let at = moves::place_of(moves::caller_of(call));
+        if waits(call, flat_moves::may_step(board, at)) {
+            answers[k] = answer_number(Said::Refused(13));
+            k += 1;
+            continue;
+        }
         let d = flat_moves::sender_at(board, at);
         let n = board[0];
         let count = board[1];

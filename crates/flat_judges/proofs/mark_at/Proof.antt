@@ -4,7 +4,8 @@ use Prim.Native.Nat.{ℕ, _+_}
 use borrow.Author.Needs.{needs}
 use native.Mathlib.Omega.{arith}
 use Rattle.flat_judges.specs.Rows.{row}
-use Rattle.flat_judges.proofs.RowLaws.{row-at, row-first, mark-idle, mark-own}
+use Rattle.flat.proofs.WalkLaws.{part-at, part-first}
+use Rattle.flat_judges.proofs.RowLaws.{mark-idle, mark-own}
 use Rattle.flat_judges.proofs.mark_at.Statement.{statement}
 use Rattle.flat_judges.proofs.mark_at.Tie as tie
 
@@ -17,7 +18,7 @@ shared-slice-read-if1 c = search needs
 returns : tie.Need-returns
 returns c =
     let a = c .before .before .args in
-    sym (mark-idle (row (a .s .now) (a .at)) (row-first (a .s .now) (a .at) ∙ c .if1 .taken))
+    sym (mark-idle (row (a .s .now) (a .at)) (part-first (a .s .now) (a .at) ∙ c .if1 .taken))
 
 add-result : tie.Need-add-result
 add-result c = search needs
@@ -37,8 +38,8 @@ add-result-2 c = omega (arith, c .shared-slice-known2 .given (c .before .before 
 returns-2 : tie.Need-returns-2
 returns-2 c =
     let a = c .before .before .before .args in
-    let e = row-first (a .s .now) (a .at) in
-    ap (λ (x : ℕ). x + 1) (sym (row-at (a .s .now) (a .at) 2 (omega arith)))
+    let e = part-first (a .s .now) (a .at) in
+    ap (λ (x : ℕ). x + 1) (sym (part-at (a .s .now) (a .at) 2 (omega arith)))
     ∙ sym (mark-own (row (a .s .now) (a .at)) (λ z. c .before .if1 .left (sym e ∙ z)))
 
 pub mark-at-spec : {M : Type 1} → statement M

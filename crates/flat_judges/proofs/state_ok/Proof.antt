@@ -7,12 +7,12 @@ use borrow.Author.Needs.{needs}
 use lib.ListN.{getD}
 use native.Mathlib.Omega.{arith}
 use Rattle.model.specs.Layout.{tableOf}
-use Rattle.flat.proofs.WalkLaws.{span}
+use Rattle.flat.proofs.WalkLaws.{span, part-at, part-first}
 use Rattle.flat.proofs.SenderLaws.{sender-fits}
 use Rattle.flat.proofs.Encoded.{sender-back}
 use Rattle.flat.specs.Decoded.{senderFrom}
 use Rattle.flat_judges.specs.Rows.{row}
-use Rattle.flat_judges.proofs.RowLaws.{row-at, row-first, idle-ok, ownless, blocked-ok, working-ok, row-len}
+use Rattle.flat_judges.proofs.RowLaws.{idle-ok, ownless, blocked-ok, working-ok, row-len}
 use Rattle.flat_judges.proofs.state_ok.Statement.{statement}
 use Rattle.flat_judges.proofs.state_ok.Tie as tie
 
@@ -32,12 +32,12 @@ only-one n p q h = omega arith
 busy : (c : tie.Else1) → getD (numbers (start c)) 0 0 ≢ 0
 busy c e =
     let a = start c .args in
-    c .if1 .left (sym (row-first (a .s .now) (a .at)) ∙ e)
+    c .if1 .left (sym (part-first (a .s .now) (a .at)) ∙ e)
 
 owned : (c : tie.Else2) → getD (numbers (start (c .before .before))) 2 0 ≢ 0
 owned c e =
     let a = start (c .before .before) .args in
-    c .if2 .left (sym (row-at (a .s .now) (a .at) 2 (omega arith)) ∙ e)
+    c .if2 .left (sym (part-at (a .s .now) (a .at) 2 (omega arith)) ∙ e)
 
 mul-state : tie.Need-mul-state
 mul-state c = search needs
@@ -48,7 +48,7 @@ shared-slice-read-state c = search needs
 returns : tie.Need-returns
 returns c b sees =
     let a = c .before .before .before .before .before .args in
-    sym (idle-ok (tableOf (a .table .now)) b (row (a .s .now) (a .at)) (row-first (a .s .now) (a .at) ∙ c .if1 .taken))
+    sym (idle-ok (tableOf (a .table .now)) b (row (a .s .now) (a .at)) (part-first (a .s .now) (a .at) ∙ c .if1 .taken))
 
 add-if2 : tie.Need-add-if2
 add-if2 c = search needs
@@ -64,14 +64,14 @@ returns-2 c b sees =
     let e = c .before .before in
     let a = start e .args in
     sym (ownless (tableOf (a .table .now)) b (row (a .s .now) (a .at)) (busy e)
-    (row-at (a .s .now) (a .at) 2 (omega arith) ∙ c .if2 .taken))
+    (part-at (a .s .now) (a .at) 2 (omega arith) ∙ c .if2 .taken))
 
 returns-3 : tie.Need-returns-3
 returns-3 c b sees =
     let o = c .before in
     let a = start (o .before .before) .args in
     sym (blocked-ok (tableOf (a .table .now)) b (row (a .s .now) (a .at)) (owned o)
-    (row-first (a .s .now) (a .at) ∙ c .if3 .taken))
+    (part-first (a .s .now) (a .at) ∙ c .if3 .taken))
 
 add-sender-of : tie.Need-add-sender-of
 add-sender-of c = search needs
@@ -103,7 +103,7 @@ returns-4 c b sees =
     let o = w .before in
     let s = start (o .before .before) in
     let a = s .args in
-    let f = row-first (a .s .now) (a .at) in
+    let f = part-first (a .s .now) (a .at) in
     let g = sender-fits (numbers s) (s .pre .1 .1) .state in
     let one : getD (numbers s) 0 0 ≡ 1 = only-one _ (busy (o .before .before)) (λ e. w .if3 .left (sym f ∙ e)) g in
     let e : d .sender-of .result ≡ senderFrom (numbers s)

@@ -9,7 +9,7 @@ use native.Mathlib.Omega.{arith}
 use Rattle.soundness.proofs.Each.{each-none, each-one}
 use Rattle.soundness.specs.Tests.{eachBelow}
 use Rattle.flat_judges.specs.Rows.{row, within}
-use Rattle.flat_judges.proofs.RowLaws.{row-at}
+use Rattle.flat.proofs.WalkLaws.{part-at}
 use Rattle.flat_judges.proofs.within.Statement.{statement}
 use Rattle.flat_judges.proofs.within.Tie as tie
 
@@ -48,7 +48,7 @@ loop-again : tie.Need-loop-again Inv-loop μ-loop
 loop-again c =
     let p = c .before .before .before in
     let a = p .before .args in
-    (search needs, rw (each-one _ (p .loop .i), p .loop .inv .1, row-at (a .s .now) (a .at) (p .loop .i) (omega arith)))
+    (search needs, rw (each-one _ (p .loop .i), p .loop .inv .1, part-at (a .s .now) (a .at) (p .loop .i) (omega arith)))
 
 returns : tie.Need-returns Inv-loop μ-loop
 unfolding within

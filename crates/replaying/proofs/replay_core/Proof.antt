@@ -20,7 +20,7 @@ use Rattle.flat.specs.Flat.{flatOk}
 use Rattle.flat.specs.Decoded.{boardFrom}
 use Rattle.flat.proofs.WalkLaws.{all-numbers}
 use Rattle.replaying.specs.Replays.{callColumns}
-use Rattle.replaying.proofs.ScheduleLaws.{Played, played-none, played-next, played-all}
+use Rattle.replaying.proofs.ScheduleLaws.{Played, plays-waiting, played-none, played-next, played-all}
 use Rattle.replaying.proofs.replay_core.Statement.{statement}
 use Rattle.replaying.proofs.replay_core.Tie as tie
 
@@ -47,7 +47,7 @@ abbrev called : tie.After-place-of Inv-loop μ-loop → tie.After-call-at Inv-lo
 called c = c .before .before
 
 abbrev placed : tie.After-sender-at Inv-loop μ-loop → tie.After-place-of Inv-loop μ-loop
-placed c = c .before .before
+placed c = c .before .before .before .before .before .before
 
 abbrev caught : tie.After-move-of Inv-loop μ-loop → tie.After-sender-at Inv-loop μ-loop
 caught c = c .before .before .before .before .before .before .before .before
@@ -58,7 +58,7 @@ decided c = c .before .before .before .before .before .before .before .before .b
 abbrev written : tie.After-put-moved Inv-loop μ-loop → tie.After-write-move Inv-loop μ-loop
 written c = c .before .before .before .before .before .before .before .before .before .before .before .before .before .before .before .before .before
 
-abbrev put : tie.After-answer-number Inv-loop μ-loop → tie.After-put-moved Inv-loop μ-loop
+abbrev put : tie.After-answer-number2 Inv-loop μ-loop → tie.After-put-moved Inv-loop μ-loop
 put c = c .before .before .before .before .before .before
 
 abbrev turn : tie.After-put-moved Inv-loop μ-loop → tie.After-place-of Inv-loop μ-loop
@@ -126,8 +126,63 @@ caller-of-requires c κs = search needs
 place-of-requires : tie.Need-place-of-requires Inv-loop μ-loop
 place-of-requires c κs = search needs
 
+may-step-requires : tie.Need-may-step-requires Inv-loop μ-loop
+may-step-requires c κs = let w = c .before in (looped w .loop .inv .0, w .place-of .ensures .1)
+
+waits-requires : tie.Need-waits-requires Inv-loop μ-loop
+waits-requires c κs = search needs
+
+answer-number-requires : tie.Need-answer-number-requires Inv-loop μ-loop
+answer-number-requires c κs = search needs
+
+-- there is a place for the turn's answer
+in-place : (c : tie.In-loop Inv-loop μ-loop) → c .before .loop .k < length (begun (c .before) .args .answers .now)
+in-place c = omega (arith, c .loop-test .taken, begun (c .before) .pre .1 .1 .answers-all)
+
+room : (c : tie.In-loop Inv-loop μ-loop) → length (begun (c .before) .args .answers .now) * 4 < 2 ^ 63
+room c = begun (c .before) .good .1 .1 .1 .1 .1 .1 .1 .0 .1
+
+-- a step that is refused at once
+abbrev waited : tie.After-answer-number Inv-loop μ-loop → tie.After-place-of Inv-loop μ-loop
+waited c = c .before .before .before .before .before
+
+mul-answers : tie.Need-mul-answers Inv-loop μ-loop
+mul-answers c =
+    let i = called (waited c) .before in
+    scaled-fits _ (length (begun (i .before) .args .answers .now)) 4 (in-place i) (room i)
+
+slice-write-answers : tie.Need-slice-write-answers Inv-loop μ-loop
+slice-write-answers c =
+    let i = called (waited c) .before in
+    omega (arith, in-place i, i .before .loop .inv .2 .len)
+
+add-k : tie.Need-add-k Inv-loop μ-loop
+add-k c =
+    let i = called (waited c) .before in
+    record { fits = omega (arith, in-place i, room i) }
+
+loop-less : tie.Need-loop-less Inv-loop μ-loop
+loop-less c = let i = called (waited c) .before in omega (arith, i .loop-test .taken)
+
+loop-again : tie.Need-loop-again Inv-loop μ-loop
+loop-again c =
+    let q = c .before .before in
+    let w = waited c in
+    let k = called w in
+    let l = looped w .loop in (
+      l .inv .0,
+      l .inv .1,
+      played-next _ _ _ _ _ _ _ (l .inv .2) _ _ _ _ (k .before .loop-test .taken)
+          (begun (looped w) .pre .1 .1 .answers-all) (k .call-at .ensures)
+          (plays-waiting _ (holds (looped w)) _ _ _ (accepted (looped w)) (place-is w) (q .before .may-step .ensures)
+          (q .waits .ensures (c .before .if1 .taken)))
+          (c .answer-number .ensures),
+    )
+
 sender-at-requires : tie.Need-sender-at-requires Inv-loop μ-loop
-sender-at-requires c κs = (looped (c .before) .loop .inv .0, c .before .place-of .ensures .1)
+sender-at-requires c κs =
+    let w = c .before .before .before .before .before in
+    (looped w .loop .inv .0, w .place-of .ensures .1)
 
 slice-read-n : tie.Need-slice-read-n Inv-loop μ-loop
 slice-read-n c = omega (arith, all-of (looped (placed (c .before))))
@@ -187,37 +242,30 @@ start-after-requires c κs =
     let few = messages-few _ _ _ _ (stays p) in
     (omega (arith, few, lent-whole _ _ _ _ (stays p) .statuses-len), few)
 
-answer-number-requires : tie.Need-answer-number-requires Inv-loop μ-loop
-answer-number-requires c κs = search needs
+answer-number-requires-2 : tie.Need-answer-number-requires-2 Inv-loop μ-loop
+answer-number-requires-2 c κs = search needs
 
--- there is a place for the turn's answer
-in-place : (c : tie.In-loop Inv-loop μ-loop) → c .before .loop .k < length (begun (c .before) .args .answers .now)
-in-place c = omega (arith, c .loop-test .taken, begun (c .before) .pre .1 .1 .answers-all)
-
-room : (c : tie.In-loop Inv-loop μ-loop) → length (begun (c .before) .args .answers .now) * 4 < 2 ^ 63
-room c = begun (c .before) .good .1 .1 .1 .1 .1 .1 .1 .0 .1
-
-mul-answers : tie.Need-mul-answers Inv-loop μ-loop
-mul-answers c =
+mul-answers-2 : tie.Need-mul-answers-2 Inv-loop μ-loop
+mul-answers-2 c =
     let i = called (turn (put c)) .before in
     scaled-fits _ (length (begun (i .before) .args .answers .now)) 4 (in-place i) (room i)
 
-slice-write-answers : tie.Need-slice-write-answers Inv-loop μ-loop
-slice-write-answers c =
+slice-write-answers-2 : tie.Need-slice-write-answers-2 Inv-loop μ-loop
+slice-write-answers-2 c =
     let i = called (turn (put c)) .before in
     omega (arith, in-place i, i .before .loop .inv .2 .len)
 
-add-k : tie.Need-add-k Inv-loop μ-loop
-add-k c =
+add-k-2 : tie.Need-add-k-2 Inv-loop μ-loop
+add-k-2 c =
     let i = called (turn (put c)) .before in
     record { fits = omega (arith, in-place i, room i) }
 
-loop-less : tie.Need-loop-less Inv-loop μ-loop
-loop-less c = let i = called (turn (put c)) .before in omega (arith, i .loop-test .taken)
+loop-less-2 : tie.Need-loop-less-2 Inv-loop μ-loop
+loop-less-2 c = let i = called (turn (put c)) .before in omega (arith, i .loop-test .taken)
 
-loop-again : tie.Need-loop-again Inv-loop μ-loop
+loop-again-2 : tie.Need-loop-again-2 Inv-loop μ-loop
 unfolding boardFrom
-loop-again c =
+loop-again-2 c =
     let p = put c in
     let u = written p in
     let m = decided u .move-of .result in
@@ -228,7 +276,7 @@ loop-again c =
           (plays p .beyond .messages-grow)
           (ap (λ (h : Held). h .columns .statuses) (u .write-move .ensures (boardFrom (l .board)) 0 refl refl)),
       played-next _ _ _ _ _ _ _ (l .inv .2) _ _ _ _ (k .before .loop-test .taken)
-          (begun (looped (turn p)) .pre .1 .1 .answers-all) (k .call-at .ensures) (plays p) (c .answer-number .ensures),
+          (begun (looped (turn p)) .pre .1 .1 .answers-all) (k .call-at .ensures) (plays p) (c .answer-number2 .ensures),
     )
 
 same-length : tie.Need-same-length Inv-loop μ-loop
@@ -276,6 +324,14 @@ replay-core-spec =
     call-at-requires
     caller-of-requires
     place-of-requires
+    may-step-requires
+    waits-requires
+    answer-number-requires
+    mul-answers
+    slice-write-answers
+    add-k
+    loop-less
+    loop-again
     sender-at-requires
     slice-read-n
     slice-read-count
@@ -284,12 +340,12 @@ replay-core-spec =
     put-moved-requires
     slice-read-start-after
     start-after-requires
-    answer-number-requires
-    mul-answers
-    slice-write-answers
-    add-k
-    loop-less
-    loop-again
+    answer-number-requires-2
+    mul-answers-2
+    slice-write-answers-2
+    add-k-2
+    loop-less-2
+    loop-again-2
     same-length
     same-length-2
     same-length-3
