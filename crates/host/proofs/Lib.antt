@@ -4,3 +4,4 @@ pub mod ReadLaws
 pub mod FlatReads
 pub mod SenderRows
 pub mod Chains
+pub mod HostCalls

@@ -2,3 +2,4 @@
 pub mod Lent
 pub mod Plays
 pub mod Reads
+pub mod Schedules

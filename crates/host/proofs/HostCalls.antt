@@ -1,0 +1,55 @@
+-- The calls of a host are those of a schedule, and so keep demand 3.
+use mathlib.Core.Path.{_≡_, refl, sym, _∙_, ap}
+use mathlib.Core.Bool.{true}
+use mathlib.Core.List.{List, [], _∷_, map}
+use Prim.Native.Nat.{ℕ}
+use Rattle.model.specs.Layout.{tableRefusal}
+use Rattle.model.specs.Effects.{Said}
+use Rattle.model.specs.Pools.{Call}
+use Rattle.table.proofs.Places.{first-none}
+use Rattle.replaying.specs.Replays.{answerNumber}
+use Rattle.schedules.specs.Schedules as Held-schedules
+use Rattle.schedules.specs.Schedules.{PlaysAll}
+use Rattle.schedules.proofs.PublicCalls.{public-calls}
+use Rattle.flat.specs.Flat.{flatOk}
+use Rattle.host.specs.Lent.{Lent, heldOf}
+use Rattle.host.specs.Plays.{Flat-plays}
+use Rattle.host.specs.Schedules.{CallsAll, Opened, Host-calls}
+use Rattle.host.proofs.Chains.{opened-board}
+
+-- calls on numbers that are a board's are calls on that board
+on-board : (s : List ℕ) (h : Lent) (ks : List Call) (ns : List ℕ) (h′ : Lent) → flatOk (h .flat) ≡ true
+    → CallsAll s h ks ns h′
+    → (ws : List Said) × (ns ≡ map answerNumber ws) × PlaysAll s (heldOf h) ks ws (heldOf h′)
+    × (flatOk (h′ .flat) ≡ true)
+on-board s h [] ns h′ ok p = ([], p .0, (refl, ap heldOf (p .1)), ap (λ (x : Lent). flatOk (x .flat)) (p .1) ∙ ok)
+on-board s h (k ∷ ks) [] h′ ok p = absurd p
+on-board s h (k ∷ ks) (n ∷ ns) h′ ok (g, p, rest) =
+    let q = p .on-board ok in
+    let r = on-board s g ks ns h′ (p .leaves-board ok) rest in (
+      q .0 ∷ r .0,
+      ap (λ x. x ∷ ns) (q .1) ∙ ap (λ (xs : List ℕ). answerNumber (q .0) ∷ xs) (r .1),
+      (heldOf g, q .2, r .2),
+      r .3,
+    )
+
+-- an opened board
+opened : (s : List ℕ) (h : Lent) → Opened s h → Held-schedules.Opened s (heldOf h)
+opened s h o = record {
+  table = first-none (tableRefusal s) _ (sym (o .opens .number)) .0;
+  empty = opened-board h (o .opens) .1;
+  lent = o .lent;
+}
+
+pub host-calls : Host-calls
+host-calls = record {
+  demand = λ s h ks ns h′ o p.
+      let r = on-board s h ks ns h′ (opened-board h (o .opens) .0) p in
+      let d = public-calls .demand s (heldOf h) ks (r .0) (heldOf h′) (opened s h o) (r .2) in
+      (r .0, r .1, d .0, d .1, r .3);
+  replayed = λ s h c before after h′ o p.
+      let ok = opened-board h (o .opens) .0 in (
+        public-calls .replayed s (heldOf h) c before after (heldOf h′) (opened s h o) (p .on-board ok) .0,
+        p .leaves-board ok,
+      );
+}

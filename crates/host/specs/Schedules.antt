@@ -1,0 +1,33 @@
+-- Calls of a host one after another, and what they owe together: demand 3, about what the library's functions return.
+use mathlib.Core.Path.{_≡_}
+use mathlib.Core.Bool.{true}
+use mathlib.Core.List.{List, [], _∷_, map}
+use Prim.Native.Nat.{ℕ}
+use Rattle.model.specs.Effects.{Said}
+use Rattle.model.specs.Pools.{Call}
+use Rattle.judges.specs.Judged.{Lengths}
+use Rattle.replaying.specs.Replays.{CallColumns, callsOf, answerNumber}
+use Rattle.schedules.specs.Schedules.{Is-schedule, Keeps-demand-3}
+use Rattle.flat.specs.Flat.{flatOk}
+use Rattle.host.specs.Lent.{Lent, heldOf}
+use Rattle.host.specs.Plays.{Flat-opens, Flat-plays, Flat-replays}
+
+-- the calls, and the numbers that were answered, from h to h′: each call is lent what the one before left
+abbrev pub CallsAll : List ℕ → Lent → List Call → List ℕ → Lent → Type 0
+CallsAll s h [] ns h′ = (ns ≡ []) × (h′ ≡ h)
+CallsAll s h (k ∷ ks) [] h′ = ⊥
+CallsAll s h (k ∷ ks) (n ∷ ns) h′ = (g : Lent) × Flat-plays s h k n g × CallsAll s g ks ns h′
+
+-- numbers that gv_open has just written, with lent lists of the right lengths that hold anything
+pub record Opened (s : List ℕ) (h : Lent) : Type 0 where
+  pub before : List ℕ
+  pub opens : Flat-opens s before 0 (h .flat)
+  pub lent : Lengths (h .columns) (h .matches)
+
+pub record Host-calls : Type 0 where
+  -- the answers are those of the model's schedule, and the reads of what is left are those that demand 3 speaks of
+  pub demand : (s : List ℕ) (h : Lent) (ks : List Call) (ns : List ℕ) (h′ : Lent) → Opened s h → CallsAll s h ks ns h′
+      → (ws : List Said) × (ns ≡ map answerNumber ws) × Is-schedule s (heldOf h) ks ws (heldOf h′)
+      × Keeps-demand-3 s ks (heldOf h′) × (flatOk (h′ .flat) ≡ true)
+  pub replayed : (s : List ℕ) (h : Lent) (c : CallColumns) (before after : List ℕ) (h′ : Lent) → Opened s h
+      → Flat-replays s h c before after 0 h′ → Keeps-demand-3 s (callsOf c) (heldOf h′) × (flatOk (h′ .flat) ≡ true)
