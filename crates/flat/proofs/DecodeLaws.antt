@@ -46,7 +46,8 @@ phase-from (suc (suc (suc (suc (suc (suc zero)))))) k s e = placed 6 k s e refl 
 phase-from (suc (suc (suc (suc (suc (suc (suc zero))))))) k s e = bare 7 k s e refl refl refl
 phase-from (suc (suc (suc (suc (suc (suc (suc (suc zero)))))))) k s e = bare 8 k s e refl refl refl
 phase-from (suc (suc (suc (suc (suc (suc (suc (suc (suc zero))))))))) k s e = placed 9 k s e refl refl
-phase-from (suc (suc (suc (suc (suc (suc (suc (suc (suc (suc n)))))))))) k s e = absurd (omega (arith, kind-fits _ k s e))
+phase-from (suc (suc (suc (suc (suc (suc (suc (suc (suc (suc n)))))))))) k s e =
+    absurd (omega (arith, kind-fits _ k s e))
 
 -- 21 numbers that pass are those of their sender, which fits its types
 pub sender-from-back : (a : List ℕ) → length a ≡ 21 → senderOk a ≡ true

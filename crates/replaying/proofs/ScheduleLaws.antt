@@ -65,7 +65,8 @@ pub plays-as : (s : List ℕ) (h : Held) (j k : Call) (w : Said) (g : Held) → 
 plays-as s h j k w g e p = subst (λ (i : Call). Plays s h i w g) e p
 
 -- a step of a sender that may not step is refused 13
-pub plays-waiting : (s : List ℕ) (h : Held) (k : Call) (j : ℕ) (may : Bool) → refusalOf s h ≡ 0 → j ≡ placeOf (callerOf k)
+pub plays-waiting : (s : List ℕ) (h : Held) (k : Call) (j : ℕ) (may : Bool) → refusalOf s h ≡ 0
+    → j ≡ placeOf (callerOf k)
     → may ≡ canStep (getD (h .board .senders) j zeroSender) → Waits k may → Plays s h k (Refused 13) h
 plays-waiting s h (adds i x) j may z at e w = absurd w
 plays-waiting s h (steps i) j may z at e w =

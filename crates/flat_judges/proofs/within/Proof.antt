@@ -48,7 +48,8 @@ loop-again : tie.Need-loop-again Inv-loop μ-loop
 loop-again c =
     let p = c .before .before .before in
     let a = p .before .args in
-    (search needs, rw (each-one _ (p .loop .i), p .loop .inv .1, part-at (a .s .now) (a .at) (p .loop .i) (omega arith)))
+    let e = part-at (a .s .now) (a .at) (p .loop .i) (omega arith) in
+    (search needs, rw (each-one _ (p .loop .i), p .loop .inv .1, e))
 
 returns : tie.Need-returns Inv-loop μ-loop
 unfolding within

@@ -41,8 +41,10 @@ same-length-9 c = search needs
 
 returns : tie.Need-returns
 returns c =
-    let w = c .before .before .before .before .before .before .before .before .before .before .before .before .before .before .before .before .before in
-    let s = w .before .before .before .before .before .before .before .before .before .before .before .before .before .before .before .before .before .before .before in
+    let w = c .before .before .before .before .before .before .before .before .before .before in
+    let w = w .before .before .before .before .before .before .before in
+    let s = w .before .before .before .before .before .before .before .before .before .before in
+    let s = s .before .before .before .before .before .before .before .before .before in
     plays-as _ _ _ _ _ _ (sym (add-at _ 0 (λ z. omega (arith, z))))
     (one-by _ _ _ _ _ _ _ _ _ _ (toZ-ofZ w64 (s .args .amount) (s .fits .amount)) (w .one-call .ensures))
 

@@ -79,7 +79,8 @@ same-length-19 c = search needs
 
 returns-2 : tie.Need-returns-2
 returns-2 c =
-    let p = c .before .before .before .before .before .before .before .before .before .before .before .before .before .before .before .before .before .before .before in
+    let p = c .before .before .before .before .before .before .before .before .before .before in
+    let p = p .before .before .before .before .before .before .before .before .before in
     let o = p .before .before .before .before .before .before .before .before .before .before .before in
     replays-all _ _ _ (p .replay-core .ensures .0) _ _ _ (p .replay-core .ensures .1)
     (sym (o .if1 .left) ∙ o .before .replay-refusal .ensures)

@@ -38,7 +38,8 @@ same-length-9 c = search needs
 
 returns : tie.Need-returns
 returns c =
-    let w = c .before .before .before .before .before .before .before .before .before .before .before .before .before .before .before .before .before in
+    let w = c .before .before .before .before .before .before .before .before .before .before in
+    let w = w .before .before .before .before .before .before .before in
     plays-as _ _ _ _ _ _ (sym (step-at _ 0 refl)) (w .one-call .ensures)
 
 pub gv-step-spec : {M : Type 1} → statement M

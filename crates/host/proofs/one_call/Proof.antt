@@ -66,7 +66,8 @@ slice-aggregate-replay-core-6 c = search needs
 
 replay-core-requires : tie.Need-replay-core-requires
 replay-core-requires c κs =
-    let o = c .before .before .before .before .before .before .before .before .before .before .before .before .before .before .before in
+    let o = c .before .before .before .before .before .before .before .before .before .before in
+    let o = o .before .before .before .before .before in
     let a = flat-accepted _ _ _ _ (sym (o .before .flat-refusal .ensures) ∙ o .if1 .left) in (
       a .0,
       (
@@ -85,13 +86,16 @@ array-read-result : tie.Need-array-read-result
 array-read-result c = search needs
 
 same-length-10 : tie.Need-same-length-10
-same-length-10 c = c .before .before .before .before .before .before .before .before .before .before .before .before .before .before .before .before .before .board .given
+same-length-10 c = c .before .before .before .before .before .before .before .before .before .before .before .before
+    .before .before .before .before .before .board .given
 
 same-length-11 : tie.Need-same-length-11
-same-length-11 c = c .before .before .before .before .before .before .before .before .before .before .before .before .before .before .channels .given
+same-length-11 c = c .before .before .before .before .before .before .before .before .before .before .before .before
+    .before .before .channels .given
 
 same-length-12 : tie.Need-same-length-12
-same-length-12 c = c .before .before .before .before .before .before .before .before .before .before .before .before .properties .given
+same-length-12 c = c .before .before .before .before .before .before .before .before .before .before .before .before
+    .properties .given
 
 same-length-13 : tie.Need-same-length-13
 same-length-13 c = c .before .before .before .before .before .before .before .before .before .before .cents .given
@@ -113,9 +117,12 @@ same-length-18 c = search needs
 
 returns-2 : tie.Need-returns-2
 returns-2 c =
-    let p = c .before .before .before .before .before .before .before .before .before .before .before .before .before .before .before .before .before .before in
-    let o = p .before .before .before .before .before .before .before .before .before .before .before .before .before .before .before .before in
-    let s = o .before .before .before .before .before .before .before .before .before .before .before .before .before .before .before .before .before .before .before .before in
+    let p = c .before .before .before .before .before .before .before .before .before .before in
+    let p = p .before .before .before .before .before .before .before .before in
+    let o = p .before .before .before .before .before .before .before .before .before .before in
+    let o = o .before .before .before .before .before .before in
+    let s = o .before .before .before .before .before .before .before .before .before .before in
+    let s = s .before .before .before .before .before .before .before .before .before .before in
     one-by _ _ _ _ _ _ _ _ _ _ (toZ-ofZ w64 (s .args .amount) (s .fits .amount))
     (plays-one _ _ _ (p .replay-core .ensures .0) _ _ _ (p .replay-core .ensures .1)
     (sym (o .before .flat-refusal .ensures) ∙ o .if1 .left) refl)

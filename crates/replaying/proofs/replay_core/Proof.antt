@@ -25,7 +25,9 @@ use Rattle.replaying.proofs.replay_core.Statement.{statement}
 use Rattle.replaying.proofs.replay_core.Tie as tie
 
 abbrev Inv-loop : tie.InvT-loop
-Inv-loop table board₀ kinds callers targets numbers amounts answers₀ channels₀ properties₀ cents₀ statuses₀ matched₀ wakers₀ chords₀ messages₀ start₀ k₀ board answers channels properties cents statuses matched wakers chords messages start k =
+Inv-loop table board₀ kinds callers targets numbers amounts answers₀ channels₀ properties₀ cents₀ statuses₀ matched₀
+    wakers₀ chords₀ messages₀ start₀ k₀ board answers channels properties cents statuses matched wakers chords
+    messages start k =
     (flatOk board ≡ true)
     × Passed start (getD board 0 0) statuses
     × Played table (heldBy (boardFrom board₀) channels₀ properties₀ cents₀ statuses₀ matched₀ wakers₀ chords₀ messages₀)
@@ -33,12 +35,15 @@ Inv-loop table board₀ kinds callers targets numbers amounts answers₀ channel
     (heldBy (boardFrom board) channels properties cents statuses matched wakers chords messages) answers
 
 abbrev μ-loop : tie.MeasureT-loop
-μ-loop table board₀ kinds callers targets numbers amounts answers₀ channels₀ properties₀ cents₀ statuses₀ matched₀ wakers₀ chords₀ messages₀ start₀ k₀ board answers channels properties cents statuses matched wakers chords messages start k =
+μ-loop table board₀ kinds callers targets numbers amounts answers₀ channels₀ properties₀ cents₀ statuses₀ matched₀
+    wakers₀ chords₀ messages₀ start₀ k₀ board answers channels properties cents statuses matched wakers chords
+    messages start k =
     length kinds - k
 
 -- the places of a turn, one before another
 abbrev begun : tie.At-loop Inv-loop μ-loop → tie.Start Inv-loop μ-loop
-begun c = c .before .before .before .before .before .before .before .before .before .before .before .before .before .before .before
+begun c = c .before .before .before .before .before .before .before .before .before .before .before .before .before
+    .before .before
 
 abbrev looped : tie.After-place-of Inv-loop μ-loop → tie.At-loop Inv-loop μ-loop
 looped c = c .before .before .before .before
@@ -56,7 +61,8 @@ abbrev decided : tie.After-write-move Inv-loop μ-loop → tie.After-move-of Inv
 decided c = c .before .before .before .before .before .before .before .before .before
 
 abbrev written : tie.After-put-moved Inv-loop μ-loop → tie.After-write-move Inv-loop μ-loop
-written c = c .before .before .before .before .before .before .before .before .before .before .before .before .before .before .before .before .before
+written c = c .before .before .before .before .before .before .before .before .before .before .before .before .before
+    .before .before .before .before
 
 abbrev put : tie.After-answer-number2 Inv-loop μ-loop → tie.After-put-moved Inv-loop μ-loop
 put c = c .before .before .before .before .before .before
@@ -109,7 +115,8 @@ stood c =
 
 loop-holds : tie.Need-loop-holds Inv-loop μ-loop
 loop-holds c =
-    let s = c .before .before .before .before .before .before .before .before .before .before .before .before .before .before in
+    let s = c .before .before .before .before .before .before .before .before .before .before in
+    let s = s .before .before .before .before in
     (s .pre .0, passed-none _ _, played-none _ _ _ _ (s .pre .1 .0))
 
 call-at-requires : tie.Need-call-at-requires Inv-loop μ-loop
@@ -204,7 +211,8 @@ write-move-requires c κs =
 
 put-moved-requires : tie.Need-put-moved-requires Inv-loop μ-loop
 put-moved-requires c κs =
-    let q = decided (c .before .before .before .before .before .before .before .before .before .before .before .before .before .before .before .before) in
+    let u = c .before .before .before .before .before .before .before .before in
+    let q = decided (u .before .before .before .before .before .before .before .before) in
     let w = placed (caught q) in
     let l = looped w in
     (l .loop .inv .0, w .place-of .ensures .1, few l .0, few l .1, q .move-of .ensures .1)
@@ -276,7 +284,8 @@ loop-again-2 c =
           (plays p .beyond .messages-grow)
           (ap (λ (h : Held). h .columns .statuses) (u .write-move .ensures (boardFrom (l .board)) 0 refl refl)),
       played-next _ _ _ _ _ _ _ (l .inv .2) _ _ _ _ (k .before .loop-test .taken)
-          (begun (looped (turn p)) .pre .1 .1 .answers-all) (k .call-at .ensures) (plays p) (c .answer-number2 .ensures),
+          (begun (looped (turn p)) .pre .1 .1 .answers-all) (k .call-at .ensures) (plays p)
+          (c .answer-number2 .ensures),
     )
 
 same-length : tie.Need-same-length Inv-loop μ-loop
