@@ -16,7 +16,7 @@ failed=0
 
 # Installs a Debian package if its program is missing.
 want() {
-    command -v "$1" >/dev/null || apt-get install -y "$2" >"$work/apt" 2>&1
+    command -v "$1" >/dev/null || { apt-get update && apt-get install -y "$2"; } >"$work/apt" 2>&1
 }
 
 # A test by its name and its command; what a failed one said last is shown.
