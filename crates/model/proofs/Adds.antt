@@ -17,6 +17,7 @@ use Rattle.model.specs.Boards.{working, Job, isIdle, State, channelOf, b
 use Rattle.model.specs.Effects.{none, turn, Change, records, signals, matchesAfter}
 use Rattle.model.specs.Jobs.{newPass}
 use Rattle.model.specs.Steps.{more, resumed}
+use Rattle.model.specs.Holdings.{Holds}
 use Rattle.model.specs.Adds.{added, newSender, newMessage, centsOk, addRefusal}
 use Rattle.model.specs.Demands.{Same-but-signal}
 use Rattle.model.proofs.Tests.{same?, never, tests, unless-none}
@@ -26,7 +27,6 @@ use Rattle.model.proofs.Frame.{unaltered}
 use Rattle.model.proofs.Grows.{SameSent, Grows}
 use Rattle.model.proofs.Passage.{same, After, Passage, grows}
 use Rattle.model.proofs.Local.{SenderOk, pass-ok}
-use Rattle.model.proofs.Holding.{Holds}
 use Rattle.model.proofs.Places.{none-held, pass-empty}
 use Rattle.model.proofs.Matches.{not-consuming, WillConsume}
 use Rattle.model.proofs.Owners.{new-own, WillSignal}
@@ -108,7 +108,7 @@ module _ (t : Table) (b : Board) (i : ℕ) (new : Sent) where
   isSignal (records n m) = false
   isSignal (signals n) = true
 
-  added-passage : i < length (b .senders) → Passage b b′ i none d
+  pub added-passage : i < length (b .senders) → Passage b b′ i none d
   unfolding matchesAfter isSignal
   added-passage h = record {
     more = omega (arith, messages-now);

@@ -4,7 +4,7 @@ use mathlib.Core.Path.{_≡_, subst, subst⁻¹, ap, _∙_, sym, refl}
 use mathlib.Core.Logic.{_≢_, _⊎_, inr, inl}
 use mathlib.Core.Bool.{true, false, not, Bool, _&&_, _||_}
 use mathlib.Core.List.{List, [], _∷_}
-use Prim.Native.Nat.{ℕ, _≤_, _<_, _-_, suc, zero}
+use Prim.Native.Nat.{ℕ, _≤_, _<_, _-_, suc}
 use borrow.Author.Tests.{eqb-true, ne-eqb}
 use lib.Dec.{eqb}
 use lib.ListN.{length, getD}
@@ -13,12 +13,13 @@ use Rattle.model.specs.Basics.{isIn}
 use Rattle.model.specs.Tables.{Table, isSync}
 use Rattle.model.specs.Boards.{Board, Job, Phase, look, claim, revert, consume, tell, wake, free, signal}
 use Rattle.model.specs.Boards.{pass-end, backoff, State, idle, working, blocked, isIdle, senderAt, messageAt}
-use Rattle.model.specs.Boards.{consumed, channelOf, matchAt, Sender, Match, Message, noMessage, isConsumed}
+use Rattle.model.specs.Boards.{consumed, channelOf, matchAt, Sender, Match, Message, noMessage}
 use Rattle.model.specs.Effects.{Change, signals, records}
-use Rattle.model.specs.Jobs.{job-end, matchedEnd, wakerEnd, syncEnd, endsBy}
+use Rattle.model.specs.Jobs.{job-end}
 use Rattle.model.specs.Steps.{toTell, keepIf}
 use Rattle.model.specs.Demands.{Same-but-signal}
 use Rattle.model.proofs.Tests.{same?, never, either, and}
+use Rattle.model.proofs.Jobs.{job-end-by}
 use Rattle.model.proofs.Passage.{Passage, grows, match-is, MatchIs, old-match, new-match}
 use Rattle.model.proofs.Phases.{still}
 use Rattle.model.proofs.Local.{SenderOk, PlacedAt, tell-on, StateOk}
@@ -232,34 +233,22 @@ pub record JobEnded (t : Table) (is : List Message) (e d : Sender) : Type 0 wher
   pub signalled : isIdle (d .state) ≡ false → d .signalled ≡ e .signalled
 
 pub job-ended : (t : Table) (is : List Message) (e : Sender) (h : ℕ) → JobEnded t is e (job-end t is e h)
-unfolding job-end
-job-ended t is e h = by (isSync t (getD is (e .own - 1) noMessage .sent .channel)) refl
-  where
-    matched-end : (m : ℕ) → e .matched ≡ m → JobEnded t is e (matchedEnd e m)
-    matched-end zero z = record { own = refl; matched = refl; replies = λ x. never x; signalled = λ x. refl }
-    matched-end (suc m) z = record {
-      own = refl;
-      matched = refl;
-      replies = λ x y. (omega arith, omega arith);
-      signalled = λ x. never (sym x);
-    }
-
-    waker-end : (v : ℕ) (u : Bool) → JobEnded t is e (wakerEnd t is e v u)
-    waker-end v true = record { own = refl; matched = refl; replies = λ x. never x; signalled = λ x. refl }
-    waker-end v false = matched-end (e .matched) refl
-
-    sync-end : (v : ℕ) → JobEnded t is e (syncEnd t is e h v)
-    sync-end zero = matched-end (e .matched) refl
-    sync-end (suc v) = waker-end v (not (isConsumed (getD is v noMessage .status)) && not (eqb v h))
-
-    by : (u : Bool) → isSync t (getD is (e .own - 1) noMessage .sent .channel) ≡ u → JobEnded t is e (endsBy t is e h u)
-    by false z = record {
+job-ended t is e h =
+    job-end-by t is e h (JobEnded t is e)
+    (λ z. record {
       own = refl;
       matched = refl;
       replies = λ x y. never (sym z ∙ y);
       signalled = λ x. never (sym x);
-    }
-    by true z = sync-end (e .waker)
+    })
+    (λ s m z. record {
+      own = refl;
+      matched = refl;
+      replies = λ x y. (omega arith, omega arith);
+      signalled = λ x. never (sym x);
+    })
+    (λ s z. record { own = refl; matched = refl; replies = λ x. never x; signalled = λ x. refl })
+    (λ s v z f ne. record { own = refl; matched = refl; replies = λ x. never x; signalled = λ x. refl })
 
 -- the synchronous messages of a choice other than the subject are told
 pub in-tell : (t : Table) (is : List Message) (h n : ℕ) (ns : List ℕ) → isIn n ns ≡ true

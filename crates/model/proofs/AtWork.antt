@@ -15,6 +15,7 @@ use Rattle.model.specs.Effects.{Change, none, turn, claims, frees, consu
 use Rattle.model.specs.Effects.{signals, Turn, Effect, apply}
 use Rattle.model.specs.Jobs.{passFrom, inJob, job-end}
 use Rattle.model.specs.Steps.{restsThen}
+use Rattle.model.specs.Holdings.{Held-place, Holds, HoldsAt}
 use Rattle.model.proofs.Tests.{never}
 use Rattle.model.proofs.Words.{isRecord}
 use Rattle.model.proofs.Frame.{messages-count}
@@ -22,7 +23,7 @@ use Rattle.model.proofs.Grows.{Turns, statusBefore, Lawful, Grows, apar
 use Rattle.model.proofs.Passage.{TurnsTo, on-board, grows, step-passage}
 use Rattle.model.proofs.Phases.{turn-wakes, isResume, still, signalling}
 use Rattle.model.proofs.Local.{JobAt, PlacedAt, pass-ok, rests-ok, SenderOk, sender-on, with-state, ends-ok}
-use Rattle.model.proofs.Holding.{Held, Holds, HoldingKept, HoldsAt}
+use Rattle.model.proofs.Holding.{HoldingKept}
 use Rattle.model.proofs.Places.{inert, none-held, ends-empty}
 use Rattle.model.proofs.Notes.{NotesKept, NotesOk, woken-waits}
 use Rattle.model.proofs.Matches.{WillConsume, still-not, not-consuming}
@@ -74,18 +75,20 @@ not-waking (records m r) e f = never (ap (λ (σ : Turn). turn-wakes (turn m σ)
 not-waking (signals m) e f = never (f .0)
 
 module _ {t : Table} {b : Board} {i : ℕ} {w : Job} {p : Phase} (c : AtWork t b i w p) where
-  -- a message that the job holds, and drops
-  pub drops : (τ : Turn) → claimed ≡ statusBefore τ → (j : ℕ) → Held t (w .chord) p (length (w .chosen)) j
+  -- a message that the job holds, and one that it drops
+  pub held-claimed : (j : ℕ) → Held-place t (w .chord) p (length (w .chosen)) j
+      → messageAt b (getD (w .chosen) j 0) .status ≡ claimed
+  held-claimed j h =
+      c .inv .holding .claimed-is i _
+      (subst⁻¹ (λ (z : State). Holds t z (getD (w .chosen) j 0)) (c .state) (record {
+        place = j;
+        held = subst⁻¹ (λ (q : Phase). Held-place t (w .chord) q (length (w .chosen)) j) (c .phase) h;
+        is = refl;
+      }))
+
+  pub drops : (τ : Turn) → claimed ≡ statusBefore τ → (j : ℕ) → Held-place t (w .chord) p (length (w .chosen)) j
       → getD (w .chosen) j 0 < length (b .messages) → Turns b (getD (w .chosen) j 0) τ
-  drops τ s j h l = record {
-    on-board = l;
-    from = c .inv .holding .claimed-is i _
-        (subst⁻¹ (λ (z : State). Holds t z (getD (w .chosen) j 0)) (c .state) (record {
-          place = j;
-          held = subst⁻¹ (λ (q : Phase). Held t (w .chord) q (length (w .chosen)) j) (c .phase) h;
-          is = refl;
-        })) ∙ s;
-  }
+  drops τ s j h l = record { on-board = l; from = held-claimed j h ∙ s }
 
   -- what the job holds, by its phase
   pub from-work : (x : Change) (A : ℕ → Type 0) → HoldingKept x (HoldsAt t (w .chord) (w .chosen) p) A
@@ -262,7 +265,7 @@ module _ {t : Table} {b : Board} {i : ℕ} {w : Job} {p : Phase} (c : AtWork t b
         → s .sender ≡ job-end t (b .messages) (senderAt b i) (w .subject)
         → b′ .messages ≡ b .messages
         → inert (s .change) ≡ true
-        → ((j : ℕ) → Held t (w .chord) p (length (w .chosen)) j → ⊥)
+        → ((j : ℕ) → Held-place t (w .chord) p (length (w .chosen)) j → ⊥)
         → ((n : ℕ) → WillSignal t (senderAt b i .state) n → s .change ≡ signals n)
         → ((q : ℕ) (ns : List ℕ) → Case t b b′ i (s .change) (s .sender) q ns → isIn (w .subject) ns ≡ true → Covers
         w q → Obliged t b′ q ns)

@@ -51,6 +51,10 @@ naming-le t channel from (suc n) = go (isIn channel (chordAt t from .channels)) 
     go true e ih = rw (e, namingUpTo) (omega arith)
     go false e ih = rw (e, namingUpTo) (omega arith)
 
+pub names-le : (t : Table) (channel from : ℕ) → from ≤ naming t channel from
+unfolding naming
+names-le t channel from = naming-le t channel from (length (t .chords) - from)
+
 pub names-not : (t : Table) (channel from q : ℕ) → from ≤ q → q < naming t channel from
     → isIn channel (chordAt t q .channels) ≡ false
 unfolding naming

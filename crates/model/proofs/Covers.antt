@@ -6,7 +6,7 @@ use mathlib.Core.Bool.{Bool, true, false, not, _&&_}
 use mathlib.Core.List.{List}
 use Prim.Native.Nat.{_-_, ℕ, _≤_, _<_, zero, suc}
 use borrow.Author.Tests.{leb-true, leb-false, eq-eqb, ne-eqb}
-use lib.Dec.{ltb, leb, eqb}
+use lib.Dec.{leb, eqb}
 use lib.ListN.{length, getD}
 use native.Mathlib.Omega.{arith}
 use Rattle.model.specs.Basics.{isIn}
@@ -15,13 +15,14 @@ use Rattle.model.specs.Boards.{Board, channelOf, messageAt, Status, isPe
 use Rattle.model.specs.Boards.{pending, claimed, isOpen, Job, Phase, isConsumed, Message, Sender, noMessage}
 use Rattle.model.specs.Boards.{senderAt, working, blocked}
 use Rattle.model.specs.Effects.{Change, Turn, resumes, none, turn, records, signals}
-use Rattle.model.specs.Jobs.{startAt, passFrom, job-end, inJob, endsBy, syncEnd, wakerEnd, newPass}
+use Rattle.model.specs.Jobs.{passFrom, job-end, inJob, endsBy, syncEnd, wakerEnd, newPass}
 use Rattle.model.specs.Looks.{subjectPlace, choice, fits}
 use Rattle.model.specs.Steps.{restsThen, resumed}
-use Rattle.model.proofs.Tests.{tests, never, and, no-true}
+use Rattle.model.proofs.Tests.{never, and, no-true}
 use Rattle.model.proofs.Lists.{isIn-nth, first-in, nth-isIn}
 use Rattle.model.proofs.Pigeon.{one-left}
 use Rattle.model.proofs.Chords.{names-not}
+use Rattle.model.proofs.Jobs.{pass-by}
 use Rattle.model.proofs.Passage.{TurnsTo}
 use Rattle.model.proofs.Phases.{isResume, same-job, blocked-not}
 use Rattle.model.proofs.Local.{Full, Waits, Selection}
@@ -31,37 +32,24 @@ use Rattle.model.proofs.Obligation.{Covers, CoversAt, Case, Obliged, Ob
 use Rattle.model.proofs.Obligation.{Meets}
 
 -- a pass begun covers what lies ahead; a marked one, everything
-start-retrying : (u : Bool) (h r k q : ℕ) → Covers (startAt u h r true k) q
-start-retrying true h r k q = inl refl
-start-retrying false h r k q = refl
-
 pub covers-retrying : (t : Table) (h channel from k q : ℕ) (retry : Bool) → retry ≡ true
     → Covers (passFrom t h channel from retry k) q
-unfolding passFrom
 covers-retrying t h channel from k q retry e =
-    rw e (start-retrying (ltb (naming t channel from) (length (t .chords))) h (naming t channel from) k q)
-
-start-ahead : (u : Bool) (h r n k q : ℕ) (retry : Bool) → ltb r n ≡ u → r ≤ q → q < n → Covers (startAt u h r retry k) q
-start-ahead true h r n k q retry e l m = inr l
-start-ahead false h r n k q retry e l m = absurd (omega tests)
+    rw e (pass-by t h channel from true k (λ w. Covers w q) (λ l. inl refl) (λ l. refl))
 
 pub covers-ahead : (t : Table) (h channel from k q : ℕ) (retry : Bool) → q < length (t .chords) → from ≤ q
     → isIn channel (chordAt t q .channels) ≡ true → Covers (passFrom t h channel from retry k) q
-unfolding passFrom
 covers-ahead t h channel from k q retry l m n =
-    start-ahead _ h _ (length (t .chords)) k q retry refl (go (leb (naming t channel from) q) refl) l
+    let named = go (leb (naming t channel from) q) refl in
+    pass-by t h channel from retry k (λ w. Covers w q) (λ r. inr named) (λ r. absurd (omega (arith, named)))
   where
     go : (u : Bool) → leb (naming t channel from) q ≡ u → naming t channel from ≤ q
     go true e = leb-true _ _ e
     go false e = never (sym (names-not t channel from q m (leb-false _ _ e)) ∙ n)
 
 pub subject-of : (t : Table) (h channel from k : ℕ) (retry : Bool) → passFrom t h channel from retry k .subject ≡ h
-unfolding passFrom
-subject-of t h channel from k retry = go (ltb (naming t channel from) (length (t .chords)))
-  where
-    go : (u : Bool) → startAt u h (naming t channel from) retry k .subject ≡ h
-    go true = refl
-    go false = refl
+subject-of t h channel from k retry =
+    pass-by t h channel from retry k (λ w. w .subject ≡ h) (λ l. refl) (λ l. refl)
 
 pub rests-subject : (t : Table) (b : Board) (h k rests : ℕ) → restsThen t b h k rests .subject ≡ h
 rests-subject t b h k zero = subject-of t h _ 0 k false

@@ -1,40 +1,14 @@
 -- Claimed messages and the senders that hold them: a message is claimed exactly if one sender holds it.
 use mathlib.Core.Path.{_≡_, refl, ap, _∙_, sym, subst, subst⁻¹}
 use mathlib.Core.Logic.{_≢_, _⊎_, inl, inr}
-use mathlib.Core.List.{List}
-use Prim.Native.Nat.{ℕ, _<_, _≤_}
-use lib.ListN.{length, getD}
-use Rattle.model.specs.Tables.{Table, firstSync}
-use Rattle.model.specs.Boards.{Phase, look, claim, revert, consume, tell, wake, free, signal, pass-end, backoff}
-use Rattle.model.specs.Boards.{State, idle, working, blocked, Board, claimed, senderAt, messageAt, Sender}
+use Prim.Native.Nat.{ℕ}
+use Rattle.model.specs.Tables.{Table}
+use Rattle.model.specs.Boards.{State, Board, claimed, senderAt, messageAt, Sender}
 use Rattle.model.specs.Effects.{Change, Turn, claims, statusAfter, frees, consumes, wakes-by, resumes}
-use Rattle.model.specs.Steps.{skip}
+use Rattle.model.specs.Holdings.{Holds}
 use Rattle.model.proofs.Tests.{same?}
 use Rattle.model.proofs.Grows.{statusBefore, apart}
 use Rattle.model.proofs.Passage.{TurnsTo, After, Passage, same, turned-by}
-
--- the members of a chord that a job holds in a phase, by place, with so many chosen
-abbrev pub Held : Table → ℕ → Phase → ℕ → ℕ → Type 0
-Held t r (look k) c j = ⊥
-Held t r (claim k) c j = j < k
-Held t r (revert k m) c j = (k ≤ j) × (j < m)
-Held t r (consume k m) c j = (k ≤ j) × (j < c)
-Held t r (tell k) c j = ⊥
-Held t r wake c j = j < c
-Held t r (free k) c j = (j ≢ firstSync t r) × (skip (firstSync t r) k ≤ j) × (j < c)
-Held t r signal c j = ⊥
-Held t r pass-end c j = ⊥
-Held t r (backoff rests) c j = ⊥
-
-pub record HoldsAt (t : Table) (r : ℕ) (c : List ℕ) (p : Phase) (n : ℕ) : Type 0 where
-  pub place : ℕ
-  pub held : Held t r p (length c) place
-  pub is : getD c place 0 ≡ n
-
-abbrev pub Holds : Table → State → ℕ → Type 0
-Holds t idle n = ⊥
-Holds t (working w) n = HoldsAt t (w .chord) (w .chosen) (w .phase) n
-Holds t blocked n = ⊥
 
 pub record Holding (t : Table) (b : Board) : Type 0 where
   pub claimed-is : (i n : ℕ) → Holds t (senderAt b i .state) n → messageAt b n .status ≡ claimed

@@ -8,13 +8,14 @@ use native.Mathlib.Omega.{arith}
 use Rattle.model.specs.Tables.{Table}
 use Rattle.model.specs.Boards.{Board, Sender, senderAt, Match}
 use Rattle.model.specs.Effects.{Change, Effect, records, valueOf, apply}
+use Rattle.model.specs.Holdings.{Holds}
 use Rattle.model.proofs.Tests.{never}
 use Rattle.model.proofs.Words.{isRecord}
 use Rattle.model.proofs.Frame.{senders-count, messages-count}
 use Rattle.model.proofs.Grows.{Lawful}
 use Rattle.model.proofs.Passage.{Passage, step-passage}
 use Rattle.model.proofs.Local.{SenderOk, locals-after, Full}
-use Rattle.model.proofs.Holding.{Holding, HoldingKept, Holds, holding-after}
+use Rattle.model.proofs.Holding.{Holding, HoldingKept, holding-after}
 use Rattle.model.proofs.Notes.{NotesOk, NotesKept, notes-after}
 use Rattle.model.proofs.Ranges.{Ranges, RangesKept, ranges-after}
 use Rattle.model.proofs.Matches.{MatchesOk, MatchesKept, matches-after}

@@ -7,7 +7,9 @@ pub mod Written
 pub mod Survive
 pub mod TableLaws
 pub mod Pigeon
+pub mod Backoffs
 pub mod Chords
+pub mod Jobs
 pub mod Words
 pub mod Numbers
 pub mod Frame

@@ -1,26 +1,25 @@
 -- What is true of one sender by itself, whatever the others do: stable under Grows.
 use mathlib.Core.Path.{_≡_, refl, _∙_, sym, subst⁻¹}
 use mathlib.Core.Logic.{_⊎_, inr, _≢_, inl}
-use mathlib.Core.Bool.{true, false, Bool, not, _&&_}
+use mathlib.Core.Bool.{true, false, Bool}
 use mathlib.Core.List.{List, [], _∷_}
 use Prim.Native.Nat.{ℕ, _-_, _<_, _≤_, suc, zero}
-use borrow.Author.Tests.{ltb-true}
-use lib.Dec.{ltb, eqb}
 use lib.ListN.{length, getD}
 use native.Mathlib.Omega.{arith}
 use Rattle.model.specs.Basics.{isIn}
 use Rattle.model.specs.Tables.{Table, chordAt, channelAt, size, wakes, isSync, naming}
 use Rattle.model.specs.Boards.{Board, messageAt, wake, matchAt, consumed, consume, Phase, look, claim, revert}
 use Rattle.model.specs.Boards.{tell, free, signal, pass-end, backoff, Job, State, idle, working, blocked}
-use Rattle.model.specs.Boards.{Sender, channelOf, isConsumed, senderAt}
+use Rattle.model.specs.Boards.{Sender, channelOf, senderAt}
 use Rattle.model.specs.Effects.{Change}
-use Rattle.model.specs.Jobs.{startAt, passFrom, goesIdle, matchedEnd, wakerEnd, syncEnd, endsBy, job-end}
+use Rattle.model.specs.Jobs.{passFrom, goesIdle, job-end}
 use Rattle.model.specs.Looks.{alike, subjectPlace}
 use Rattle.model.specs.Steps.{toTell, restsThen}
 use Rattle.model.specs.Demands.{Same-but-signal}
 use Rattle.model.proofs.Tests.{same?}
 use Rattle.model.proofs.Lists.{isIn-nth}
 use Rattle.model.proofs.Chords.{names-yes}
+use Rattle.model.proofs.Jobs.{pass-by, job-end-by}
 use Rattle.model.proofs.Grows.{Grows}
 use Rattle.model.proofs.Passage.{Passage, grows}
 
@@ -194,20 +193,21 @@ module _ (t : Table) (b b′ : Board) (g : Grows b b′) where
   }
 
 -- a pass begun
-start-ok : (t : Table) (b : Board) (o v h r k : ℕ) (retry : Bool) (u : Bool) → h < length (b .messages)
-    → (suc h ≡ o) ⊎ (suc h ≡ v) → ltb r (length (t .chords)) ≡ u
-    → (r < length (t .chords) → isIn (messageAt b h .sent .channel) (chordAt t r .channels) ≡ true)
-    → JobAt t b o v (startAt u h r retry k) (startAt u h r retry k .phase)
-start-ok t b o v h r k retry true l i e n =
-    let r-in = ltb-true r _ e in
-    let named = isIn-nth (messageAt b h .sent .channel) (chordAt t r .channels) (n r-in) in
+pub pass-ok : (t : Table) (b : Board) (o v h from k : ℕ) (retry : Bool) → h < length (b .messages)
+    → (suc h ≡ o) ⊎ (suc h ≡ v)
+    → JobAt t b o v (passFrom t h (channelOf b h) from retry k) (passFrom t h (channelOf b h) from retry k .phase)
+pass-ok t b o v h from k retry l i =
+    pass-by t h (channelOf b h) from retry k (λ w. JobAt t b o v w (w .phase))
+    (λ r-in.
+    let n = names-yes t (channelOf b h) from r-in in
+    let named = isIn-nth (channelOf b h) (chordAt t (naming t (channelOf b h) from) .channels) n in
     record {
       subject-in = l;
       subject-is = i;
       placed = (
         record {
           chord-in = r-in;
-          names = n r-in;
+          names = n;
           inside = λ j q. absurd (omega arith);
           kinds = λ j q. absurd (omega arith);
           props = λ j q. absurd (omega arith);
@@ -217,16 +217,8 @@ start-ok t b o v h r k retry true l i e n =
         refl,
         omega (arith, named .1),
       );
-    }
-start-ok t b o v h r k retry false l i e n = record { subject-in = l; subject-is = i; placed = refl }
-
-pub pass-ok : (t : Table) (b : Board) (o v h from k : ℕ) (retry : Bool) → h < length (b .messages)
-    → (suc h ≡ o) ⊎ (suc h ≡ v)
-    → JobAt t b o v (passFrom t h (channelOf b h) from retry k) (passFrom t h (channelOf b h) from retry k .phase)
-unfolding passFrom
-pass-ok t b o v h from k retry l i =
-    start-ok t b o v h (naming t (messageAt b h .sent .channel) from) k retry _ l i refl
-    (names-yes t (messageAt b h .sent .channel) from)
+    })
+    (λ r-out. record { subject-in = l; subject-is = i; placed = refl })
 
 pub rests-ok : (t : Table) (b : Board) (o v h k rests : ℕ) → h < length (b .messages) → (suc h ≡ o) ⊎ (suc h ≡ v)
     → JobAt t b o v (restsThen t b h k rests) (restsThen t b h k rests .phase)
@@ -260,28 +252,14 @@ module _ (t : Table) (b : Board) (d : Sender) (h : ℕ) (q : SenderOk t b d) (so
     state-is = tt;
   }
 
-  matched-ok : (m : ℕ) → d .matched ≡ m → Waits t b (d .own) → SenderOk t b (matchedEnd d m)
-  matched-ok zero e w = with-state t b d blocked (d .signalled) q (some, w, e)
-  matched-ok (suc m) e w = idle-ok (suc m) (λ k f. let r = q .matched-is k (e ∙ f) in (r .0, w, r .2, r .3))
-
-  waker-ok : (v : ℕ) (u : Bool) → d .waker ≡ suc v → Waits t b (d .own) → SenderOk t b (wakerEnd t (b .messages) d v u)
-  waker-ok v true e w =
-      with-state t b d _ (d .signalled) q
-      (some, pass-ok t b (d .own) (d .waker) v 0 0 false (q .waker-is v e .0) (inr (sym e)))
-  waker-ok v false e w = matched-ok (d .matched) refl w
-
-  sync-ok : (v : ℕ) → d .waker ≡ v → Waits t b (d .own) → SenderOk t b (syncEnd t (b .messages) d h v)
-  sync-ok zero e w = matched-ok (d .matched) refl w
-  sync-ok (suc v) e w = waker-ok v (not (isConsumed (messageAt b v .status)) && not (eqb v h)) e w
-
-  by-ok : (u : Bool) → isSync t (messageAt b (d .own - 1) .sent .channel) ≡ u
-      → SenderOk t b (endsBy t (b .messages) d h u)
-  by-ok false e = idle-ok 0 (λ k f. absurd (omega arith))
-  by-ok true e = sync-ok (d .waker) refl e
-
   pub ends-ok : SenderOk t b (job-end t (b .messages) d h)
-  unfolding job-end
-  ends-ok = by-ok (isSync t (messageAt b (d .own - 1) .sent .channel)) refl
+  ends-ok =
+      job-end-by t (b .messages) d h (SenderOk t b) (λ s. idle-ok 0 (λ k f. absurd (omega arith)))
+      (λ s m e. idle-ok (suc m) (λ k f. let r = q .matched-is k (e ∙ f) in (r .0, s, r .2, r .3)))
+      (λ s e. with-state t b d blocked (d .signalled) q (some, s, e))
+      (λ s v e f ne.
+      with-state t b d _ (d .signalled) q
+      (some, pass-ok t b (d .own) (d .waker) v 0 0 false (q .waker-is v e .0) (inr (sym e))))
 
 -- a signal does not matter, so all senders are in order after a call if the caller is
 like-ok : (t : Table) (b : Board) (d e : Sender) → Same-but-signal d e → SenderOk t b d → SenderOk t b e

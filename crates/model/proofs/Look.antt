@@ -16,11 +16,11 @@ use Rattle.model.specs.Effects.{none, Effect, apply}
 use Rattle.model.specs.Jobs.{nextChord}
 use Rattle.model.specs.Looks.{choice, missedRetry}
 use Rattle.model.specs.Steps.{lookedBy, look-step}
+use Rattle.model.specs.Holdings.{HoldsAt}
 use Rattle.model.proofs.Tests.{tests, neither, same?}
 use Rattle.model.proofs.Frame.{messages-at}
 use Rattle.model.proofs.Local.{Placed, PlacedAt, Selection}
 use Rattle.model.proofs.Choice.{chose-selection, chosen-fresh, choice-some, none-claimed}
-use Rattle.model.proofs.Holding.{HoldsAt}
 use Rattle.model.proofs.Places.{none-held, pass-empty}
 use Rattle.model.proofs.Obligation.{CoversAt, Covers, Case, Obliged, by-woken, Meets}
 use Rattle.model.proofs.Covers.{covered, live, covers-retrying, missed-at, status-left, and-false}

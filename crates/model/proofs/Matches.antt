@@ -10,13 +10,14 @@ use Rattle.model.specs.Tables.{Table}
 use Rattle.model.specs.Boards.{Job, consume, State, idle, working, blocked, Board, matchAt, Match, messageAt}
 use Rattle.model.specs.Boards.{consumed, senderAt, Sender, Phase, claim, pending}
 use Rattle.model.specs.Effects.{Change, records}
+use Rattle.model.specs.Holdings.{Holds, Held-place}
 use Rattle.model.proofs.Tests.{same?, never}
 use Rattle.model.proofs.Lists.{isIn-nth}
 use Rattle.model.proofs.Words.{isRecord}
 use Rattle.model.proofs.Grows.{apart}
 use Rattle.model.proofs.Passage.{on-board, Passage, grows, match-is, MatchIs, old-match, new-match}
 use Rattle.model.proofs.Phases.{still}
-use Rattle.model.proofs.Holding.{Holds, Held, Holding}
+use Rattle.model.proofs.Holding.{Holding}
 
 -- the sender will consume message n, of the match it is consuming
 pub record WillConsumeIn (w : Job) (n : ℕ) : Type 0 where
@@ -125,7 +126,7 @@ pub consume-holds : (t : Table) (s : State) (n : ℕ) → WillConsume s n → Ho
 consume-holds t idle n x = x
 consume-holds t (working w) n x = record {
   place = x .place;
-  held = subst⁻¹ (λ (p : Phase). Held t (w .chord) p (length (w .chosen)) (x .place)) (x .ph) (x .low, x .high);
+  held = subst⁻¹ (λ (p : Phase). Held-place t (w .chord) p (length (w .chosen)) (x .place)) (x .ph) (x .low, x .high);
   is = x .is;
 }
 consume-holds t blocked n x = x
@@ -143,7 +144,7 @@ fresh-match t b i w k st ph full pend hold ok n e j l = go (isIn n (matchAt b j 
         (ap (λ (x : ℕ). getD (w .chosen) x 0) (sym f) ∙ z)) ∙ pend)
     status q h z (inr f) = inr (subst⁻¹ (λ (x : State). Holds t x n) st (record {
       place = q;
-      held = subst⁻¹ (λ (x : Phase). Held t (w .chord) x (length (w .chosen)) q) ph (omega arith);
+      held = subst⁻¹ (λ (x : Phase). Held-place t (w .chord) x (length (w .chosen)) q) ph (omega arith);
       is = z;
     }))
 

@@ -4,24 +4,24 @@ use mathlib.Core.Path.{_≡_, ap, _∙_, subst⁻¹, refl}
 use mathlib.Core.Bool.{false, Bool, true, not, _&&_}
 use mathlib.Core.List.{[], List, _∷_}
 use Prim.Native.Nat.{_-_, ℕ, zero, suc}
-use borrow.Author.Tests.{le-ltb}
-use lib.Dec.{ltb, eqb, leb}
+use lib.Dec.{eqb, leb}
 use lib.ListN.{length, getD, set, replicate}
 use native.Mathlib.Omega.{arith}
 use Rattle.model.specs.Basics.{every}
-use Rattle.model.specs.Tables.{Table, Chord, naming, isSync}
+use Rattle.model.specs.Tables.{Table}
 use Rattle.model.specs.Layout.{countR, tableOf, chordsFrom, chordBytes, memberBytes}
 use Rattle.model.specs.Boards.{Phase, pass-end, backoff, State, idle, working, blocked, Board, Sender, Message}
-use Rattle.model.specs.Boards.{isConsumed, noMessage, Job, backoffAt, isOpen, messageAt, Status, pending}
+use Rattle.model.specs.Boards.{Job, backoffAt, isOpen, messageAt, Status, pending}
 use Rattle.model.specs.Boards.{claimed, woken, consumed, senderAt, idleSender, emptyBoard}
 use Rattle.model.specs.Effects.{Effect, Outcome, refused, does, apply, wordOf}
-use Rattle.model.specs.Jobs.{passFrom, startAt, matchedEnd, wakerEnd, syncEnd, job-end, endsBy}
+use Rattle.model.specs.Jobs.{passFrom, job-end}
 use Rattle.model.specs.Steps.{restsThen, passEndBy, more, job-step, pass-end-step, backoff-step, resumeBy}
 use Rattle.model.specs.Steps.{stepBy, resume-step, blockedStep, stateStep, senderStep}
 use Rattle.model.specs.Adds.{added, addRefusal}
 use Rattle.model.specs.Pools.{Call, answerTo, adds, addAnswer, steps, stepAnswer, afterAll, history}
 use Rattle.model.specs.Demands.{boardAfter}
 use Rattle.model.proofs.Tests.{and}
+use Rattle.model.proofs.Jobs.{pass-by, job-end-by}
 use Rattle.model.proofs.Words.{isRecord, step-speaks, OutcomeSpeaks}
 use Rattle.model.proofs.Frame.{matches-kept}
 use Rattle.model.proofs.StepFrame.{but-signals}
@@ -45,39 +45,19 @@ MatchlessBy (refused f) = Unit {0}
 MatchlessBy (does e) = Matchless e
 
 module _ (t : Table) (chordless : t .chords ≡ []) where
-  past-all : (r : ℕ) → ltb r (length (t .chords)) ≡ false
-  past-all r = ap (λ (cs : List Chord). ltb r (length cs)) chordless ∙ le-ltb r 0 (omega arith)
-
   pass-none : (h channel from : ℕ) (retry : Bool) (k : ℕ) → OffPhase (passFrom t h channel from retry k .phase)
-  unfolding passFrom
   pass-none h channel from retry k =
-      let r = naming t channel from in
-      subst⁻¹ (λ (u : Bool). OffPhase (startAt u h r retry k .phase)) (past-all r) at-end
+      pass-by t h channel from retry k (λ w. OffPhase (w .phase))
+      (λ l. absurd (omega (arith, l, ap length chordless))) (λ l. at-end)
 
   rests-none : (b : Board) (h k rests : ℕ) → OffPhase (restsThen t b h k rests .phase)
   rests-none b h k zero = pass-none _ _ _ _ _
   rests-none b h k (suc rests) = at-rest rests
 
-  -- a job's end
-  matched-none : (d : Sender) (m : ℕ) → OffState (matchedEnd d m .state)
-  matched-none d zero = tt
-  matched-none d (suc m) = tt
-
-  waker-none : (is : List Message) (d : Sender) (v : ℕ) (takes : Bool) → OffState (wakerEnd t is d v takes .state)
-  waker-none is d v true = pass-none _ _ _ _ _
-  waker-none is d v false = matched-none d (d .matched)
-
-  sync-none : (is : List Message) (d : Sender) (h waker : ℕ) → OffState (syncEnd t is d h waker .state)
-  sync-none is d h zero = matched-none d (d .matched)
-  sync-none is d h (suc v) = waker-none is d v (not (isConsumed (getD is v noMessage .status)) && not (eqb v h))
-
   end-none : (is : List Message) (d : Sender) (h : ℕ) → OffState (job-end t is d h .state)
-  unfolding job-end
-  end-none is d h = go (isSync t (getD is (d .own - 1) noMessage .sent .channel))
-    where
-      go : (sync : Bool) → OffState (endsBy t is d h sync .state)
-      go false = tt
-      go true = sync-none is d h (d .waker)
+  end-none is d h =
+      job-end-by t is d h (λ e. OffState (e .state)) (λ s. tt) (λ s m e. tt) (λ s e. tt)
+      (λ s v e f ne. pass-none _ _ _ _ _)
 
   -- the two steps of a job off the chords, and a blocked sender's step
   pass-end-none : (b : Board) (d : Sender) (w : Job) (again : Bool) → Matchless (passEndBy t b d w again)

@@ -87,7 +87,7 @@ pub record Case (t : Table) (b b′ : Board) (i : ℕ) (c : Change) (d : Sender)
 pub unmatched-before : (b b′ : Board) → Grows b b′ → (n : ℕ) → Unmatched b′ n → Unmatched b n
 unmatched-before b b′ g n u k l = rw (g .matches-same k l) at (u k (omega (arith, g .matches-more)))
 
-meets-before : (t : Table) (b b′ : Board) → Grows b b′ → (r : ℕ) (ns : List ℕ)
+pub meets-before : (t : Table) (b b′ : Board) → Grows b b′ → (r : ℕ) (ns : List ℕ)
     → ((j : ℕ) → j < length ns → getD ns j 0 < length (b .messages)) → Meets t b′ r ns → Meets t b r ns
 meets-before t b b′ g r ns ins m = record {
   chord-in = m .chord-in;

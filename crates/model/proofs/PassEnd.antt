@@ -12,8 +12,8 @@ use Rattle.model.specs.Boards.{woken, consumed}
 use Rattle.model.specs.Effects.{Said, none, apply, messagesAfter, Again, Rested}
 use Rattle.model.specs.Jobs.{inJob}
 use Rattle.model.specs.Steps.{restsThen, passEndBy, more, pass-end-step, backoff-step}
+use Rattle.model.specs.Holdings.{Held-place}
 use Rattle.model.proofs.Phases.{still, signalling}
-use Rattle.model.proofs.Holding.{Held}
 use Rattle.model.proofs.Places.{none-held, rests-empty}
 use Rattle.model.proofs.Obligation.{Case, Obliged, by-woken}
 use Rattle.model.proofs.Covers.{rests-subject, rests-cover, names-it, shut, and-false, covered, live}
@@ -23,7 +23,7 @@ use Rattle.model.proofs.AtWork.{AtWork, job-goes-on, rests-at, job-ends
 module _ {t : Table} {b : Board} {i : ℕ} {w : Job} {p : Phase} (c : AtWork t b i w p) where
   -- rests and then a new pass see to every chord that names the subject
   rests-owe : (said : Said) (k rests : ℕ) → still p ≡ true → signalling p ≡ false
-      → ((j : ℕ) → Held t (w .chord) p (length (w .chosen)) j → ⊥)
+      → ((j : ℕ) → Held-place t (w .chord) p (length (w .chosen)) j → ⊥)
       → StepOwes t b i
       (record { said = said; change = none; sender = inJob (senderAt b i) (restsThen t b (w .subject) k rests) })
   rests-owe said k rests st sg e =

@@ -1,21 +1,22 @@
 -- Holdings by place: a step keeps the places that its job holds, takes one, drops one, or drops the last.
 use mathlib.Core.Path.{_≡_, ap, sym, refl, _∙_}
 use mathlib.Core.Logic.{inl, _≢_, _⊎_, inr}
-use mathlib.Core.Bool.{Bool, true, false, not, _&&_}
+use mathlib.Core.Bool.{Bool, true, false}
 use mathlib.Core.List.{List}
 use Prim.Native.Nat.{_-_, ℕ, zero, suc}
-use lib.Dec.{ltb, eqb}
 use lib.ListN.{length, getD}
-use Rattle.model.specs.Tables.{Table, naming, isSync}
-use Rattle.model.specs.Boards.{woken, Phase, working, Board, Sender, Message, isConsumed, noMessage}
+use Rattle.model.specs.Tables.{Table}
+use Rattle.model.specs.Boards.{woken, Phase, working, Board, Sender, Message}
 use Rattle.model.specs.Effects.{Change, none, turn, claims, frees, consumes, wakes-by, resumes, records}
 use Rattle.model.specs.Effects.{signals, Turn}
-use Rattle.model.specs.Jobs.{startAt, passFrom, matchedEnd, wakerEnd, syncEnd, endsBy, job-end}
+use Rattle.model.specs.Jobs.{passFrom, job-end}
 use Rattle.model.specs.Steps.{restsThen}
+use Rattle.model.specs.Holdings.{Held-place, HoldsAt, Holds}
 use Rattle.model.proofs.Tests.{never, same?}
+use Rattle.model.proofs.Jobs.{pass-by, job-end-by}
 use Rattle.model.proofs.Grows.{statusBefore, apart}
 use Rattle.model.proofs.Passage.{TurnsTo}
-use Rattle.model.proofs.Holding.{HoldingKept, Drops, Held, HoldsAt, Holds, Takes}
+use Rattle.model.proofs.Holding.{HoldingKept, Drops, Takes}
 
 -- neither takes nor drops
 abbrev pub inert : Change → Bool
@@ -57,8 +58,8 @@ none-held c A A′ e f g = same-hold c A A′ e (λ n x. absurd (g n x)) (λ n x
 
 module _ (t : Table) (r : ℕ) (ch : List ℕ) (p p′ : Phase) where
   pub keep-places : (c : Change) → inert c ≡ true
-      → ((j : ℕ) → Held t r p′ (length ch) j → Held t r p (length ch) j)
-      → ((j : ℕ) → Held t r p (length ch) j → Held t r p′ (length ch) j)
+      → ((j : ℕ) → Held-place t r p′ (length ch) j → Held-place t r p (length ch) j)
+      → ((j : ℕ) → Held-place t r p (length ch) j → Held-place t r p′ (length ch) j)
       → HoldingKept c (HoldsAt t r ch p) (HoldsAt t r ch p′)
   keep-places c e f g = same-hold c (HoldsAt t r ch p) (HoldsAt t r ch p′) e
       (λ n x. record { place = x .place; held = f (x .place) (x .held); is = x .is })
@@ -66,9 +67,9 @@ module _ (t : Table) (r : ℕ) (ch : List ℕ) (p p′ : Phase) where
 
   -- place k is taken
   pub take-place : (c : Change) (k : ℕ) → Takes c (getD ch k 0)
-      → Held t r p′ (length ch) k
-      → ((j : ℕ) → Held t r p′ (length ch) j → j ≢ k → Held t r p (length ch) j)
-      → ((j : ℕ) → Held t r p (length ch) j → Held t r p′ (length ch) j)
+      → Held-place t r p′ (length ch) k
+      → ((j : ℕ) → Held-place t r p′ (length ch) j → j ≢ k → Held-place t r p (length ch) j)
+      → ((j : ℕ) → Held-place t r p (length ch) j → Held-place t r p′ (length ch) j)
       → HoldingKept c (HoldsAt t r ch p) (HoldsAt t r ch p′)
   take-place c k tk hk f g = record {
     held-before = λ n x. before n (x .place) (x .held) (x .is) (same? (x .place) k);
@@ -81,17 +82,17 @@ module _ (t : Table) (r : ℕ) (ch : List ℕ) (p p′ : Phase) where
       no-drop : {n : ℕ} → Drops c n → ⊥
       no-drop x = apart refl (ap statusBefore (sym (tk .2) ∙ x .1 .2) ∙ x .2)
 
-      before : (n j : ℕ) → Held t r p′ (length ch) j → getD ch j 0 ≡ n → (j ≡ k) ⊎ (j ≢ k)
+      before : (n j : ℕ) → Held-place t r p′ (length ch) j → getD ch j 0 ≡ n → (j ≡ k) ⊎ (j ≢ k)
           → HoldsAt t r ch p n ⊎ Takes c n
       before n j x e (inl q) = inr (tk .0, tk .1 ∙ ap (λ (y : ℕ). getD ch y 0) (sym q) ∙ e, tk .2)
       before n j x e (inr q) = inl (record { place = j; held = f j x q; is = e })
 
   -- place k is dropped; the places hold distinct messages
   pub drop-place : (c : Change) (k : ℕ) → Drops c (getD ch k 0)
-      → Held t r p (length ch) k
-      → ((j : ℕ) → Held t r p′ (length ch) j → Held t r p (length ch) j × (j ≢ k))
-      → ((j : ℕ) → Held t r p (length ch) j → j ≢ k → Held t r p′ (length ch) j)
-      → ((j : ℕ) → Held t r p (length ch) j → getD ch j 0 ≡ getD ch k 0 → j ≡ k)
+      → Held-place t r p (length ch) k
+      → ((j : ℕ) → Held-place t r p′ (length ch) j → Held-place t r p (length ch) j × (j ≢ k))
+      → ((j : ℕ) → Held-place t r p (length ch) j → j ≢ k → Held-place t r p′ (length ch) j)
+      → ((j : ℕ) → Held-place t r p (length ch) j → getD ch j 0 ≡ getD ch k 0 → j ≡ k)
       → HoldingKept c (HoldsAt t r ch p) (HoldsAt t r ch p′)
   drop-place c k dr hk f g one = record {
     held-before = λ n x. inl (record { place = x .place; held = f (x .place) (x .held) .0; is = x .is });
@@ -102,7 +103,7 @@ module _ (t : Table) (r : ℕ) (ch : List ℕ) (p p′ : Phase) where
         z .1 (one (y .place) (z .0) (y .is ∙ sym (x .1 .1) ∙ dr .1 .1));
   }
     where
-      later : (n j : ℕ) → Held t r p (length ch) j → getD ch j 0 ≡ n → (j ≡ k) ⊎ (j ≢ k)
+      later : (n j : ℕ) → Held-place t r p (length ch) j → getD ch j 0 ≡ n → (j ≡ k) ⊎ (j ≢ k)
           → HoldsAt t r ch p′ n ⊎ Drops c n
       later n j x e (inl q) =
           inr (dr .0, (dr .1 .0, dr .1 .1 ∙ ap (λ (y : ℕ). getD ch y 0) (sym q) ∙ e, dr .1 .2), dr .2)
@@ -111,8 +112,8 @@ module _ (t : Table) (r : ℕ) (ch : List ℕ) (p p′ : Phase) where
 -- the one place held is dropped, and nothing is held after
 pub last-drop : (t : Table) (r : ℕ) (ch : List ℕ) (p : Phase) (A′ : ℕ → Type 0) (c : Change) (k : ℕ)
     → Drops c (getD ch k 0)
-    → Held t r p (length ch) k
-    → ((j : ℕ) → Held t r p (length ch) j → j ≡ k)
+    → Held-place t r p (length ch) k
+    → ((j : ℕ) → Held-place t r p (length ch) j → j ≡ k)
     → ((n : ℕ) → A′ n → ⊥)
     → HoldingKept c (HoldsAt t r ch p) A′
 last-drop t r ch p A′ c k dr hk f g = record {
@@ -133,37 +134,16 @@ last-drop t r ch p A′ c k dr hk f g = record {
 
 -- jobs and states that hold nothing
 module _ (t : Table) where
-  start-empty : (u : Bool) (h r k : ℕ) (retry : Bool) (n : ℕ) → Holds t (working (startAt u h r retry k)) n → ⊥
-  start-empty true h r k retry n x = x .held
-  start-empty false h r k retry n x = x .held
-
   pub pass-empty : (h channel from k : ℕ) (retry : Bool) (n : ℕ)
       → Holds t (working (passFrom t h channel from retry k)) n → ⊥
-  unfolding passFrom
-  pass-empty h channel from k retry n x =
-      start-empty (ltb (naming t channel from) (length (t .chords))) h (naming t channel from) k retry n x
+  pass-empty h channel from k retry n =
+      pass-by t h channel from retry k (λ w. Holds t (working w) n → ⊥) (λ l x. x .held) (λ l x. x .held)
 
   pub rests-empty : (b : Board) (h k rests n : ℕ) → Holds t (working (restsThen t b h k rests)) n → ⊥
   rests-empty b h k zero n x = pass-empty h _ 0 k false n x
   rests-empty b h k (suc rests) n x = x .held
 
-  matched-empty : (d : Sender) (m n : ℕ) → Holds t (matchedEnd d m .state) n → ⊥
-  matched-empty d zero n x = x
-  matched-empty d (suc m) n x = x
-
-  waker-empty : (is : List Message) (d : Sender) (v n : ℕ) (u : Bool) → Holds t (wakerEnd t is d v u .state) n → ⊥
-  waker-empty is d v n true x = pass-empty v _ 0 0 false n x
-  waker-empty is d v n false x = matched-empty d (d .matched) n x
-
-  sync-empty : (is : List Message) (d : Sender) (h v n : ℕ) → Holds t (syncEnd t is d h v .state) n → ⊥
-  sync-empty is d h zero n x = matched-empty d (d .matched) n x
-  sync-empty is d h (suc v) n x =
-      waker-empty is d v n (not (isConsumed (getD is v noMessage .status)) && not (eqb v h)) x
-
-  by-empty : (is : List Message) (d : Sender) (h n : ℕ) (u : Bool) → Holds t (endsBy t is d h u .state) n → ⊥
-  by-empty is d h n false x = x
-  by-empty is d h n true x = sync-empty is d h (d .waker) n x
-
   pub ends-empty : (is : List Message) (d : Sender) (h n : ℕ) → Holds t (job-end t is d h .state) n → ⊥
-  unfolding job-end
-  ends-empty is d h n x = by-empty is d h n (isSync t (getD is (d .own - 1) noMessage .sent .channel)) x
+  ends-empty is d h n =
+      job-end-by t is d h (λ e. Holds t (e .state) n → ⊥) (λ s x. x) (λ s m e x. x) (λ s e x. x)
+      (λ s v e f ne x. pass-empty v _ 0 0 false n x)

@@ -11,12 +11,12 @@ use Rattle.model.specs.Basics.{every, isIn}
 use Rattle.model.specs.Tables.{Table}
 use Rattle.model.specs.Boards.{Sender, idleSender, idle, Board, Job, senderAt, working, State, woken, messageAt}
 use Rattle.model.specs.Boards.{blocked, isIdle, claimed, pending, consumed, Status, matchAt}
+use Rattle.model.specs.Holdings.{Holds}
 use Rattle.model.specs.Pools.{canStep, quiet}
 use Rattle.model.proofs.Tests.{both, never}
 use Rattle.model.proofs.Grows.{apart}
 use Rattle.model.proofs.Passage.{on-board}
 use Rattle.model.proofs.Local.{StateOk}
-use Rattle.model.proofs.Holding.{Holds}
 use Rattle.model.proofs.Notes.{woken-waits}
 use Rattle.model.proofs.Matches.{WillConsume, Unmatched}
 use Rattle.model.proofs.Owners.{WillSignal}

@@ -26,7 +26,7 @@ not-done : {e : Effect} → does e ≢ refused 13
 not-done q = never (ap isRefused q)
 
 module _ (t : Table) (b : Board) (d : Sender) where
-  still-refused : (s : State) → canStep s (d .signalled) ≡ false → stateStep t b d s ≡ refused 13
+  pub still-refused : (s : State) → canStep s (d .signalled) ≡ false → stateStep t b d s ≡ refused 13
   still-refused idle e = refl
   still-refused (working w) e = never (sym e)
   still-refused blocked e = ap (blockedStep t b d) e
@@ -40,7 +40,8 @@ module _ (t : Table) (b : Board) (d : Sender) where
       by-signal true q = absurd (not-done q)
       by-signal false q = refl
 
-under-32 : (t : Table) (b : Board) (i : ℕ) → i < 32 → stepBy t b i ≡ stateStep t b (senderAt b i) (senderAt b i .state)
+pub under-32 : (t : Table) (b : Board) (i : ℕ) → i < 32
+    → stepBy t b i ≡ stateStep t b (senderAt b i) (senderAt b i .state)
 unfolding stepBy
 under-32 t b i h = ap (senderStep t b i) (lt-leb 32 i h)
 

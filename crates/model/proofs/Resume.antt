@@ -14,6 +14,7 @@ use Rattle.model.specs.Boards.{Status, matchAt, pending, claimed}
 use Rattle.model.specs.Effects.{Effect, apply, resumes}
 use Rattle.model.specs.Jobs.{newPass}
 use Rattle.model.specs.Steps.{staysBlocked, resumeBy, resumed, resume-step}
+use Rattle.model.specs.Holdings.{Holds}
 use Rattle.model.proofs.Tests.{never}
 use Rattle.model.proofs.Words.{isRecord}
 use Rattle.model.proofs.Frame.{messages-count, messageAfter, messages-at}
@@ -21,7 +22,7 @@ use Rattle.model.proofs.Grows.{Lawful, apart, Turns}
 use Rattle.model.proofs.Passage.{grows, step-passage, TurnsTo}
 use Rattle.model.proofs.Phases.{turn-wakes, blocked-not}
 use Rattle.model.proofs.Local.{SenderOk, Waits, StateOk, sender-on, with-state, pass-ok}
-use Rattle.model.proofs.Holding.{Holds, HoldingKept}
+use Rattle.model.proofs.Holding.{HoldingKept}
 use Rattle.model.proofs.Places.{inert, none-held, pass-empty}
 use Rattle.model.proofs.Notes.{NotesKept}
 use Rattle.model.proofs.Matches.{not-consuming, WillConsume}

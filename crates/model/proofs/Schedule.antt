@@ -11,6 +11,7 @@ use Rattle.model.specs.Tables.{Table}
 use Rattle.model.specs.Boards.{senderAt, emptyBoard, Board, idleSender, Sender}
 use Rattle.model.specs.Effects.{Outcome, refused, does}
 use Rattle.model.specs.Steps.{stepBy}
+use Rattle.model.specs.Holdings.{Holds}
 use Rattle.model.specs.Adds.{addRefusal}
 use Rattle.model.specs.Sound.{owns}
 use Rattle.model.specs.Pools.{Pool, emptyPool, Call, answerTo, adds, addAnswer, steps, stepAnswer, played}
@@ -23,7 +24,6 @@ use Rattle.model.proofs.Words.{step-speaks, OutcomeSpeaks}
 use Rattle.model.proofs.Grows.{apart, Grows, grows-refl, grows-trans}
 use Rattle.model.proofs.Passage.{waker-on-board, grows, step-passage}
 use Rattle.model.proofs.Local.{SenderOk}
-use Rattle.model.proofs.Holding.{Holds}
 use Rattle.model.proofs.Invariant.{Inv, call-keeps, step-call}
 use Rattle.model.proofs.StepBy.{step-owes, OutcomeOwes}
 use Rattle.model.proofs.PoolMeets.{PoolOk}
@@ -31,7 +31,7 @@ use Rattle.model.proofs.PoolRun.{pool-entered, step-pool}
 use Rattle.model.proofs.Adds as A
 
 -- the empty board, and the empty pool beside it
-all-idle : (rests : List ℕ) (i : ℕ) → senderAt (emptyBoard rests) i ≡ idleSender
+pub all-idle : (rests : List ℕ) (i : ℕ) → senderAt (emptyBoard rests) i ≡ idleSender
 all-idle rests i = go (ltb i 32) refl
   where
     go : (u : Bool) → ltb i 32 ≡ u → getD (replicate 32 idleSender) i idleSender ≡ idleSender
@@ -40,7 +40,7 @@ all-idle rests i = go (ltb i 32) refl
         List·getD-eq-default (replicate 32 idleSender) idleSender {n = i}
         (omega (arith, ltb-false i 32 e, length-replicate 32 idleSender))
 
-empty-inv : (t : Table) (rests : List ℕ) → TableOk t → Inv t (emptyBoard rests)
+pub empty-inv : (t : Table) (rests : List ℕ) → TableOk t → Inv t (emptyBoard rests)
 empty-inv t rests tok = record {
   senders = length-replicate 32 idleSender;
   locals = λ i. subst⁻¹ (SenderOk t (emptyBoard rests)) (all-idle rests i) (record {

@@ -2,20 +2,20 @@
 -- Nothing is asked of statuses, notes or other senders, so it holds where no schedule leads.
 use mathlib.Core.Path.{_≡_, refl, sym, subst, subst⁻¹}
 use mathlib.Core.Logic.{_⊎_, inr, inl}
-use mathlib.Core.Bool.{Bool, true, false, not, _&&_}
+use mathlib.Core.Bool.{Bool, true, false, _&&_}
 use mathlib.Core.List.{_++_, _∷_, [], List}
 use Prim.Native.Nat.{ℕ, _<_, suc, _-_, zero, _≤_}
-use borrow.Author.Tests.{ltb-true, eqb-true}
-use lib.Dec.{ltb, eqb, leb}
+use borrow.Author.Tests.{eqb-true}
+use lib.Dec.{eqb, leb}
 use lib.ListN.{length, getD, length-append}
 use native.Mathlib.Omega.{arith}
-use Rattle.model.specs.Basics.{isIn, pick}
-use Rattle.model.specs.Tables.{Table, chordAt, naming, isSync, size, wakes, firstSync}
-use Rattle.model.specs.Boards.{Board, channelOf, Job, Sender, State, wake, blocked, signal, isConsumed}
+use Rattle.model.specs.Basics.{pick}
+use Rattle.model.specs.Tables.{Table, chordAt, naming, size, wakes, firstSync}
+use Rattle.model.specs.Boards.{Board, channelOf, Job, Sender, State, wake, blocked, signal}
 use Rattle.model.specs.Boards.{messageAt, Phase, working, senderAt, look, claim, consume, pending, revert, tell}
 use Rattle.model.specs.Boards.{free, pass-end, backoffAt, backoff, isPending, isOpen}
 use Rattle.model.specs.Effects.{apply}
-use Rattle.model.specs.Jobs.{startAt, passFrom, inState, goesIdle, matchedEnd, wakerEnd, syncEnd, endsBy}
+use Rattle.model.specs.Jobs.{passFrom, inState, goesIdle}
 use Rattle.model.specs.Jobs.{job-end, inJob, inPhase, nextChord, withChosen}
 use Rattle.model.specs.Looks.{choice, missedRetry}
 use Rattle.model.specs.Steps.{restsThen, withMatched, skip, lookedBy, loses, fires, claimedBy, revertedTo}
@@ -26,6 +26,7 @@ use Rattle.model.specs.Sound.{toWake}
 use Rattle.model.proofs.Tests.{tests}
 use Rattle.model.proofs.Lists.{isIn-nth, nth-isIn}
 use Rattle.model.proofs.Chords.{names-yes, skipped, wakes-first}
+use Rattle.model.proofs.Jobs.{pass-by, job-end-by}
 use Rattle.model.proofs.Frame.{records-count}
 use Rattle.model.proofs.Choice.{Chosen, choice-some, the-subject, another}
 use Rattle.model.proofs.Answering.{tell-chosen}
@@ -35,20 +36,15 @@ use Rattle.model.proofs.SoundFrame.{wider-after, wake-wider}
 
 -- a pass begun on subject h
 module _ {t : Table} {b : Board} {o v : ℕ} (h : ℕ) (l : h < length (b .messages)) (i : (suc h ≡ o) ⊎ (suc h ≡ v)) where
-  starts : (r k : ℕ) (retry u : Bool) → ltb r (length (t .chords)) ≡ u
-      → (r < length (t .chords) → isIn (channelOf b h) (chordAt t r .channels) ≡ true)
-      → JobFacts t b o v (startAt u h r retry k) (startAt u h r retry k .phase)
-  starts r k retry true e n =
-      let m = ltb-true r _ e in
-      let c = n m in
-      let named = isIn-nth (channelOf b h) (chordAt t r .channels) c in
-      search arith
-  starts r k retry false e n = search arith
-
   pub passes : (from k : ℕ) (retry : Bool)
       → JobFacts t b o v (passFrom t h (channelOf b h) from retry k) (passFrom t h (channelOf b h) from retry k .phase)
-  unfolding passFrom
-  passes from k retry = starts (naming t (channelOf b h) from) k retry _ refl (names-yes t (channelOf b h) from)
+  passes from k retry =
+      pass-by t h (channelOf b h) from retry k (λ w. JobFacts t b o v w (w .phase))
+      (λ m.
+      let c = names-yes t (channelOf b h) from m in
+      let named = isIn-nth (channelOf b h) (chordAt t (naming t (channelOf b h) from) .channels) c in
+      search arith)
+      (λ m. search arith)
 
   rests-so : (k rests : ℕ) → JobFacts t b o v (restsThen t b h k rests) (restsThen t b h k rests .phase)
   rests-so k zero = passes 0 k false
@@ -66,26 +62,12 @@ module _ {t : Table} {b : Board} {d : Sender} (f : SenderFacts t b d) where
   notes-match m l = search
 
   module _ (some : 1 ≤ d .own) (h : ℕ) where
-    matched-ends : (m : ℕ) → m ≤ length (b .matches) → Becomes t b d (matchedEnd d m)
-    matched-ends zero l = in-state blocked (d .signalled) some
-    matched-ends (suc m) l = goes-idle (suc m) l
-
-    waker-ends : (v : ℕ) (u : Bool) → d .waker ≡ suc v → Becomes t b d (wakerEnd t (b .messages) d v u)
-    waker-ends v true e =
-        in-state _ (d .signalled) (some, passes v (omega (arith, f .waker-in, e)) (inr (sym e)) 0 0 false)
-    waker-ends v false e = matched-ends (d .matched) (f .matched-in)
-
-    sync-ends : (v : ℕ) → d .waker ≡ v → Becomes t b d (syncEnd t (b .messages) d h v)
-    sync-ends zero e = matched-ends (d .matched) (f .matched-in)
-    sync-ends (suc v) e = waker-ends v (not (isConsumed (messageAt b v .status)) && not (eqb v h)) e
-
-    ends-by : (u : Bool) → Becomes t b d (endsBy t (b .messages) d h u)
-    ends-by false = goes-idle 0 (omega arith)
-    ends-by true = sync-ends (d .waker) refl
-
     job-ends : Becomes t b d (job-end t (b .messages) d h)
-    unfolding job-end
-    job-ends = ends-by (isSync t (messageAt b (d .own - 1) .sent .channel))
+    job-ends =
+        job-end-by t (b .messages) d h (Becomes t b d) (λ s. goes-idle 0 (omega arith))
+        (λ s m e. goes-idle (suc m) (omega (arith, e, f .matched-in))) (λ s e. in-state blocked (d .signalled) some)
+        (λ s v e x ne.
+        in-state _ (d .signalled) (some, passes v (omega (arith, f .waker-in, e)) (inr (sym e)) 0 0 false))
 
 -- a sender at work, and where its job may go
 pub record Working (t : Table) (b : Board) (d : Sender) (w : Job) (p : Phase) : Type 0 where

@@ -10,7 +10,7 @@ use Rattle.model.specs.Boards.{signal, pass-end, backoff, blocked, State
 use Rattle.model.specs.Effects.{Outcome, refused, does}
 use Rattle.model.specs.Steps.{job-step, blockedStep, stateStep, senderStep, stepBy}
 use Rattle.model.proofs.Tests.{tests}
-use Rattle.model.proofs.Local.{StateOk}
+use Rattle.model.proofs.Local.{StateOk, JobAt}
 use Rattle.model.proofs.Invariant.{StepOwes, Inv}
 use Rattle.model.proofs.AtWork.{AtWork}
 use Rattle.model.proofs.Look.{look-owes}
@@ -27,6 +27,20 @@ OutcomeOwes t b i (refused f) = 1 ≤ f
 OutcomeOwes t b i (does s) = (i < 32) × StepOwes t b i s
 
 module _ (t : Table) (b : Board) (i : ℕ) (v : Inv t b) where
+  pub at-work : i < 32 → (w : Job) (p : Phase) → senderAt b i .state ≡ working w → w .phase ≡ p → AtWork t b i w p
+  at-work l w p st ph =
+      let q =
+      subst (StateOk t b (senderAt b i .own) (senderAt b i .waker) (senderAt b i .matched)) st
+      (v .locals i .state-is) in
+      record {
+        inv = v;
+        in-senders = omega (arith, v .senders);
+        state = st;
+        phase = ph;
+        own-some = q .0;
+        job = subst (JobAt t b (senderAt b i .own) (senderAt b i .waker) w) ph (q .1);
+      }
+
   by-phase : (w : Job) (p : Phase) → AtWork t b i w p → StepOwes t b i (job-step t b (senderAt b i) w p)
   by-phase w (look k) c = look-owes c
   by-phase w (claim k) c = claim-owes c
@@ -45,20 +59,7 @@ module _ (t : Table) (b : Board) (i : ℕ) (v : Inv t b) where
 
   by-state : (x : State) → i < 32 → senderAt b i .state ≡ x → OutcomeOwes t b i (stateStep t b (senderAt b i) x)
   by-state idle l st = omega arith
-  by-state (working w) l st =
-      let p =
-      subst (StateOk t b (senderAt b i .own) (senderAt b i .waker) (senderAt b i .matched)) st
-      (v .locals i .state-is) in (
-        l,
-        by-phase w (w .phase) (record {
-          inv = v;
-          in-senders = omega (arith, v .senders);
-          state = st;
-          phase = refl;
-          own-some = p .0;
-          job = p .1;
-        }),
-      )
+  by-state (working w) l st = (l, by-phase w (w .phase) (at-work l w (w .phase) st refl))
   by-state blocked l st = by-signal (senderAt b i .signalled) l st
 
   by-number : (u : Bool) → leb 32 i ≡ u → OutcomeOwes t b i (senderStep t b i u)

@@ -14,12 +14,12 @@ use Rattle.model.specs.Boards.{Message}
 use Rattle.model.specs.Effects.{Effect, Told, signals, apply, messagesAfter}
 use Rattle.model.specs.Jobs.{inJob, inPhase, job-end}
 use Rattle.model.specs.Steps.{toTell, toldTo, tell-step}
+use Rattle.model.specs.Holdings.{Holds}
 use Rattle.model.proofs.Tests.{never, same?, tests}
 use Rattle.model.proofs.Lists.{isIn-nth, nth-isIn}
 use Rattle.model.proofs.Words.{isRecord}
 use Rattle.model.proofs.Phases.{isTell}
 use Rattle.model.proofs.Local.{AtTell, SenderOk, sender-on, ends-ok}
-use Rattle.model.proofs.Holding.{Holds}
 use Rattle.model.proofs.Places.{none-held, ends-empty}
 use Rattle.model.proofs.Matches.{WillConsume, MatchesKept, not-consuming}
 use Rattle.model.proofs.Covers.{go-on, covered, end-it}

@@ -13,13 +13,14 @@ use Rattle.model.specs.Boards.{Board, Job, Phase, wake, senderAt, free, 
 use Rattle.model.specs.Effects.{wakes-by, Effect, Woke, turn, apply, Freed, frees, messagesAfter, signals}
 use Rattle.model.specs.Jobs.{inJob, inPhase}
 use Rattle.model.specs.Steps.{skip, wokenOf, wake-step, free-step, signal-step}
+use Rattle.model.specs.Holdings.{HoldsAt, Held-place}
 use Rattle.model.proofs.Tests.{tests}
 use Rattle.model.proofs.Chords.{wakes-first, skipped, first-waits}
 use Rattle.model.proofs.Frame.{messages-at}
 use Rattle.model.proofs.Grows.{Turns, Grows}
 use Rattle.model.proofs.Phases.{signalling}
 use Rattle.model.proofs.Local.{AtWake, PlacedAt}
-use Rattle.model.proofs.Holding.{HoldingKept, HoldsAt, Held}
+use Rattle.model.proofs.Holding.{HoldingKept}
 use Rattle.model.proofs.Places.{drop-place, last-drop}
 use Rattle.model.proofs.Matches.{not-consuming}
 use Rattle.model.proofs.Owners.{WillSignal}
@@ -139,24 +140,24 @@ module _ {t : Table} {b : Board} {i : ℕ} {w : Job} {k : ℕ} (c : AtWork t b i
   more-chosen : suc k < length (w .chosen)
   more-chosen = omega (arith, c .job .placed .1, to-free .full .all)
 
-  held-now : Skips k → Held t (w .chord) (free k) (length (w .chosen)) (skip first k)
+  held-now : Skips k → Held-place t (w .chord) (free k) (length (w .chosen)) (skip first k)
   held-now (inl x) = (λ z. omega (arith, x .0, x .1, z), omega arith, omega (arith, x .1, more-chosen))
   held-now (inr x) = (λ z. omega (arith, x .0, x .1, z), omega arith, omega (arith, x .1, more-chosen))
 
-  only : Skips k → suc (suc k) ≡ length (w .chosen) → (j : ℕ) → Held t (w .chord) (free k) (length (w .chosen)) j
+  only : Skips k → suc (suc k) ≡ length (w .chosen) → (j : ℕ) → Held-place t (w .chord) (free k) (length (w .chosen)) j
       → j ≡ skip first k
   only (inl x) z j y = omega (arith, x .0, x .1, z, y .0, y .1, y .2, first-in)
   only (inr x) z j y = omega (arith, x .0, x .1, z, y .0, y .1, y .2, first-in)
 
-  fewer : Skips k → Skips (suc k) → (j : ℕ) → Held t (w .chord) (free (suc k)) (length (w .chosen)) j
-      → Held t (w .chord) (free k) (length (w .chosen)) j × (j ≢ skip first k)
+  fewer : Skips k → Skips (suc k) → (j : ℕ) → Held-place t (w .chord) (free (suc k)) (length (w .chosen)) j
+      → Held-place t (w .chord) (free k) (length (w .chosen)) j × (j ≢ skip first k)
   fewer (inl x) (inl r) j y = ((y .0, omega (arith, x .1, r .1, y .1), y .2), λ z. omega (arith, x .1, r .1, y .1, z))
   fewer (inl x) (inr r) j y = ((y .0, omega (arith, x .1, r .1, y .1), y .2), λ z. omega (arith, x .1, r .1, y .1, z))
   fewer (inr x) (inl r) j y = absurd (omega (arith, x .0, r .0))
   fewer (inr x) (inr r) j y = ((y .0, omega (arith, x .1, r .1, y .1), y .2), λ z. omega (arith, x .1, r .1, y .1, z))
 
-  rest : Skips k → Skips (suc k) → (j : ℕ) → Held t (w .chord) (free k) (length (w .chosen)) j → j ≢ skip first k
-      → Held t (w .chord) (free (suc k)) (length (w .chosen)) j
+  rest : Skips k → Skips (suc k) → (j : ℕ) → Held-place t (w .chord) (free k) (length (w .chosen)) j → j ≢ skip first k
+      → Held-place t (w .chord) (free (suc k)) (length (w .chosen)) j
   rest (inl x) (inl r) j y ne = (y .0, omega (arith, x .1, r .1, y .1, ne), y .2)
   rest (inl x) (inr r) j y ne = (y .0, omega (arith, x .0, r .0, x .1, r .1, y .0, y .1, ne), y .2)
   rest (inr x) (inl r) j y ne = absurd (omega (arith, x .0, r .0))

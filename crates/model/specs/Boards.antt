@@ -1,10 +1,12 @@
 -- Messages, matches, senders and the board (01: items, matches, desks). Numbers that may be missing are kept plus 1, 0
 -- for none.
-use mathlib.Core.Bool.{Bool, true, false}
+use mathlib.Core.Bool.{Bool, true, false, _&&_}
 use mathlib.Core.List.{List, [], _∷_}
 use lib.IntN.{ℤ, pos, _+ℤ_}
 use Prim.Native.Nat.{ℕ, _-_}
-use lib.ListN.{getD, replicate}
+use lib.Dec.{eqb, leb}
+use lib.ListN.{getD, length, replicate}
+use Rattle.model.specs.Basics.{allOf, every}
 use Rattle.model.specs.Tables.{Table}
 
 pub data Status : Type 0 where
@@ -109,6 +111,15 @@ builtinBackoffs =
 
 unfoldable pub backoffAt : List ℕ → ℕ → ℕ
 backoffAt rests k = getD rests (k - 1) 0
+
+-- request 4: a rest table that passes has sixteen entries, none over 64, none less than the one before
+abbrev pub neverFalls : List ℕ → Bool
+neverFalls [] = true
+neverFalls (x ∷ []) = true
+neverFalls (x ∷ y ∷ ys) = leb x y && neverFalls (y ∷ ys)
+
+unfoldable pub backoffsPass : List ℕ → Bool
+backoffsPass rests = allOf (eqb (length rests) 16 ∷ every (λ k. leb k 64) rests ∷ neverFalls rests ∷ [])
 
 abbrev pub isPending : Status → Bool
 isPending pending = true

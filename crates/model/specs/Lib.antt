@@ -7,6 +7,7 @@ pub mod Effects
 pub mod Jobs
 pub mod Looks
 pub mod Steps
+pub mod Holdings
 pub mod Adds
 pub mod Sound
 pub mod Pools

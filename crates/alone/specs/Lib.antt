@@ -1,0 +1,2 @@
+-- A sender left in peace finishes.
+pub mod Alone

@@ -1,0 +1,1 @@
+// No code: a sender left in peace finishes.
