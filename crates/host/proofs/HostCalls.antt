@@ -2,20 +2,25 @@
 use mathlib.Core.Path.{_≡_, refl, sym, _∙_, ap}
 use mathlib.Core.Bool.{true}
 use mathlib.Core.List.{List, [], _∷_, map}
-use Prim.Native.Nat.{ℕ}
-use Rattle.model.specs.Layout.{tableRefusal}
-use Rattle.model.specs.Effects.{Said}
-use Rattle.model.specs.Pools.{Call}
+use Prim.Native.Nat.{ℕ, _<_}
+use lib.ListN.{replicate}
+use native.Mathlib.Omega.{arith}
+use Rattle.model.specs.Layout.{tableRefusal, tableOf}
+use Rattle.model.specs.Effects.{Said, numberOf}
+use Rattle.model.specs.Pools.{Call, steps}
+use Rattle.alone.specs.Alone.{In-peace}
 use Rattle.table.proofs.Places.{first-none}
+use Rattle.judges.specs.Calls.{boardOf}
 use Rattle.replaying.specs.Replays.{answerNumber}
 use Rattle.schedules.specs.Schedules as Held-schedules
 use Rattle.schedules.specs.Schedules.{PlaysAll}
 use Rattle.schedules.proofs.PublicCalls.{public-calls}
+use Rattle.schedules.proofs.PublicPeace.{public-peace}
 use Rattle.flat.specs.Flat.{flatOk}
 use Rattle.host.specs.Lent.{Lent, heldOf}
 use Rattle.host.specs.Plays.{Flat-plays}
-use Rattle.host.specs.Schedules.{CallsAll, Opened, Host-calls}
-use Rattle.host.proofs.Chains.{opened-board}
+use Rattle.host.specs.Schedules.{CallsAll, Opened, Comes-to-rest, Host-calls}
+use Rattle.host.proofs.Chains.{opened-board, refused-kept}
 
 -- calls on numbers that are a board's are calls on that board
 on-board : (s : List ℕ) (h : Lent) (ks : List Call) (ns : List ℕ) (h′ : Lent) → flatOk (h .flat) ≡ true
@@ -41,6 +46,25 @@ opened s h o = record {
   lent = o .lent;
 }
 
+-- a sender left in peace
+peace : (s : List ℕ) (h : Lent) (ks : List Call) (ns : List ℕ) (h′ : Lent) (i : ℕ) → Opened s h → CallsAll s h ks ns h′
+    → i < 32 → In-peace (tableOf s) (boardOf s (heldOf h′)) i → Comes-to-rest s h′ i
+peace s h ks ns h′ i o p l q =
+    let a = on-board s h ks ns h′ (opened-board h (o .opens) .0) p in
+    let f = public-peace s (heldOf h) ks (a .0) (heldOf h′) i (opened s h o) (a .2) l q in
+    record {
+      count = f .count;
+      few = f .few;
+      then-13 = λ n ms g le r k g′ z.
+          let b = on-board s h′ (replicate n (steps i)) ms g (a .3) r in
+          let y = z .on-board (b .3) in
+          let e = f .then-13 n (b .0) (heldOf g) le (b .2) (y .0) (heldOf g′) (y .2) .0 in (
+            y .1 ∙ ap answerNumber e,
+            refused-kept s g g′ (steps i) (y .0) (b .3) (z .leaves-board (b .3)) (y .2)
+                (λ x. omega (arith, sym (ap numberOf e) ∙ x)),
+          );
+    }
+
 pub host-calls : Host-calls
 host-calls = record {
   demand = λ s h ks ns h′ o p.
@@ -52,4 +76,5 @@ host-calls = record {
         public-calls .replayed s (heldOf h) c before after (heldOf h′) (opened s h o) (p .on-board ok) .0,
         p .leaves-board ok,
       );
+  peace = peace;
 }

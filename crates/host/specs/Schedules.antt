@@ -2,10 +2,14 @@
 use mathlib.Core.Path.{_≡_}
 use mathlib.Core.Bool.{true}
 use mathlib.Core.List.{List, [], _∷_, map}
-use Prim.Native.Nat.{ℕ}
-use Rattle.model.specs.Effects.{Said}
-use Rattle.model.specs.Pools.{Call}
+use Prim.Native.Nat.{ℕ, _≤_, _<_}
+use lib.ListN.{replicate}
+use Rattle.model.specs.Layout.{tableOf}
+use Rattle.model.specs.Effects.{Said, Refused}
+use Rattle.model.specs.Pools.{Call, steps}
+use Rattle.alone.specs.Alone.{In-peace, mostSteps}
 use Rattle.judges.specs.Judged.{Lengths}
+use Rattle.judges.specs.Calls.{boardOf}
 use Rattle.replaying.specs.Replays.{CallColumns, callsOf, answerNumber}
 use Rattle.schedules.specs.Schedules.{Is-schedule, Keeps-demand-3}
 use Rattle.flat.specs.Flat.{flatOk}
@@ -24,6 +28,13 @@ pub record Opened (s : List ℕ) (h : Lent) : Type 0 where
   pub opens : Flat-opens s before 0 (h .flat)
   pub lent : Lengths (h .columns) (h .matches)
 
+-- after so many steps of sender i, or more, the next answers refusal 13 and leaves every number as found (request 12)
+pub record Comes-to-rest (s : List ℕ) (h : Lent) (i : ℕ) : Type 0 where
+  pub count : ℕ
+  pub few : count ≤ mostSteps
+  pub then-13 : (n : ℕ) (ns : List ℕ) (g : Lent) → count ≤ n → CallsAll s h (replicate n (steps i)) ns g
+      → (k : ℕ) (g′ : Lent) → Flat-plays s g (steps i) k g′ → (k ≡ answerNumber (Refused 13)) × (g′ ≡ g)
+
 pub record Host-calls : Type 0 where
   -- the answers are those of the model's schedule, and the reads of what is left are those that demand 3 speaks of
   pub demand : (s : List ℕ) (h : Lent) (ks : List Call) (ns : List ℕ) (h′ : Lent) → Opened s h → CallsAll s h ks ns h′
@@ -31,3 +42,6 @@ pub record Host-calls : Type 0 where
       × Keeps-demand-3 s ks (heldOf h′) × (flatOk (h′ .flat) ≡ true)
   pub replayed : (s : List ℕ) (h : Lent) (c : CallColumns) (before after : List ℕ) (h′ : Lent) → Opened s h
       → Flat-replays s h c before after 0 h′ → Keeps-demand-3 s (callsOf c) (heldOf h′) × (flatOk (h′ .flat) ≡ true)
+  -- a sender left in peace finishes
+  pub peace : (s : List ℕ) (h : Lent) (ks : List Call) (ns : List ℕ) (h′ : Lent) (i : ℕ) → Opened s h
+      → CallsAll s h ks ns h′ → i < 32 → In-peace (tableOf s) (boardOf s (heldOf h′)) i → Comes-to-rest s h′ i

@@ -1,2 +1,3 @@
 -- What a list of public calls comes to.
 pub mod PublicCalls
+pub mod PublicPeace

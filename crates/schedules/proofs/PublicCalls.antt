@@ -25,7 +25,7 @@ use Rattle.model.proofs.Numbers.{answer-few}
 
 -- one call on an accepted board says what the model says
 module _ (s : List ℕ) (h : Held) (k : Call) (w : Said) (g : Held) (e : refusalOf s h ≡ 0) (p : Plays s h k w g) where
-  said-is : w ≡ answerTo (tableOf s) (boardOf s h) k .said
+  pub said-is : w ≡ answerTo (tableOf s) (boardOf s h) k .said
   said-is = rw e at (p .says)
 
   not-30 : numberOf w ≢ 30

@@ -1,2 +1,3 @@
 -- Public calls one after another.
 pub mod Schedules
+pub mod InPeace

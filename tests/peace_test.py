@@ -1,0 +1,180 @@
+"""Steps desks alone where no other desk holds a claimed item, and counts their steps (request 12).
+
+    python3 tests/peace_test.py [SESSIONS]
+
+The schedule with the most steps alone that is known, on target/bin/gevnyusto and, with a rest table that the
+program cannot be given, on tests/oracle.py; then SESSIONS random sessions (default 100), each left at some point
+with one desk alone. The printouts are held to the oracle. The last line is `peace: N passed, M failed`.
+"""
+
+import sys
+
+import oracle
+import random_session
+from program_test import printed
+from text_to_bin import table_bytes
+
+MOST_STEPS = 1628  # proved, for every rest table that passes
+SEEN_STEPS = 1579  # by the schedule below, with a rest table of sixteen 64s
+SEEN_BUILTIN = 1547  # by the same, with the built-in one
+
+
+def held(board, number):
+    """The items that a desk has claimed and not put back, consumed, woken or freed, by its place."""
+    desk = board.desks[number]
+    if desk.place == oracle.CLAIM:
+        return desk.chosen[: desk.at]
+    if desk.place in (oracle.REVERT, oracle.CONSUME, oracle.WAKE):
+        return desk.chosen[desk.at :]
+    if desk.place == oracle.FREE:
+        woken = board.woken_member(desk)
+        return [n for place, n in enumerate(desk.chosen) if place != woken][desk.at :]
+    return []
+
+
+def in_peace(board, number):
+    return not any(held(board, other) for other in range(oracle.DESKS) if other != number)
+
+
+def all_claimed_held(board, number):
+    claimed = [n for n, item in enumerate(board.items) if item.status == oracle.CLAIMED]
+    return sorted(held(board, number)) == claimed
+
+
+class Schedule:
+    """Lines, and the oracle's board that follows them."""
+
+    def __init__(self, table):
+        self.board = oracle.Board(oracle.read_table(table))
+        self.lines = []
+        self.spare = iter(range(1, oracle.DESKS))
+
+    def say(self, line):
+        self.lines.append(line)
+        return oracle.answer(self.board, line.encode("ascii"))
+
+    def step(self, desk):
+        return self.say(f"s {desk}")
+
+    def run(self, desk):
+        while not oracle.at_rest(self.board.desks[desk]):
+            self.step(desk)
+
+    def add(self, desk, tray, prop):
+        self.say(f"a {desk} {tray} {prop} 0")
+
+    def leave(self, tray, prop):
+        """An item whose desk takes no step of its own accord."""
+        desk = next(self.spare)
+        self.add(desk, tray, prop)
+        return desk
+
+
+# The trays of the schedule with the most steps: one that wakes, six that help it, desk 0's own, one that only a desk
+# of another property finds, five of the rule that takes it away.
+WAKES, HELPS, OWN, OTHER, LAST = 0, [1, 2, 3, 4, 5, 6], 7, 8, [9, 10, 11, 12, 13]
+
+
+def worst_table():
+    waiting = [False] * 7 + [True] * 7
+    rules = [([WAKES, *HELPS[:5], OTHER, OWN], True)] * 30
+    rules += [([OTHER, WAKES, *LAST, OWN], False), ([WAKES, *HELPS, OWN], False)]
+    return table_bytes(waiting, rules)
+
+
+def worst_schedule(table):
+    """Desk 0 is left resting, its item woken for the second time, with a pass of lost claims and four more before it."""
+    schedule = Schedule(table)
+    board, desk = schedule.board, schedule.board.desks[0]
+    schedule.add(0, OWN, 1)
+    schedule.run(0)
+    for tray in HELPS:
+        schedule.leave(tray, 1)
+    schedule.run(schedule.leave(WAKES, 1))
+    schedule.step(0)  # resumed
+    schedule.leave(OTHER, 1)
+    rival = schedule.leave(WAKES, 2)
+    while board.desks[rival].place != oracle.CLAIM:
+        schedule.step(rival)
+    for _ in range(4):
+        schedule.step(rival)  # holds claims, so that desk 0 tries again and again
+    while desk.place != oracle.REST or desk.at < max(oracle.REST_TABLE):
+        schedule.step(0)
+    schedule.run(rival)  # wakes desk 0's item once more
+    for tray in HELPS[:5]:
+        schedule.leave(tray, 2)
+    for tray, prop in ((OTHER, 2), (OTHER, 2), (OWN, 3)):
+        schedule.leave(tray, prop)
+    for tray in LAST + LAST[:4]:
+        schedule.leave(tray, 3)
+    return schedule
+
+
+def steps_alone(schedule, desk):
+    """How many steps the desk has before it is refused 13; the lines go on to MOST_STEPS and one more."""
+    words = [schedule.step(desk) for _ in range(MOST_STEPS + 1)]
+    count = words.index("refused 13") if "refused 13" in words else len(words)
+    return count, words[count:] == ["refused 13"] * (len(words) - count)
+
+
+def on_program(table, schedule):
+    lines = "".join(line + "\n" for line in schedule.lines).encode("ascii")
+    return printed(table, lines) == oracle.printout(table, lines)
+
+
+def worst_cases():
+    table = worst_table()
+    schedule = worst_schedule(table)
+    yield "worst schedule: in peace", in_peace(schedule.board, 0) and all_claimed_held(schedule.board, 0)
+    count, stays = steps_alone(schedule, 0)
+    print(f"peace: {count} steps alone on the program, with its own rest table")
+    yield "worst schedule: steps", count == SEEN_BUILTIN and stays
+    yield "worst schedule: program", on_program(table, schedule)
+
+    builtin, oracle.REST_TABLE = oracle.REST_TABLE, (64,) * 16
+    count, stays = steps_alone(worst_schedule(table), 0)
+    oracle.REST_TABLE = builtin
+    print(f"peace: {count} steps alone with sixteen rests of 64 (by the oracle); proved: at most {MOST_STEPS}")
+    yield "worst schedule: steps, rests of 64", count == SEEN_STEPS <= MOST_STEPS and stays
+
+
+def random_cases(sessions):
+    """Each session is left after every 20th line with each desk in turn, and with the last such desk on the program."""
+    boards = most = 0
+    for seed in range(sessions):
+        table = random_session.random_table(seed)
+        lines = random_session.random_input(seed, 400, table).decode("latin-1").splitlines()
+        good, last = True, None
+        for length in range(20, 401, 20):
+            desk = (length // 20 + seed) % oracle.DESKS
+            schedule = Schedule(table)
+            for line in lines[:length]:
+                schedule.lines.append(line)
+                oracle.answer(schedule.board, line.encode("latin-1"))
+            peace = in_peace(schedule.board, desk)
+            good = good and peace == all_claimed_held(schedule.board, desk)
+            if peace and not oracle.at_rest(schedule.board.desks[desk]):
+                count, stays = steps_alone(schedule, desk)
+                good = good and count <= MOST_STEPS and stays
+                boards, most, last = boards + 1, max(most, count), schedule
+        yield f"random session {seed}", good and (last is None or on_program(table, last))
+    print(f"peace: {boards} random boards in peace, {most} steps alone at most")
+    yield "random boards in peace", boards >= sessions
+
+
+def main():
+    sessions = int(sys.argv[1]) if len(sys.argv) > 1 else 100
+    passed = failed = 0
+    for cases in (worst_cases(), random_cases(sessions)):
+        for name, good in cases:
+            if good:
+                passed += 1
+            else:
+                failed += 1
+                print(f"peace: failed: {name}")
+    print(f"peace: {passed} passed, {failed} failed")
+    sys.exit(1 if failed else 0)
+
+
+if __name__ == "__main__":
+    main()
