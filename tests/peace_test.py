@@ -51,17 +51,17 @@ class Schedule:
 
     def say(self, line):
         self.lines.append(line)
-        return oracle.answer(self.board, line.encode("ascii"))
+        return oracle.answer(self.board, line)
 
     def step(self, desk):
-        return self.say(f"s {desk}")
+        return self.say(b"s %d" % desk)
 
     def run(self, desk):
         while not oracle.at_rest(self.board.desks[desk]):
             self.step(desk)
 
     def add(self, desk, tray, prop):
-        self.say(f"a {desk} {tray} {prop} 0")
+        self.say(b"a %d %d %d 0" % (desk, tray, prop))
 
     def leave(self, tray, prop):
         """An item whose desk takes no step of its own accord."""
@@ -118,7 +118,7 @@ def steps_alone(schedule, desk):
 
 
 def on_program(table, schedule):
-    lines = "".join(line + "\n" for line in schedule.lines).encode("ascii")
+    lines = b"".join(line + b"\n" for line in schedule.lines)
     return printed(table, lines) == oracle.printout(table, lines)
 
 
@@ -143,14 +143,13 @@ def random_cases(sessions):
     boards = most = 0
     for seed in range(sessions):
         table = random_session.random_table(seed)
-        lines = random_session.random_input(seed, 400, table).decode("latin-1").splitlines()
+        lines = oracle.split_lines(random_session.random_input(seed, 400, table))
         good, last = True, None
         for length in range(20, 401, 20):
             desk = (length // 20 + seed) % oracle.DESKS
             schedule = Schedule(table)
             for line in lines[:length]:
-                schedule.lines.append(line)
-                oracle.answer(schedule.board, line.encode("latin-1"))
+                schedule.say(line)
             peace = in_peace(schedule.board, desk)
             good = good and peace == all_claimed_held(schedule.board, desk)
             if peace and not oracle.at_rest(schedule.board.desks[desk]):

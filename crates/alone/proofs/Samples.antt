@@ -37,4 +37,4 @@ pub finishes-P : Finishes (tableOf tableP) boardP 1 mostSteps
 unfolding opened
 finishes-P =
     alone .finishes tableP builtinBackoffs callsP 1 refl builtin-passes (omega arith)
-    (alone .peace-back tableP builtinBackoffs callsP 1 refl (λ n e. absurd (none-claimed n e)))
+    (alone .none-claimed tableP builtinBackoffs callsP 1 refl none-claimed)

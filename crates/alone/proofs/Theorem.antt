@@ -97,5 +97,6 @@ alone = record {
   asked = finishes 4096 (omega arith);
   peace-there = λ s rests cs i e. peace-there i (inv-after s rests cs e .holding);
   peace-back = λ s rests cs i e. peace-back i (inv-after s rests cs e .holding);
+  none-claimed = λ s rests cs i e f. peace-back i (inv-after s rests cs e .holding) (λ n z. absurd (f n z));
   others-at-rest = others-at-rest;
 }

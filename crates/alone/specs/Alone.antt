@@ -60,6 +60,9 @@ pub record Alone : Type 0 where
   pub peace-back : (s rests : List ℕ) (cs : List Call) (i : ℕ) → tableRefusal s ≡ 0
       → Holds-all (tableOf s) (boardAfter (tableOf s) rests cs) i
       → In-peace (tableOf s) (boardAfter (tableOf s) rests cs) i
-  -- where all others are idle or blocked there is peace
+  -- so there is peace where no message is claimed, and where all others are idle or blocked
+  pub none-claimed : (s rests : List ℕ) (cs : List Call) (i : ℕ) → tableRefusal s ≡ 0
+      → ((n : ℕ) → messageAt (boardAfter (tableOf s) rests cs) n .status ≢ claimed)
+      → In-peace (tableOf s) (boardAfter (tableOf s) rests cs) i
   pub others-at-rest : (t : Table) (b : Board) (i : ℕ)
       → ((j : ℕ) → j ≢ i → (senderAt b j .state ≡ idle) ⊎ (senderAt b j .state ≡ blocked)) → In-peace t b i
