@@ -14,6 +14,7 @@ use Rattle.model.specs.Pools.{steps, stepAnswer, canStep}
 use Rattle.model.proofs.Tests.{same?}
 use Rattle.model.proofs.Frame.{messages-count}
 use Rattle.model.proofs.Passage.{Passage, step-passage}
+use Rattle.model.proofs.Holding.{Holding}
 use Rattle.model.proofs.Owners.{Owning, keeps-own, new-own}
 use Rattle.model.proofs.AcceptedChords.{TableOk}
 use Rattle.model.proofs.Invariant.{Inv}
@@ -21,8 +22,20 @@ use Rattle.model.proofs.AtWork.{AtWork}
 use Rattle.model.proofs.StepBy.{OutcomeOwes, step-owes, at-work}
 use Rattle.model.proofs.Schedule.{call-inv}
 use Rattle.model.proofs.QuietExactly.{under-32}
-use Rattle.alone.specs.Alone.{Holds-all, steppedAlone}
+use Rattle.alone.specs.Alone.{In-peace, Holds-all, steppedAlone}
 use Rattle.alone.proofs.Rests.{Bounded, call-bounded}
+
+-- no other sender holds a message exactly if every claimed one is sender i's
+module _ {t : Table} {b : Board} (i : ℕ) (h : Holding t b) where
+  pub peace-there : In-peace t b i → Holds-all t b i
+  peace-there p n e = let r = h .has-holder n e in mine (r .0) (r .1) (same? (r .0) i)
+    where
+      mine : (j : ℕ) → Holds t (senderAt b j .state) n → (j ≡ i) ⊎ (j ≢ i) → Holds t (senderAt b i .state) n
+      mine j x (inl z) = subst (λ (k : ℕ). Holds t (senderAt b k .state) n) z x
+      mine j x (inr z) = absurd (p j n z x)
+
+  pub peace-back : Holds-all t b i → In-peace t b i
+  peace-back f j n ne x = ne (h .one-holder j i n x (f n (h .claimed-is j n x)))
 
 pub record Calm (t : Table) (b : Board) (i : ℕ) : Type 0 where
   pub table : TableOk t
@@ -31,10 +44,11 @@ pub record Calm (t : Table) (b : Board) (i : ℕ) : Type 0 where
   pub bounded : Bounded b
   pub peace : Holds-all t b i
 
--- at rest within n steps
+-- whether sender i has a step after n steps alone
 abbrev pub moving : Table → Board → ℕ → ℕ → Bool
 moving t b i n = canStep (senderAt (steppedAlone t b i n) i .state) (senderAt (steppedAlone t b i n) i .signalled)
 
+-- it has none within n steps
 pub record Within (t : Table) (b : Board) (i n : ℕ) : Type 0 where
   pub count : ℕ
   pub few : count ≤ n
@@ -83,14 +97,10 @@ module _ {t : Table} {b : Board} {i : ℕ} {e : Effect} (c : Calm t b i) (z : st
 
   -- another sender that holds a message held it before the step, against the peace
   peace′ : Holds-all t (apply b i e) i
-  peace′ n x = let r = inv′ .holding .has-holder n x in mine (r .0) (r .1) (same? (r .0) i)
-    where
-      mine : (j : ℕ) → Holds t (senderAt (apply b i e) j .state) n → (j ≡ i) ⊎ (j ≢ i)
-          → Holds t (senderAt (apply b i e) i .state) n
-      mine j h (inl q) = subst (λ (x : ℕ). Holds t (senderAt (apply b i e) x .state) n) q h
-      mine j h (inr q) =
-          let k = subst (λ (s : State). Holds t s n) (passage′ .others j q .state) h in
-          absurd (q (c .inv .holding .one-holder j i n k (c .peace n (c .inv .holding .claimed-is j n k))))
+  peace′ =
+      peace-there i (inv′ .holding) (λ j n ne x.
+      peace-back i (c .inv .holding) (c .peace) j n ne
+      (subst (λ (s : State). Holds t s n) (passage′ .others j ne .state) x))
 
   own′ : senderAt (apply b i e) i .own ≡ senderAt b i .own
   own′ = go (owes .1 .owners (inv′ .notes) .owning)

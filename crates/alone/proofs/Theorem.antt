@@ -22,19 +22,8 @@ use Rattle.model.proofs.Schedule.{all-inv, empty-inv}
 use Rattle.model.proofs.QuietExactly.{under-32, still-refused}
 use Rattle.alone.specs.Alone.{In-peace, Holds-all, steppedAlone, Finishes, Left-in-peace, mostSteps, Alone}
 use Rattle.alone.proofs.Rests.{all-bounded, empty-bounded}
+use Rattle.alone.proofs.Calm.{peace-there, peace-back}
 use Rattle.alone.proofs.Peace.{in-peace}
-
--- no other sender holds a message exactly if every claimed one is sender i's
-module _ {t : Table} {b : Board} (i : ℕ) (h : Holding t b) where
-  peace-there : In-peace t b i → Holds-all t b i
-  peace-there p n e = let r = h .has-holder n e in mine (r .0) (r .1) (same? (r .0) i)
-    where
-      mine : (j : ℕ) → Holds t (senderAt b j .state) n → (j ≡ i) ⊎ (j ≢ i) → Holds t (senderAt b i .state) n
-      mine j x (inl z) = subst (λ (k : ℕ). Holds t (senderAt b k .state) n) z x
-      mine j x (inr z) = absurd (p j n z x)
-
-  peace-back : Holds-all t b i → In-peace t b i
-  peace-back f j n ne x = ne (h .one-holder j i n x (f n (h .claimed-is j n x)))
 
 -- after a refused step more steps change nothing
 refused-same : (t : Table) (b : Board) (i f : ℕ) → stepBy t b i ≡ refused f → (n : ℕ) → steppedAlone t b i n ≡ b
