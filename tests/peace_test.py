@@ -3,10 +3,13 @@
     python3 tests/peace_test.py [SESSIONS]
 
 The schedule with the most steps alone that is known, on target/bin/gevnyusto and, with a rest table that the
-program cannot be given, on tests/oracle.py; then SESSIONS random sessions (default 100), each left at some point
-with one desk alone. The printouts are held to the oracle. The last line is `peace: N passed, M failed`.
+program cannot be given, on tests/oracle.py; then SESSIONS random sessions (default 100), each left at twenty points
+with each desk in peace alone. That no other desk holds a claimed item is compared with that this desk holds all that
+are claimed. The last line is `peace: N passed, M failed`.
 """
 
+import collections
+import copy
 import sys
 
 import oracle
@@ -111,10 +114,11 @@ def worst_schedule(table):
 
 
 def steps_alone(schedule, desk):
-    """How many steps the desk has before it is refused 13; the lines go on to MOST_STEPS and one more."""
-    words = [schedule.step(desk) for _ in range(MOST_STEPS + 1)]
-    count = words.index("refused 13") if "refused 13" in words else len(words)
-    return count, words[count:] == ["refused 13"] * (len(words) - count)
+    """How many steps the desk takes before it is refused 13, and whether three more are refused so."""
+    count = 0
+    while count <= MOST_STEPS and schedule.step(desk) != "refused 13":
+        count += 1
+    return count, [schedule.step(desk) for _ in range(3)] == ["refused 13"] * 3
 
 
 def on_program(table, schedule):
@@ -138,27 +142,39 @@ def worst_cases():
     yield "worst schedule: steps, rests of 64", count == SEEN_STEPS <= MOST_STEPS and stays
 
 
+def left_alone(schedule, seen):
+    """Steps each desk that is in peace alone, from a copy; whether all went well, and the copy with the most steps."""
+    good, most, longest = True, 0, None
+    for desk in range(oracle.DESKS):
+        peace, place = in_peace(schedule.board, desk), schedule.board.desks[desk].place
+        good = good and peace == all_claimed_held(schedule.board, desk)
+        seen["in peace" if peace else "not in peace"] += 1
+        if peace and not oracle.at_rest(schedule.board.desks[desk]):
+            alone = copy.deepcopy(schedule)
+            count, stays = steps_alone(alone, desk)
+            good = good and 1 <= count <= MOST_STEPS and stays
+            seen[place] += 1
+            if count > most:
+                most, longest = count, alone
+    return good, most, longest
+
+
 def random_cases(sessions):
-    """Each session is left after every 20th line with each desk in turn, and with the last such desk on the program."""
-    boards = most = 0
+    """Each session is left after every 20th line; the longest run alone of each is played on the program."""
+    seen, most = collections.Counter(), 0
     for seed in range(sessions):
         table = random_session.random_table(seed)
-        lines = oracle.split_lines(random_session.random_input(seed, 400, table))
-        good, last = True, None
-        for length in range(20, 401, 20):
-            desk = (length // 20 + seed) % oracle.DESKS
-            schedule = Schedule(table)
-            for line in lines[:length]:
-                schedule.say(line)
-            peace = in_peace(schedule.board, desk)
-            good = good and peace == all_claimed_held(schedule.board, desk)
-            if peace and not oracle.at_rest(schedule.board.desks[desk]):
-                count, stays = steps_alone(schedule, desk)
-                good = good and count <= MOST_STEPS and stays
-                boards, most, last = boards + 1, max(most, count), schedule
-        yield f"random session {seed}", good and (last is None or on_program(table, last))
-    print(f"peace: {boards} random boards in peace, {most} steps alone at most")
-    yield "random boards in peace", boards >= sessions
+        schedule, good, longest = Schedule(table), True, (0, None)
+        for number, line in enumerate(oracle.split_lines(random_session.random_input(seed, 400, table)), 1):
+            schedule.say(line)
+            if number % 20 == 0:
+                well, count, alone = left_alone(schedule, seen)
+                good = good and well
+                longest = max(longest, (count, alone), key=lambda run: run[0])
+        most = max(most, longest[0])
+        yield f"random session {seed}", good and (longest[1] is None or on_program(table, longest[1]))
+    print(f"peace: random sessions, {most} steps alone at most; " + ", ".join(f"{k} {seen[k]}" for k in sorted(seen)))
+    yield "all that can occur occurred", all(seen[key] for key in ("in peace", "not in peace", *oracle.STEPS))
 
 
 def main():
