@@ -86,7 +86,7 @@ def worst_table():
 
 
 def worst_schedule(table):
-    """Desk 0 is left resting, its item woken for the second time, with a pass of lost claims and four more before it."""
+    """Desk 0 is left resting, its item woken twice, with a pass of lost claims and three more before it."""
     schedule = Schedule(table)
     board, desk = schedule.board, schedule.board.desks[0]
     schedule.add(0, OWN, 1)
