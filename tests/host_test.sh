@@ -78,26 +78,31 @@ finds() {
     [ $? -eq 1 ] && grep -q '^differential: failed: seed ' "$work/said"
 }
 
+# An example in C by its name: compiled, what it prints, and the same under valgrind.
+example() {
+    try "$1.c, compiled" cc -O1 -Wall -Wextra -Werror "bindings/c/$1.c" -L "$GEVNYUSTO_LIB" -lhost -o "$work/$1"
+    try "$1.c" prints "bindings/c/$1.out" "$work/$1"
+    try "$1.c under valgrind" prints "bindings/c/$1.out" careful "$work/$1"
+}
+
 want cc gcc
 want c++ g++
 want valgrind valgrind
 try "the library" rt staticlib host
 
 try "the header in C++" c++ -fsyntax-only -Wall -Wextra -Werror -x c++ bindings/c/gevnyusto.h
-try "the example in C, compiled" \
-    cc -O1 -Wall -Wextra -Werror bindings/c/table_p.c -L "$GEVNYUSTO_LIB" -lhost -o "$work/table_p"
-try "the example in C" prints bindings/c/table_p.out "$work/table_p"
+example table_p
+example two_offices
 try "the example in Rust" \
     prints bindings/rust/examples/table_p.out crates run -q -p gevnyusto --example table_p
 crate_tests
 
 try "the comparison, compiled" crates build -p differential
-try "a million calls compared" "$differential" --calls 1000000
+try "a million calls and 200,000 merges compared" "$differential" --calls 1000000 --merges 200000
 sed 's/^/  /' "$work/said"
 # Every word is answered in these 2,000 calls.
-try "the comparison under valgrind" careful "$differential" --calls 2000 --seed 10
-try "the example in C under valgrind" prints bindings/c/table_p.out careful "$work/table_p"
-for fault in column read; do
+try "the comparison under valgrind" careful "$differential" --calls 2000 --merges 1000 --seed 10
+for fault in column read merge law; do
     try "a fault put in: $fault" finds "$fault"
 done
 

@@ -5,7 +5,8 @@
  *
  * A refusal: 1 to 7 for the table, 30 for a board or columns that are not sound or of another length, 31 for a buffer
  * that is too short; 8 no such sender, 9 sender not idle, 10 no such channel, 11 cents out of range, 12 messages full,
- * 13 sender idle, or blocked without signal, 14 no such message, 15 no such match.
+ * 13 sender idle, or blocked without signal, 14 no such message, 15 no such match, 17 wrong map of a merge, 18 merged
+ * table too large.
  */
 #ifndef GEVNYUSTO_H
 #define GEVNYUSTO_H
@@ -45,6 +46,20 @@ enum gv_word {
 
 /* 0, or the refusal of a table. */
 uint8_t gv_table_refusal(const uint8_t *table, size_t table_len);
+
+/* Merges two tables. The map has a byte for each channel of the second: GV_NEW for a new channel, else the channel of
+ * the first that it becomes, which waits or leaves as it does and which no other becomes. New channels follow the
+ * first's in their order; the first's chords keep their numbers and the second's follow.
+ * 0 and the merged table from the start of out, the bytes past it kept; its length is 12 + channels + 4 * chords +
+ * members by its own header, at most GV_TABLE_BYTES. Or a refusal: 1 to 7 for the first table, then for the second,
+ * 17 for a map that is not as above, 18 for more than 16 channels, 32 chords or 256 members, 31.
+ * From an empty board on, calls that add (or try to) only to channels of the first that no chord of the second names
+ * after the map answer the same under the merged table as under the first, and leave the same numbers. */
+#define GV_TABLE_BYTES 412
+#define GV_NEW 255
+uint8_t gv_merge_tables(
+    const uint8_t *first, size_t first_len, const uint8_t *second, size_t second_len,
+    const uint8_t *map, size_t map_len, uint8_t *out, size_t out_len);
 
 /* Writes an empty board; the columns may hold anything. 0, 1 to 7, or 30 for a board of another length. */
 uint8_t gv_open(const uint8_t *table, size_t table_len, uint16_t *board, size_t board_len);

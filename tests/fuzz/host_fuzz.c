@@ -1,7 +1,8 @@
 /* A libFuzzer target for the host library. An input plays a short schedule on table P, edits the board it leaves, and
  * makes one call with lengths that are mostly right, twice: every lent list ends at an inaccessible page, then every
  * list begins after one. Both calls must answer the same documented number, alter nothing when they refuse, and leave
- * a board that is accepted when they do not.
+ * a board that is accepted when they do not. A merge of two tables, which are edited as its map is, must leave a table
+ * that is accepted.
  */
 #include <stdint.h>
 #include <stdio.h>
@@ -13,10 +14,10 @@
 
 enum list {
     TABLE, BOARD, CHANNELS, PROPERTIES, CENTS, STATUSES, MATCHED, WAKERS, CHORDS, MESSAGES,
-    KINDS, CALLERS, TARGETS, NUMBERS, AMOUNTS, ANSWERS, OUT, LISTS
+    KINDS, CALLERS, TARGETS, NUMBERS, AMOUNTS, ANSWERS, OUT, SECOND, MAP, MERGED, LISTS
 };
-enum call { REFUSAL, OPEN, ADD, STEP, REPLAY, READ_MESSAGE, READ_MATCH, READ_REPLY, QUIET, CALLS };
-enum { PAGE = 4096, MOST_BYTES = 16388, REPLAYED = 24 };
+enum call { REFUSAL, OPEN, ADD, STEP, REPLAY, READ_MESSAGE, READ_MATCH, READ_REPLY, QUIET, MERGE, CALLS };
+enum { PAGE = 4096, MOST_BYTES = 16388, REPLAYED = 24, MOST_CHANNELS = 16 };
 
 /* The lists that a call may write, by their bits. */
 #define BIT(list) (1u << (list))
@@ -24,14 +25,16 @@ enum { PAGE = 4096, MOST_BYTES = 16388, REPLAYED = 24 };
 #define ADD_BITS (MESSAGE_BITS | BIT(CHANNELS) | BIT(PROPERTIES) | BIT(CENTS))
 #define STEP_BITS (MESSAGE_BITS | BIT(CHORDS) | BIT(MESSAGES))
 static const unsigned written[CALLS] = {
-    0, BIT(BOARD), ADD_BITS, STEP_BITS, ADD_BITS | STEP_BITS | BIT(ANSWERS), BIT(OUT), BIT(OUT), BIT(OUT), BIT(OUT)
+    0, BIT(BOARD), ADD_BITS, STEP_BITS, ADD_BITS | STEP_BITS | BIT(ANSWERS), BIT(OUT), BIT(OUT), BIT(OUT), BIT(OUT),
+    BIT(MERGED)
 };
 
 static const uint8_t table_p[20] = {2, 0, 1, 0, 2, 0, 12, 0, 14, 0, 18, 0, 0, 1, 0, 0, 2, 1, 0, 1};
-static const size_t element[LISTS] = {1, 2, 1, 4, 8, 1, 2, 2, 1, 2, 1, 2, 2, 4, 8, 4, 8};
+static const size_t element[LISTS] = {1, 2, 1, 4, 8, 1, 2, 2, 1, 2, 1, 2, 2, 4, 8, 4, 8, 1, 1, 1};
 static const size_t right[LISTS] = {
     sizeof table_p, GV_BOARD, GV_MESSAGES, GV_MESSAGES, GV_MESSAGES, GV_MESSAGES, GV_MESSAGES, GV_MESSAGES,
-    GV_MATCHES, GV_MATCH_MESSAGES, REPLAYED, REPLAYED, REPLAYED, REPLAYED, REPLAYED, REPLAYED, GV_MATCH_NUMBERS
+    GV_MATCHES, GV_MATCH_MESSAGES, REPLAYED, REPLAYED, REPLAYED, REPLAYED, REPLAYED, REPLAYED, GV_MATCH_NUMBERS,
+    GV_TABLE_BYTES, MOST_CHANNELS, GV_TABLE_BYTES
 };
 
 /* What a call is lent: the contents and lengths, and its plain numbers. */
@@ -128,8 +131,10 @@ static uint32_t make_call(const struct lent *lent, enum call call) {
         return gv_read_match(LENT_BOARD, LENT_COLUMNS, lent->first, I64(OUT));
     case READ_REPLY:
         return gv_read_reply(LENT_BOARD, LENT_COLUMNS, lent->first, I64(OUT));
-    default:
+    case QUIET:
         return gv_quiet(LENT_BOARD, LENT_COLUMNS, I64(OUT));
+    default:
+        return gv_merge_tables(U8(TABLE), U8(SECOND), U8(MAP), U8(MERGED));
     }
 }
 
@@ -166,6 +171,8 @@ static int is_own_refusal(enum call call, uint32_t refusal) {
         return refusal == 8 || refusal == 31;
     case QUIET:
         return refusal == 31;
+    case MERGE:
+        return refusal == 17 || refusal == 18 || refusal == 31;
     default:
         return 0;
     }
@@ -173,7 +180,7 @@ static int is_own_refusal(enum call call, uint32_t refusal) {
 
 /* Whether the lists of the board that the call is lent have the right lengths, and those of a replay one length. */
 static int has_lengths(const struct lent *lent, enum call call) {
-    int last = call == REFUSAL ? TABLE : call == OPEN ? BOARD : MESSAGES;
+    int last = call == REFUSAL || call == MERGE ? TABLE : call == OPEN ? BOARD : MESSAGES;
     for (int list = BOARD; list <= last; list++)
         if (lent->length[list] != right[list])
             return 0;
@@ -183,9 +190,12 @@ static int has_lengths(const struct lent *lent, enum call call) {
     return 1;
 }
 
-/* What the header says of the number: the table first, then lengths and board, then the call's own. */
+/* What the header says of the number: the table first, for a merge the second too, then lengths and board, then the
+ * call's own. */
 static void demand_documented(const struct lent *lent, enum call call, uint32_t answer) {
     uint32_t table = gv_table_refusal(U8(TABLE)), refusal = refusal_of(call, answer);
+    if (table == 0 && call == MERGE)
+        table = gv_table_refusal(U8(SECOND));
     demand(table <= 7, "no refusal of a table", call, table);
     if (table != 0)
         demand(refusal == table, "the table's refusal is another", call, answer);
@@ -194,7 +204,8 @@ static void demand_documented(const struct lent *lent, enum call call, uint32_t 
     else if (refusal == 0)
         demand((call != ADD && call != STEP) || is_answer(call == ADD, answer), "no such answer", call, answer);
     else
-        demand((refusal == 30 && call > OPEN) || is_own_refusal(call, refusal), "no such refusal", call, answer);
+        demand((refusal == 30 && call > OPEN && call < MERGE) || is_own_refusal(call, refusal), "no such refusal", call,
+               answer);
 }
 
 static void demand_answers(const struct lent *lent) {
@@ -209,6 +220,23 @@ static void demand_answers(const struct lent *lent) {
     size_t past = lent->length[KINDS] * sizeof answers[0];
     demand(memcmp(at[ANSWERS] + past, lent->bytes[ANSWERS] + past, bytes_of(lent, ANSWERS) - past) == 0,
            "answers past the last call", REPLAY, 0);
+}
+
+static size_t header_number(const uint8_t *table, int nth) { return table[2 * nth] | (size_t)table[2 * nth + 1] << 8; }
+
+/* The merged table is accepted, begins with the first one's channels and counts the chords and members of both; what
+ * lies past it is as it was. */
+static void demand_merged(const struct lent *lent) {
+    const uint8_t *merged = at[MERGED];
+    size_t past = header_number(merged, 5) + header_number(merged, 2);
+    demand(past <= lent->length[MERGED], "the merged table is longer than its buffer", MERGE, 0);
+    demand(gv_table_refusal(merged, past) == 0, "the merged table is refused", MERGE, 0);
+    demand(memcmp(merged + 12, at[TABLE] + 12, header_number(at[TABLE], 0)) == 0, "other channels", MERGE, 0);
+    for (int nth = 1; nth <= 2; nth++)
+        demand(header_number(merged, nth) == header_number(at[TABLE], nth) + header_number(at[SECOND], nth),
+               "other counts", MERGE, 0);
+    demand(memcmp(merged + past, lent->bytes[MERGED] + past, lent->length[MERGED] - past) == 0,
+           "bytes past the merged table", MERGE, 0);
 }
 
 /* Only what the call may write has changed, and nothing if it refused. */
@@ -236,6 +264,8 @@ static uint32_t checked_call(const struct lent *lent, enum call call, int at_end
     demand_documented(lent, call, answer);
     if (call == REPLAY && answer == 0)
         demand_answers(lent);
+    if (call == MERGE && answer == 0)
+        demand_merged(lent);
     demand_sound(lent, call, answer);
     return answer;
 }
@@ -263,7 +293,7 @@ static void count(const struct lent *lent, enum call call, uint32_t answer) {
     uint32_t refusal = refusal_of(call, answer);
     const uint16_t *board = (const uint16_t *)(const void *)lent->bytes[BOARD];
     seen[call * 64 + (refusal ? 18 + refusal % 46 : GV_WORD(answer) % 18)]++;
-    for (int sender = 0; call > OPEN && refusal == 0 && sender < 8; sender++) {
+    for (int sender = 0; call > OPEN && call < MERGE && refusal == 0 && sender < 8; sender++) {
         const uint16_t *numbers = board + 2 + 21 * sender;
         seen[CALLS * 64 + numbers[0] % 4 * 256 + numbers[8] % 16 * 16 + numbers[9] % 8 * 2 + numbers[1] % 2]++;
     }
@@ -311,12 +341,46 @@ static void reach(struct lent *lent) {
     keep(lent);
 }
 
-/* One element of the table, the board or the columns becomes another number. */
-static void edit(struct lent *lent) {
-    int list = take() % (MESSAGES + 1);
+/* One element of the list becomes another number. */
+static void edit(struct lent *lent, int list) {
     size_t place = number() % right[list];
     uint64_t value = number();
     memcpy(lent->bytes[list] + place * element[list], &value, element[list]);
+}
+
+/* A table of so many leaving channels and chords, each of the channel of its number as often as the input says. */
+static void put_second(struct lent *lent, size_t channels, size_t chords) {
+    uint8_t *second = lent->bytes[SECOND], *chord = second + 12 + channels, *members = chord + 4 * chords;
+    size_t count = 0, each = 1 + take() % 8;
+    memset(second, 0, 12 + channels);
+    for (size_t nth = 0; nth < chords; nth++, chord += 4) {
+        const uint8_t record[4] = {count & 255, count >> 8, each, nth & 1};
+        memcpy(chord, record, sizeof record);
+        memset(members + count, nth % channels, each);
+        count += each;
+    }
+    const size_t header[6] = {channels, chords, count, 12, 12 + channels, 12 + channels + 4 * chords};
+    for (int nth = 0; nth < 6; nth++) {
+        second[2 * nth] = header[nth] & 255;
+        second[2 * nth + 1] = header[nth] >> 8;
+    }
+    lent->length[SECOND] = 12 + channels + 4 * chords + count;
+}
+
+/* A second table, a map that is mostly of new channels, and a buffer; then edits of both tables and the map. */
+static void fill_merge(struct lent *lent) {
+    size_t channels = 1 + take() % MOST_CHANNELS, chords = take() % 33, room = number();
+    put_second(lent, channels, chords);
+    memset(lent->bytes[MAP], GV_NEW, MOST_CHANNELS + 1);
+    lent->length[MAP] = channels;
+    for (int joined = take() % 4; joined > 0; joined--)
+        lent->bytes[MAP][take() % channels] = take() % 4;
+    if (room < GV_TABLE_BYTES)
+        lent->length[MERGED] = room;
+    for (int edits = take() % 4; edits > 0; edits--) {
+        static const int lists[3] = {TABLE, SECOND, MAP};
+        edit(lent, lists[take() % 3]);
+    }
 }
 
 /* The lists of a replay, filled from the input. */
@@ -340,7 +404,7 @@ static void stretch(struct lent *lent) {
 }
 
 int LLVMFuzzerTestOneInput(const uint8_t *data, size_t size) {
-    static const size_t out_numbers[CALLS] = {1, 1, 1, 1, 1, GV_MESSAGE_NUMBERS, GV_MATCH_NUMBERS, 1, 1};
+    static const size_t out_numbers[CALLS] = {1, 1, 1, 1, 1, GV_MESSAGE_NUMBERS, GV_MATCH_NUMBERS, 1, 1, 1};
     static struct lent lent;
     if (room[0] == NULL)
         make_rooms();
@@ -349,7 +413,7 @@ int LLVMFuzzerTestOneInput(const uint8_t *data, size_t size) {
     enum call call = take() % CALLS;
     reach(&lent);
     for (int edits = take() % 6; edits > 0; edits--)
-        edit(&lent);
+        edit(&lent, take() % (MESSAGES + 1));
     lent.first = (uint16_t)number();
     lent.channel = (uint16_t)number();
     lent.property = (uint32_t)number();
@@ -357,6 +421,8 @@ int LLVMFuzzerTestOneInput(const uint8_t *data, size_t size) {
     lent.length[OUT] = out_numbers[call];
     if (call == REPLAY)
         fill_replay(&lent);
+    if (call == MERGE)
+        fill_merge(&lent);
     for (int odd = take(); odd > 200; odd -= 30)
         stretch(&lent);
     count(&lent, call, call_twice(&lent, call));

@@ -5,6 +5,7 @@
 
 mod chart;
 mod font;
+mod merges;
 mod png;
 mod program;
 mod public;
@@ -59,6 +60,7 @@ fn main() -> io::Result<()> {
     program::lines(&fs::canonicalize(proved)?, &plain, folder)?;
     replays::looks();
     public::soundness();
+    merges::merges();
     let chart = folder.join("cost.png");
     draw_cost(&chart)?;
     println!("\nchart: {}", chart.display());

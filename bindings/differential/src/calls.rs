@@ -29,6 +29,15 @@ pub trait Calls {
     fn call(&mut self, table: &[u8], world: &mut World, call: Call) -> u32;
     fn replay(&mut self, table: &[u8], world: &mut World, calls: &Plain, answers: &mut [u32]) -> u8;
     fn read(&mut self, table: &[u8], world: &World, read: Read, out: &mut [i64]) -> u8;
+    fn merge(&mut self, merge: &Merge, out: &mut [u8]) -> u8;
+}
+
+/// Two tables, and for each channel of the second a byte that says what it becomes.
+#[derive(Clone, Debug)]
+pub struct Merge {
+    pub first: Vec<u8>,
+    pub second: Vec<u8>,
+    pub map: Vec<u8>,
 }
 
 /// The calls of a replay in columns.

@@ -1,11 +1,11 @@
 //! The reference with a fault put in, to see that the comparison finds it.
 
-use crate::calls::{Call, Calls, Plain, Read};
+use crate::calls::{Call, Calls, Merge, Plain, Read};
 use crate::plain_rust::Reference;
 use crate::world::World;
 
 /// Kinds of faults by name.
-pub const FAULTS: [&str; 7] = ["answer", "column", "board", "refusal", "read", "replay", "table"];
+pub const FAULTS: [&str; 9] = ["answer", "column", "board", "refusal", "read", "replay", "table", "merge", "law"];
 
 pub struct Faulty {
     inner: Reference,
@@ -45,6 +45,9 @@ impl Calls for Faulty {
         if self.due("refusal") && answer >> 16 == 17 {
             world.columns.wakers[1023] ^= 1;
         }
+        if self.due("law") && answer >> 16 == 13 {
+            leave_chord_count(&mut world.board[2 + 21 * sender_of(call)..][..21], table);
+        }
         if self.due("answer") && answer >> 16 == 13 { 12 << 16 } else { answer }
     }
 
@@ -62,6 +65,30 @@ impl Calls for Faulty {
             out[0] += 1;
         }
         refusal
+    }
+
+    fn merge(&mut self, merge: &Merge, out: &mut [u8]) -> u8 {
+        self.calls += 1;
+        let refusal = self.inner.merge(merge, out);
+        if self.due("merge") && refusal == 0 {
+            map_last_member_wrongly(out);
+        }
+        refusal
+    }
+}
+
+/// The chord of a sender that is not at work is open, but not how it depends on the table.
+fn leave_chord_count(sender: &mut [u16], table: &[u8]) {
+    if sender[0] != 1 {
+        sender[7] = table[2].into();
+    }
+}
+
+fn map_last_member_wrongly(table: &mut [u8]) {
+    let number = |at: usize| usize::from(u16::from_le_bytes([table[at], table[at + 1]]));
+    let (channels, members, end) = (number(0), number(4), number(10) + number(4));
+    if members > 0 {
+        table[end - 1] = (table[end - 1] + 1) % channels as u8;
     }
 }
 

@@ -1,6 +1,6 @@
 //! Two implementations side by side: every call goes to both, and what each says and leaves is compared.
 
-use crate::calls::{Call, Calls, Plain, Read};
+use crate::calls::{Call, Calls, Merge, Plain, Read};
 use crate::world::World;
 use reference::Table;
 
@@ -13,17 +13,18 @@ pub struct Tally {
     pub calls: u64,
     pub words: [u64; 18],
     pub refusals: [u64; 256],
-    /// Calls on sound boards that no schedule made, on damaged boards and tables, and reads and replays.
+    /// Calls on sound boards that no schedule made, on damaged boards and tables; reads, replays and merges.
     pub unreached: u64,
     pub damaged: u64,
     pub reads: u64,
     pub replays: u64,
+    pub merges: u64,
 }
 
 impl Default for Tally {
     fn default() -> Tally {
         let (words, refusals) = ([0; 18], [0; 256]);
-        Tally { calls: 0, words, refusals, unreached: 0, damaged: 0, reads: 0, replays: 0 }
+        Tally { calls: 0, words, refusals, unreached: 0, damaged: 0, reads: 0, replays: 0, merges: 0 }
     }
 }
 
@@ -161,6 +162,22 @@ impl Pair {
         } else {
             self.unchanged()?
         }
+        Ok((first, one))
+    }
+
+    /// Merges into buffers with those bytes in them; returns the bytes that are there then.
+    pub fn merge(&mut self, merge: &Merge, before: &[u8]) -> Checked<(u8, Vec<u8>)> {
+        let (mut one, mut two) = (before.to_vec(), before.to_vec());
+        let first = self.left.merge(merge, &mut one);
+        let second = self.right.merge(merge, &mut two);
+        same("refusal of the merge", first, second)?;
+        if one != two {
+            return Err(format!("merged: {one:?} and {two:?}"));
+        }
+        if first != 0 && one != before {
+            return Err(format!("a merge refused {first} changed its buffer"));
+        }
+        self.tally.merges += 1;
         Ok((first, one))
     }
 }

@@ -1,6 +1,6 @@
 //! The reference behind the host interface.
 
-use crate::calls::{Call, Calls, Plain, Read};
+use crate::calls::{Call, Calls, Merge, Plain, Read};
 use crate::world::World;
 use reference::board::kept;
 use reference::{Board, NUMBERS, Table, calls, table};
@@ -116,6 +116,10 @@ impl Calls for Reference {
                 0
             }
         }
+    }
+
+    fn merge(&mut self, merge: &Merge, out: &mut [u8]) -> u8 {
+        reference::merge::merge(&merge.first, &merge.second, &merge.map, out)
     }
 }
 

@@ -1,6 +1,6 @@
 //! The proved host library behind the same interface.
 
-use crate::calls::{Call, Calls, Plain, Read};
+use crate::calls::{Call, Calls, Merge, Plain, Read};
 use crate::world::World;
 use gevnyusto::host;
 use std::mem::take;
@@ -69,5 +69,9 @@ impl Calls for Host {
             Read::Reply(sender) => host::read_reply(table, board, columns, sender, out),
             Read::Quiet => host::quiet(table, board, columns, out),
         })
+    }
+
+    fn merge(&mut self, merge: &Merge, out: &mut [u8]) -> u8 {
+        host::merge_tables(&merge.first, &merge.second, &merge.map, out)
     }
 }

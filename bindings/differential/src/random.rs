@@ -1,5 +1,7 @@
 //! Random numbers and tables, the same for the same seed.
 
+use reference::table::table_bytes;
+
 pub struct Random(u64);
 
 impl Random {
@@ -42,15 +44,21 @@ pub fn random_table(random: &mut Random) -> Vec<u8> {
     let shortest = if largest { 8 } else { 1 + usize::from(random.chance(85)) };
     let waiting = random.pick(&[0, 30, 50, 50, 70, 100]);
     let kinds: Vec<u8> = (0..channels).map(|_| random.chance(waiting).into()).collect();
-    let (mut chords, mut members) = (Vec::new(), Vec::new());
-    for _ in 0..count {
-        let len = shortest + random.below(longest - shortest + 1);
-        chords.extend((members.len() as u16).to_le_bytes());
-        chords.extend([len as u8, random.chance(40).into()]);
-        members.extend((0..len).map(|_| random.below(channels) as u8));
+    let chord = |_| {
+        let (len, equal) = (shortest + random.below(longest - shortest + 1), random.chance(40));
+        let members: Vec<u8> = (0..len).map(|_| random.below(channels) as u8).collect();
+        (members, equal)
+    };
+    table_bytes(&kinds, &(0..count).map(chord).collect::<Vec<_>>())
+}
+
+/// A byte of the table changed, or its end.
+pub fn damage(table: &mut Vec<u8>, random: &mut Random) {
+    let at = random.below(table.len());
+    match random.below(6) {
+        0 => table.truncate(at),
+        1 => table.push(random.next() as u8),
+        2 => table[at] = random.next() as u8,
+        _ => table[at] = table[at].wrapping_add(random.pick(&[1, 2, 255])),
     }
-    let (trays, rules) = (12, 12 + channels);
-    let header = [channels, count, members.len(), trays, rules, rules + 4 * count];
-    let header = header.iter().flat_map(|&number| (number as u16).to_le_bytes());
-    header.chain(kinds).chain(chords).chain(members).collect()
 }

@@ -13,7 +13,7 @@ const ITEM: u32 = 0;
 const MATCHED: u32 = 6;
 
 /// How a schedule chooses its calls.
-struct Habits {
+pub struct Habits {
     /// Senders below this are chosen while one of them can be.
     favoured: usize,
     properties: usize,
@@ -24,11 +24,11 @@ struct Habits {
     filling: bool,
     last: usize,
     /// Steps only, until the board is quiet.
-    draining: bool,
+    pub draining: bool,
 }
 
 impl Habits {
-    fn new(random: &mut Random, number: u64) -> Habits {
+    pub fn new(random: &mut Random, number: u64) -> Habits {
         let filling = number % 12 == 1;
         Habits {
             favoured: random.pick(&[2, 3, 6, 12, 32]),
@@ -53,7 +53,7 @@ impl Habits {
         }
     }
 
-    fn choose(&mut self, random: &mut Random, table: &Table, world: &World) -> Call {
+    pub fn choose(&mut self, random: &mut Random, table: &Table, world: &World) -> Call {
         let senders = senders(world);
         if !self.draining && random.chance(2) {
             return odd_call(random, table);

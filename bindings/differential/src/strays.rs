@@ -5,7 +5,7 @@ use crate::changes;
 use crate::invariant::senders;
 use crate::pair::{Checked, Pair};
 use crate::plain_rust::Reference;
-use crate::random::Random;
+use crate::random::{Random, damage};
 use crate::schedule::odd_call;
 use crate::world::World;
 use reference::{SENDER_NUMBERS, Table};
@@ -84,15 +84,8 @@ fn random_call(random: &mut Random, table: &Table, world: &World, favoured: usiz
     }
 }
 
-/// A byte of the table changed, or its end.
 fn damaged_table(pair: &mut Pair, random: &mut Random) -> Checked<()> {
-    let at = random.below(pair.table.len());
-    match random.below(6) {
-        0 => pair.table.truncate(at),
-        1 => pair.table.push(random.next() as u8),
-        2 => pair.table[at] = random.next() as u8,
-        _ => pair.table[at] = pair.table[at].wrapping_add(random.pick(&[1, 2, 255])),
-    }
+    damage(&mut pair.table, random);
     let world = pair.ours.clone();
     pair.set(&world);
     let opened = pair.open(pair.table.clone())?;

@@ -3,12 +3,14 @@
 //! It serves as the second opinion of the differential test and as the baseline of the benchmarks. Where 01 is silent
 //! it follows docs/DECISIONS.md and the host interface, so that boards can be compared number by number: going idle
 //! clears the signal and keeps the other numbers; the match of the own message is noted when that is consumed; tell
-//! and free count what is told and freed; a backoff counts the rests after the next one; a rest clears the retry mark.
+//! and free count what is told and freed; a backoff counts the rests after the next one; a rest clears the retry mark;
+//! the chord at the end of a pass is 0.
 
 pub mod answer;
 pub mod board;
 pub mod calls;
 pub mod look;
+pub mod merge;
 pub mod numbers;
 pub mod sound;
 pub mod step;
@@ -20,5 +22,7 @@ pub use calls::{Call, Match, Message, Replay};
 pub use numbers::{NUMBERS, SENDER_NUMBERS};
 pub use table::{Chord, Table};
 
+#[cfg(test)]
+mod merge_tests;
 #[cfg(test)]
 mod tests;

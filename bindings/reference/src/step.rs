@@ -279,7 +279,7 @@ impl Board {
         let next = table.chord_naming(self.channel(self.senders[i].subject), start);
         let sender = &mut self.senders[i];
         sender.phase = if next.is_some() { Phase::Look(0) } else { Phase::PassEnd };
-        sender.chord = next.unwrap_or(table.chord_count);
+        sender.chord = next.unwrap_or(0);
     }
 
     fn end_job(&mut self, table: &Table, i: usize) {

@@ -2,7 +2,7 @@
 
 use crate::answer::Refusal;
 
-const HEADER: usize = 12;
+pub const HEADER: usize = 12;
 
 /// A rule: the channels of its members, in order.
 #[derive(Clone, Copy, Debug, Default)]
@@ -37,22 +37,46 @@ pub struct Table {
     naming: [u32; 16],
 }
 
-struct Header {
-    channels: usize,
-    chords: usize,
-    members: usize,
+/// The counts at a table's head.
+#[derive(Clone, Copy, Debug)]
+pub struct Header {
+    pub channels: usize,
+    pub chords: usize,
+    pub members: usize,
+}
+
+/// An accepted table's bytes after the header: each channel's kind, each chord's record, the members.
+#[derive(Clone, Copy, Debug)]
+pub struct Parts<'a> {
+    pub channels: &'a [u8],
+    pub chords: &'a [[u8; 4]],
+    pub members: &'a [u8],
 }
 
 /// 0 if the table is accepted, else the number 1 to 7.
 pub fn table_refusal(bytes: &[u8]) -> Refusal {
-    Table::read(bytes).err().unwrap_or(0)
+    Parts::read(bytes).err().unwrap_or(0)
 }
 
-impl Table {
-    pub fn read(bytes: &[u8]) -> Result<Table, Refusal> {
+/// Table bytes from each channel's kind, and each chord's channels and whether it wants equal property numbers.
+pub fn table_bytes<M: AsRef<[u8]>>(kinds: &[u8], chords: &[(M, bool)]) -> Vec<u8> {
+    let (mut records, mut members) = (Vec::new(), Vec::new());
+    for (channels, equal) in chords {
+        let channels = channels.as_ref();
+        records.extend((members.len() as u16).to_le_bytes());
+        records.extend([channels.len() as u8, u8::from(*equal)]);
+        members.extend(channels);
+    }
+    let header = Header { channels: kinds.len(), chords: chords.len(), members: members.len() };
+    [&header.to_bytes(), kinds, &records, &members].concat()
+}
+
+impl Parts<'_> {
+    pub fn read(bytes: &[u8]) -> Result<Parts<'_>, Refusal> {
         let header = Header::read(bytes)?;
         let (channels, rest) = bytes[HEADER..].split_at(header.channels);
         let (chords, members) = rest.split_at(4 * header.chords);
+        let (chords, _) = chords.as_chunks();
         if channels.iter().any(|&kind| kind > 1) {
             return Err(4);
         }
@@ -60,15 +84,21 @@ impl Table {
         if members.iter().any(|&channel| channel as usize >= header.channels) {
             return Err(7);
         }
-        Ok(Table::build(channels, chords, members))
+        Ok(Parts { channels, chords, members })
+    }
+}
+
+impl Table {
+    pub fn read(bytes: &[u8]) -> Result<Table, Refusal> {
+        Parts::read(bytes).map(Table::build)
     }
 
-    fn build(channels: &[u8], chords: &[u8], members: &[u8]) -> Table {
+    fn build(parts: Parts) -> Table {
+        let Parts { channels, chords, mut members } = parts;
         let waiting = channels.iter().enumerate().fold(0, |mask, (c, &kind)| mask | u16::from(kind) << c);
-        let (channel_count, chord_count) = (channels.len() as u8, (chords.len() / 4) as u8);
+        let (channel_count, chord_count) = (channels.len() as u8, chords.len() as u8);
         let mut table = Table { channel_count, chord_count, chords: Default::default(), waiting, naming: [0; 16] };
-        let mut members = members;
-        for (number, record) in chords.chunks_exact(4).enumerate() {
+        for (number, record) in chords.iter().enumerate() {
             let (own, rest) = members.split_at(record[2] as usize);
             members = rest;
             table.put_chord(number, own, record[3] == 1);
@@ -107,22 +137,45 @@ impl Header {
             return Err(1);
         }
         let number = |at: usize| u16::from_le_bytes([bytes[2 * at], bytes[2 * at + 1]]) as usize;
-        let (channels, chords, members) = (number(0), number(1), number(2));
-        if !(1..=16).contains(&channels) || chords > 32 || members > 256 {
+        let header = Header { channels: number(0), chords: number(1), members: number(2) };
+        if !header.in_range() {
             return Err(2);
         }
-        let places = [HEADER, HEADER + channels, HEADER + channels + 4 * chords];
-        if places != [number(3), number(4), number(5)] || bytes.len() != places[2] + members {
+        if header.places() != [number(3), number(4), number(5)] || bytes.len() != header.table_len() {
             return Err(3);
         }
-        Ok(Header { channels, chords, members })
+        Ok(header)
+    }
+
+    pub fn in_range(&self) -> bool {
+        (1..=16).contains(&self.channels) && self.chords <= 32 && self.members <= 256
+    }
+
+    /// Where channels, chords and members begin.
+    fn places(&self) -> [usize; 3] {
+        let chords = HEADER + self.channels;
+        [HEADER, chords, chords + 4 * self.chords]
+    }
+
+    pub fn table_len(&self) -> usize {
+        self.places()[2] + self.members
+    }
+
+    pub fn to_bytes(&self) -> [u8; HEADER] {
+        let [channels, chords, members] = self.places();
+        let numbers = [self.channels, self.chords, self.members, channels, chords, members];
+        let mut bytes = [0; HEADER];
+        for (to, number) in bytes.chunks_exact_mut(2).zip(numbers) {
+            to.copy_from_slice(&(number as u16).to_le_bytes());
+        }
+        bytes
     }
 }
 
 /// Each chord starts where the one before it ended; the last ends at `members`.
-fn judge_chords(chords: &[u8], members: usize) -> Result<(), Refusal> {
+fn judge_chords(chords: &[[u8; 4]], members: usize) -> Result<(), Refusal> {
     let mut next = 0;
-    for record in chords.chunks_exact(4) {
+    for record in chords {
         let first = u16::from_le_bytes([record[0], record[1]]) as usize;
         if first != next || !(1..=8).contains(&record[2]) || record[3] > 1 {
             return Err(5);

@@ -7,6 +7,10 @@
 pub const BOARD_NUMBERS: usize = 674;
 /// The most messages of a board, and matches.
 pub const MESSAGES: usize = 1024;
+/// The longest table.
+pub const TABLE_BYTES: usize = 412;
+/// A map's byte for a channel that becomes a new one.
+pub const NEW_CHANNEL: u8 = 255;
 /// Kinds of a replay's calls.
 pub const STEP: u8 = 0;
 pub const ADD: u8 = 1;
@@ -98,6 +102,16 @@ macro_rules! lend {
 
 unsafe extern "C" {
     fn gv_table_refusal(table: *const u8, table_len: usize) -> u8;
+    fn gv_merge_tables(
+        first: *const u8,
+        first_len: usize,
+        second: *const u8,
+        second_len: usize,
+        map: *const u8,
+        map_len: usize,
+        out: *mut u8,
+        out_len: usize,
+    ) -> u8;
     fn gv_open(table: *const u8, table_len: usize, board: *mut u16, board_len: usize) -> u8;
 }
 board_function!(gv_add, mut, [], [u16, u16, u32, i64], u32);
@@ -111,6 +125,14 @@ board_function!(gv_quiet, const, [], [*mut i64, usize], u8);
 pub fn table_refusal(table: &[u8]) -> u8 {
     // SAFETY: the slice is borrowed until the call returns.
     unsafe { gv_table_refusal(table.as_ptr(), table.len()) }
+}
+
+/// Writes the merged table from the start of `out`; the map has a byte for each channel of the second.
+pub fn merge_tables(first: &[u8], second: &[u8], map: &[u8], out: &mut [u8]) -> u8 {
+    let (first_len, second_len, map_len, out_len) = (first.len(), second.len(), map.len(), out.len());
+    let (first, second, map, out) = (first.as_ptr(), second.as_ptr(), map.as_ptr(), out.as_mut_ptr());
+    // SAFETY: the four slices are borrowed until the call returns, the last one exclusively.
+    unsafe { gv_merge_tables(first, first_len, second, second_len, map, map_len, out, out_len) }
 }
 
 pub fn open(table: &[u8], board: &mut [u16]) -> u8 {

@@ -1,7 +1,7 @@
 //! The matching board, a join-pattern matcher after Russo and Turon, proved; here for Rust.
 //!
 //! A [`Matcher`] owns a table of chords and a board. Senders add messages and take steps; the matcher says what each
-//! step did. A refused call alters nothing.
+//! step did. A refused call alters nothing. [`merge_tables`] makes one table of two.
 
 mod answer;
 pub mod host;
@@ -127,6 +127,45 @@ impl Matcher {
     pub fn counts(&self) -> (u16, u16) {
         (self.board[0], self.board[1])
     }
+}
+
+/// One table of two. The map has for each channel of the second the channel of the first that it becomes, of the same
+/// kind and no other's, or `None` for a new one. New channels follow the first's in their order; the first's chords
+/// keep their numbers and the second's follow.
+///
+/// A [`Matcher`] of the merged table answers as one of the first does, as long as messages are added only to channels
+/// of the first that no chord of the second names.
+///
+/// ```
+/// use gevnyusto::{Matcher, Refusal, merge_tables};
+///
+/// // One channel that leaves and one that waits; a chord of both, with equal property numbers.
+/// const FIRST: [u8; 20] = [2, 0, 1, 0, 2, 0, 12, 0, 14, 0, 18, 0, 0, 1, 0, 0, 2, 1, 0, 1];
+/// // Two channels that leave, a chord of both.
+/// const SECOND: [u8; 20] = [2, 0, 1, 0, 2, 0, 12, 0, 14, 0, 18, 0, 0, 0, 0, 0, 2, 0, 0, 1];
+///
+/// let merged = merge_tables(&FIRST, &SECOND, &[Some(0), None])?;
+/// assert_eq!(merged[12..], [0, 1, 0, 0, 0, 2, 1, 2, 0, 2, 0, 0, 1, 0, 2]);
+/// let mut matcher = Matcher::open(merged)?;
+/// matcher.add(0, 2, 7, 5000)?;
+///
+/// assert_eq!(merge_tables(&FIRST, &SECOND, &[Some(1), None]), Err(Refusal::ChannelMap));
+/// # Ok::<(), Refusal>(())
+/// ```
+pub fn merge_tables(first: &[u8], second: &[u8], map: &[Option<u8>]) -> Result<Vec<u8>, Refusal> {
+    // A 255 would be a new channel; no table has a channel 254 either.
+    let byte = |channel: &Option<u8>| channel.map_or(host::NEW_CHANNEL, |channel| channel.min(254));
+    let map: Vec<u8> = map.iter().map(byte).collect();
+    let mut table = vec![0; host::TABLE_BYTES];
+    refused(host::merge_tables(first, second, &map, &mut table))?;
+    table.truncate(table_len(&table));
+    Ok(table)
+}
+
+/// The length that a table's header says: past its members.
+fn table_len(table: &[u8]) -> usize {
+    let number = |at: usize| usize::from(u16::from_le_bytes([table[at], table[at + 1]]));
+    number(10) + number(4)
 }
 
 impl Call {

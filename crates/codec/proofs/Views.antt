@@ -10,7 +10,7 @@ use Rattle.model.specs.Layout.{tableRefusal, tableOf}
 use Rattle.model.proofs.AcceptedChords.{TableOk, table-ok}
 use Rattle.codec.specs.Views.{firsts, chordIn, tableIn, chordFor, tableFor, emptyChord, readOf}
 
-firsts-front : {A : Type 0} (d : A) (xs ys : List A) → firsts d (length xs) (xs ++ ys) ≡ xs
+pub firsts-front : {A : Type 0} (d : A) (xs ys : List A) → firsts d (length xs) (xs ++ ys) ≡ xs
 firsts-front d [] ys = refl
 firsts-front d (x ∷ xs) ys = ap (λ l. x ∷ l) (firsts-front d xs ys)
 
@@ -22,7 +22,7 @@ map-set f [] i x = refl
 map-set f (y ∷ ys) zero x = refl
 map-set f (y ∷ ys) (suc i) x = ap (λ l. f y ∷ l) (map-set f ys i x)
 
-map-sets : {A B : Type 0} (f : A → B) (l : List A) (i : ℕ) (xs : List A)
+pub map-sets : {A B : Type 0} (f : A → B) (l : List A) (i : ℕ) (xs : List A)
     → map f (sets l i xs) ≡ sets (map f l) i (map f xs)
 map-sets f l i [] = refl
 map-sets f l i (x ∷ xs) = rw (map-sets f (set l i x) (suc i) xs, map-set)
@@ -31,7 +31,7 @@ chord-seen : (c : Chord) → length (c .channels) ≤ 8 → chordIn (chordFor c)
 unfolding chordIn chordFor
 chord-seen c h = rw (firsts-stored 0 (c .channels) (replicate 8 0) (rw (length-replicate) h))
 
-chords-seen : (cs : List Chord) → ((q : ℕ) → q < length cs → length (getD cs q noChord .channels) ≤ 8)
+pub chords-seen : (cs : List Chord) → ((q : ℕ) → q < length cs → length (getD cs q noChord .channels) ≤ 8)
     → map chordIn (map chordFor cs) ≡ cs
 chords-seen [] h = refl
 chords-seen (c ∷ cs) h = rw (chord-seen c (h 0 (omega arith)), chords-seen cs (λ q l. h (suc q) (omega arith)))

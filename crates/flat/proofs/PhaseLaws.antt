@@ -7,7 +7,6 @@ use Prim.Native.Nat.{ℕ, zero, suc, _+_, _≤_}
 use borrow.Author.Tests.{leb-true, le-leb, eqb-true, ne-eqb}
 use lib.Dec.{eqb, leb}
 use native.Mathlib.Omega.{arith}
-use mir.Val.{boolByte}
 use Rattle.model.specs.Layout.{flag}
 use Rattle.model.proofs.Tests.{all-four, either, both, same?, never}
 use Rattle.state.specs.declared.Phase as DP
@@ -49,10 +48,6 @@ module _ (n k s : ℕ) (e : phaseOk n k s ≡ true) where
       (λ x. leb-true s 255 (both {t = eqb n 2} x .1)) (either g)
 
 -- a bool as a number, and back
-pub byte-flag : (b : Bool) → boolByte b ≡ flag b
-byte-flag true = refl
-byte-flag false = refl
-
 pub flag-one : (n : ℕ) → n ≤ 1 → flag (eqb n 1) ≡ n
 flag-one n h =
     ⊎-elim (λ e. rw e) (λ e. let z : n ≡ 0 = omega arith in rw z) (same? n 1)

@@ -7,8 +7,7 @@ use Prim.Native.Nat.{ℕ, zero, suc}
 use native.Mathlib.Omega.{arith}
 use Rattle.model.specs.Basics.{firstOf}
 use Rattle.model.specs.Layout.{tableRefusal}
-use Rattle.model.proofs.Tests.{tested}
-use Rattle.table.proofs.Places.{first-none}
+use Rattle.model.proofs.Tests.{tested, first-none}
 use Rattle.columns.specs.Columns.{Columns}
 use Rattle.columns.specs.MatchColumns.{MatchColumns}
 use Rattle.judges.specs.Judged.{boardRefusal}

@@ -7,8 +7,7 @@ use borrow.Author.Tests.{le-leb, lt-leb}
 use lib.IntN.{ℤ}
 use lib.ListN.{length}
 use native.Mathlib.Omega.{arith}
-use Rattle.model.proofs.Tests.{never}
-use Rattle.table.proofs.Places.{refused-first}
+use Rattle.model.proofs.Tests.{never, refused-first}
 use Rattle.judges.specs.Judged.{boardRefusal}
 use Rattle.flat.specs.Decoded.{boardFrom}
 use Rattle.flat_judges.specs.Judged.{flatRefusal}

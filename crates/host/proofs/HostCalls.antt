@@ -9,13 +9,15 @@ use Rattle.model.specs.Layout.{tableRefusal, tableOf}
 use Rattle.model.specs.Effects.{Said, numberOf}
 use Rattle.model.specs.Pools.{Call, steps}
 use Rattle.alone.specs.Alone.{In-peace}
-use Rattle.table.proofs.Places.{first-none}
+use Rattle.merging.specs.Merges.{mergedBytes}
+use Rattle.model.proofs.Tests.{first-none}
 use Rattle.judges.specs.Calls.{boardOf}
 use Rattle.replaying.specs.Replays.{answerNumber}
 use Rattle.schedules.specs.Schedules as Held-schedules
 use Rattle.schedules.specs.Schedules.{PlaysAll}
 use Rattle.schedules.proofs.PublicCalls.{public-calls}
 use Rattle.schedules.proofs.PublicPeace.{public-peace}
+use Rattle.schedules.proofs.PublicMerge.{merged-calls}
 use Rattle.flat.specs.Flat.{flatOk}
 use Rattle.host.specs.Lent.{Lent, heldOf}
 use Rattle.host.specs.Plays.{Flat-plays}
@@ -77,4 +79,16 @@ host-calls = record {
         p .leaves-board ok,
       );
   peace = peace;
+  merged = λ s z ms h h′ g g′ ks ns ns′ e own o p o′ q.
+      let v = mergedBytes s z ms in
+      let a = on-board s h ks ns h′ (opened-board h (o .opens) .0) p in
+      let b = on-board v g ks ns′ g′ (opened-board g (o′ .opens) .0) q in
+      let r = merged-calls .same s z ms (heldOf h) (heldOf h′) (heldOf g) (heldOf g′) ks (a .0) (b .0) e own
+      (opened s h o) (a .2) (opened v g o′) (b .2) in
+      (b .1 ∙ ap (map answerNumber) (r .0) ∙ sym (a .1), r .1);
+  merged-replay = λ s z ms h h′ g g′ c before after after′ e own o p o′ q.
+      let v = mergedBytes s z ms in
+      merged-calls .replayed s z ms (heldOf h) (heldOf h′) (heldOf g) (heldOf g′) c before after after′ e own
+      (opened s h o) (p .on-board (opened-board h (o .opens) .0))
+      (opened v g o′) (q .on-board (opened-board g (o′ .opens) .0));
 }

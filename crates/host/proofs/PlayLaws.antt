@@ -12,8 +12,7 @@ use Rattle.model.specs.Basics.{firstOf}
 use Rattle.model.specs.Layout.{tableRefusal}
 use Rattle.model.specs.Effects.{Refused}
 use Rattle.model.specs.Pools.{Call}
-use Rattle.model.proofs.Tests.{never}
-use Rattle.table.proofs.Places.{refused-first}
+use Rattle.model.proofs.Tests.{never, refused-first}
 use Rattle.judges.proofs.CallLaws as Calls
 use Rattle.adding.specs.Opens.{emptyHeld}
 use Rattle.replaying.specs.Replays.{CallColumns, callAt, answerNumber, refusalAfter, Plays-all}

@@ -8,10 +8,12 @@ use Rattle.model.specs.Layout.{tableOf}
 use Rattle.model.specs.Effects.{Said, Refused}
 use Rattle.model.specs.Pools.{Call, steps}
 use Rattle.alone.specs.Alone.{In-peace, mostSteps}
+use Rattle.merging.specs.Merges.{mergeRefusal, mergedBytes}
 use Rattle.judges.specs.Judged.{Lengths}
 use Rattle.judges.specs.Calls.{boardOf}
 use Rattle.replaying.specs.Replays.{CallColumns, callsOf, answerNumber}
 use Rattle.schedules.specs.Schedules.{Is-schedule, Keeps-demand-3}
+use Rattle.schedules.specs.Merged.{Own-calls, Reads-alike}
 use Rattle.flat.specs.Flat.{flatOk}
 use Rattle.host.specs.Lent.{Lent, heldOf}
 use Rattle.host.specs.Plays.{Flat-opens, Flat-plays, Flat-replays}
@@ -45,3 +47,12 @@ pub record Host-calls : Type 0 where
   -- a sender left in peace finishes
   pub peace : (s : List ℕ) (h : Lent) (ks : List Call) (ns : List ℕ) (h′ : Lent) (i : ℕ) → Opened s h
       → CallsAll s h ks ns h′ → i < 32 → In-peace (tableOf s) (boardOf s (heldOf h′)) i → Comes-to-rest s h′ i
+  -- on the first's own channels a merge alters nothing
+  pub merged : (s z ms : List ℕ) (h h′ g g′ : Lent) (ks : List Call) (ns ns′ : List ℕ) → mergeRefusal s z ms ≡ 0
+      → Own-calls s z ms ks → Opened s h → CallsAll s h ks ns h′ → Opened (mergedBytes s z ms) g
+      → CallsAll (mergedBytes s z ms) g ks ns′ g′
+      → (ns′ ≡ ns) × Reads-alike s (heldOf h′) (mergedBytes s z ms) (heldOf g′)
+  pub merged-replay : (s z ms : List ℕ) (h h′ g g′ : Lent) (c : CallColumns) (before after after′ : List ℕ)
+      → mergeRefusal s z ms ≡ 0 → Own-calls s z ms (callsOf c) → Opened s h → Flat-replays s h c before after 0 h′
+      → Opened (mergedBytes s z ms) g → Flat-replays (mergedBytes s z ms) g c before after′ 0 g′
+      → (after′ ≡ after) × Reads-alike s (heldOf h′) (mergedBytes s z ms) (heldOf g′)

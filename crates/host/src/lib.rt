@@ -8,6 +8,7 @@ ghost use lib.Seq.{paste};
 ghost use Rattle.model.specs.Layout.{tableRefusal};
 ghost use Rattle.model.specs.Pools.{adds, steps, quiet};
 ghost use Rattle.model.specs.Tables.{Table};
+ghost use Rattle.merging.specs.Merges.{mergeWriteRefusal, mergeWritten};
 ghost use Rattle.adds.specs.Sends.{sent};
 ghost use Rattle.reads.specs.Reads.{messageOf, readOf};
 ghost use Rattle.columns.specs.Columns.{Columns};
@@ -29,6 +30,17 @@ pub extern "C" fn gv_table_refusal(table: &[u8]) -> u8
     ensures { λ r. ⌜ r ≡ tableRefusal (now (table .entry)) ⌝ }
 {
     table::table_refusal(table)
+}
+
+// Merges two tables into a lent buffer.
+#[no_mangle]
+pub extern "C" fn gv_merge_tables(first: &[u8], second: &[u8], map: &[u8], out: &mut [u8]) -> u8
+    ensures { λ r. ⌜ r
+        ≡ mergeWriteRefusal (now (first .entry)) (now (second .entry)) (now (map .entry)) (now (out .entry)) ⌝ }
+    ensures { λ _. ⌜ now (out .exit)
+        ≡ mergeWritten (now (first .entry)) (now (second .entry)) (now (map .entry)) (now (out .entry)) ⌝ }
+{
+    merger::merge_tables(first, second, map, out)
 }
 
 // Opens an empty board.

@@ -10,7 +10,7 @@ use lib.ListN.{length}
 use Rattle.model.specs.Basics.{firstOf}
 use Rattle.model.specs.Layout.{tableRefusal, tableOf}
 use Rattle.model.specs.Sound.{sound}
-use Rattle.model.proofs.Tests.{both, unless-none}
+use Rattle.model.proofs.Tests.{both, unless-none, first-none}
 use Rattle.model.proofs.SoundFacts.{SoundBoard, sound-facts}
 use Rattle.columns.specs.Columns.{Columns}
 use Rattle.columns.specs.MatchColumns.{MatchColumns, matchIn}
@@ -19,11 +19,6 @@ use Rattle.columns.proofs.Messages.{length-messages}
 use Rattle.boards.specs.Boards.{boardIn}
 use Rattle.boards.specs.declared.Board as DB
 use Rattle.judges.specs.Judged.{lentOk, statusesOk, boardRefusal, Lengths}
-
--- no first refusal is none of either
-first-none : (x y : ℕ) → firstOf x y ≡ 0 → (x ≡ 0) × (y ≡ 0)
-first-none zero y e = (refl, e)
-first-none (suc n) y e = absurd (omega arith)
 
 module _ (c : Columns) (m : MatchColumns) where
   -- lent columns that are accepted, by their lengths

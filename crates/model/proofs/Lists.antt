@@ -2,7 +2,7 @@
 use mathlib.Core.Path.{_≡_, refl, sym, _∙_, subst}
 use mathlib.Core.Logic.{_⊎_, inl, inr, _≢_}
 use mathlib.Core.Bool.{true, false, Bool}
-use mathlib.Core.List.{List, [], _∷_, _++_}
+use mathlib.Core.List.{List, [], _∷_, _++_, map}
 use Prim.Native.Nat.{ℕ, _<_, suc, zero, _+_, _≤_}
 use borrow.Author.Tests.{eq-eqb, eqb-true}
 use lib.Dec.{eqb}
@@ -48,6 +48,13 @@ pub every-append : {A : Type 0} (f : A → Bool) (xs ys : List A) → every f xs
     → every f (xs ++ ys) ≡ true
 every-append f [] ys p q = q
 every-append f (x ∷ xs) ys p q = let e = both {t = f x} p in rw (e .0) (every-append f xs ys (e .1) q)
+
+-- a place of a list that was mapped
+pub nth-map : {A B : Type 0} (f : A → B) (xs : List A) (k : ℕ) (x : A) (y : B) → k < length xs
+    → getD (map f xs) k y ≡ f (getD xs k x)
+nth-map f [] k x y l = absurd (not-suc-le-zero l)
+nth-map f (z ∷ zs) zero x y l = refl
+nth-map f (z ∷ zs) (suc k) x y l = nth-map f zs k x y (le-of-suc-le-suc l)
 
 -- the first that passes
 pub first-before : (f : ℕ → Bool) (ms : List ℕ) (j : ℕ) → j < firstBy f ms → f (getD ms j 0) ≡ false

@@ -1,8 +1,10 @@
 -- Laws of accepted table bytes by the place of a chord: its entry, size, wish for equal properties, and its part.
 use mathlib.Core.Path.{_≡_, refl, sym}
+use mathlib.Core.Bool.{Bool, true, false}
 use mathlib.Core.List.{List}
 use Prim.Native.Nat.{ℕ, _<_, _≤_, _+_, _*_, zero, suc}
 use borrow.Author.Tests.{lt-ltb}
+use mir.Val.{boolByte}
 use lib.Dec.{eqb}
 use lib.ListN.{length, getD, take, drop}
 use lib.Seq.{drop-drop}
@@ -11,9 +13,15 @@ use native.Mathlib.Omega.{arith}
 use Rattle.model.specs.Tables.{chordAt, size, noChord}
 use Rattle.model.specs.Layout.{tableRefusal, tableOf, countT, countR, chordsStart, chordBytes, membersSum}
 use Rattle.model.specs.Layout.{chordEntry, partStart, partSize, chordRefusal, chordPart, chordsFrom, memberBytes}
+use Rattle.model.specs.Layout.{flag}
 use Rattle.model.proofs.Accepted.{accepted}
 use Rattle.model.proofs.AcceptedChords.{ChordSays, says-at, sum-up-to, size-of, length-chords}
 use Rattle.model.proofs.Survive.{tables-survive}
+
+-- a bool as a byte
+pub byte-flag : (b : Bool) → boolByte b ≡ flag b
+byte-flag true = refl
+byte-flag false = refl
 
 equal-from : (n : ℕ) (s ms : List ℕ) (q : ℕ) → q < n
     → getD (chordsFrom n s ms) q noChord .equal ≡ eqb (getD (drop (4 * q) s) 3 0) 1

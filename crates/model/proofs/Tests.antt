@@ -2,11 +2,11 @@
 use mathlib.Core.Path.{_≡_, subst, sym, refl}
 use mathlib.Core.Logic.{_⊎_, inl, inr, _≢_}
 use mathlib.Core.Bool.{false, true, Bool, _&&_, _||_, not}
-use Prim.Native.Nat.{ℕ, suc}
+use Prim.Native.Nat.{ℕ, zero, suc}
 use borrow.Author.Tests.{eqb-true, eqb-false, ltb-true, ltb-false, leb-true, leb-false}
 use lib.Dec.{T, eqb}
 use native.Mathlib.Omega.{arith}
-use Rattle.model.specs.Basics.{unless}
+use Rattle.model.specs.Basics.{unless, firstOf}
 
 pub never : {X : Type 0} → false ≡ true → X
 never e = absurd (subst T (sym e) tt)
@@ -63,6 +63,15 @@ pub ruleset tests = (arith, eqb-true, eqb-no, ltb-true, ltb-false, leb-true, leb
 pub unless-none : (u : Bool) (n next : ℕ) → unless u (suc n) next ≡ 0 → (u ≡ true) × (next ≡ 0)
 unless-none true n next e = (refl, e)
 unless-none false n next e = absurd (omega arith)
+
+pub first-none : (n next : ℕ) → firstOf n next ≡ 0 → (n ≡ 0) × (next ≡ 0)
+first-none zero next e = (refl, e)
+first-none (suc n) next e = absurd (omega arith)
+
+-- a first refusal is the one that is given
+pub refused-first : (n next : ℕ) → n ≢ 0 → n ≡ firstOf n next
+refused-first zero next h = absurd (h refl)
+refused-first (suc n) next h = refl
 
 pub all-four : (a b c d : Bool)
     → (a && (b && (c && d))) ≡ true → (a ≡ true) × (b ≡ true) × (c ≡ true) × (d ≡ true)

@@ -10,7 +10,7 @@ use Rattle.model.specs.Basics.{firstOf}
 use Rattle.model.specs.Layout.{tableOf}
 use Rattle.model.specs.Boards.{noMessage, messageAt, matchAt}
 use Rattle.model.specs.Pools.{noRead, readMatch, quiet}
-use Rattle.table.proofs.Places.{refused-first}
+use Rattle.model.proofs.Tests.{refused-first}
 use Rattle.columns.specs.Columns.{Columns}
 use Rattle.columns.specs.MatchColumns.{MatchColumns}
 use Rattle.state.specs.Views.{senderIn}

@@ -16,7 +16,7 @@ use Rattle.model.specs.Layout.{tableOf}
 use Rattle.model.specs.Boards.{Board}
 use Rattle.model.specs.Effects.{Said, Refused}
 use Rattle.model.specs.Pools.{Call, adds, steps, answerTo, afterAll, history}
-use Rattle.model.proofs.Tests.{both, unless-none}
+use Rattle.model.proofs.Tests.{both, unless-none, first-none, refused-first}
 use Rattle.columns.specs.Columns.{listFrom}
 use Rattle.columns.proofs.ListFrom.{left-from, none-from}
 use Rattle.state.specs.Views.{senderIn, canStep}
@@ -221,18 +221,10 @@ fit-by c room e l =
       answers-all = l;
     }
 
-first-some : (x y : ℕ) → x ≢ 0 → x ≡ firstOf x y
-first-some zero y n = absurd (n refl)
-first-some (suc x) y n = refl
-
-first-none : (x y : ℕ) → firstOf x y ≡ 0 → (x ≡ 0) × (y ≡ 0)
-first-none zero y e = (refl, e)
-first-none (suc n) y e = absurd (omega arith)
-
 -- x is the board's refusal
 module _ (x : ℕ) (c : CallColumns) (n : ℕ) where
   pub refused-board : (f : ℕ) → f ≢ 0 → f ≡ x → f ≡ refusalAfter x c n
-  refused-board f z e = e ∙ first-some x _ (λ y. z (e ∙ y))
+  refused-board f z e = e ∙ refused-first x _ (λ y. z (e ∙ y))
 
   module _ (e : x ≡ 0) where
     pub refused-columns : columnsFit c ≡ false → 30 ≡ refusalAfter x c n

@@ -1,3 +1,4 @@
 -- What a list of public calls comes to.
 pub mod PublicCalls
 pub mod PublicPeace
+pub mod PublicMerge

@@ -10,6 +10,7 @@ use Rattle.model.specs.Tables.{Table}
 use Rattle.model.specs.Boards.{Board, Sender, builtinBackoffs, emptyBoard, noMatch}
 use Rattle.model.specs.Effects.{Said, numberOf, Ended}
 use Rattle.model.specs.Pools.{Call, Exchange, answerTo, afterAll, history, quiet, noRead, readMatch}
+use Rattle.model.proofs.Lists.{nth-map}
 use Rattle.model.proofs.Demand.{demand-3}
 use Rattle.columns.specs.MatchColumns.{matchIn}
 use Rattle.columns.proofs.ListFrom.{length-from}
@@ -58,12 +59,6 @@ schedule s h (k ∷ ks) (w ∷ ws) h′ e (g, p, rest) =
     never r (suc n) = r .never-30 n
 
 -- the reads of an accepted board
-nth-map : {A B : Type 0} (f : A → B) (xs : List A) (k : ℕ) (x : A) (y : B) → k < length xs
-    → f (getD xs k x) ≡ getD (map f xs) k y
-nth-map f [] k x y l = absurd (omega arith)
-nth-map f (z ∷ zs) zero x y l = refl
-nth-map f (z ∷ zs) (suc k) x y l = nth-map f zs k x y (omega arith)
-
 reads-as : (s : List ℕ) (h : Held) → refusalOf s h ≡ 0 → Reads-as s h (boardOf s h)
 reads-as s h e =
     let c = h .columns in
@@ -73,7 +68,7 @@ reads-as s h e =
     record {
       match-reads = λ k l.
           sym (match-is s (h .board) c m e k (omega (arith, l, length-from (matchIn t m) 0 (h .board .matches))) .1)
-          ∙ nth-map (readMatch t b) (b .matches) k noMatch noRead l;
+          ∙ sym (nth-map (readMatch t b) (b .matches) k noMatch noRead l);
       message-reads = λ n l.
           sym (message-is s (h .board) c m e n (omega (arith, l, length-messages c 0 (h .board .messages))) .1);
       reply-reads = λ i l. sym (reply-is s (h .board) c m e i l .1)

@@ -1,3 +1,4 @@
 -- Public calls one after another.
 pub mod Schedules
 pub mod InPeace
+pub mod Merged

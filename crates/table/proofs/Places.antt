@@ -7,11 +7,10 @@ use borrow.Author.Tests.{ltb-true}
 use lib.Dec.{ltb}
 use lib.ListN.{length, getD}
 use lib.Seq.{getD-drop, getD-take}
-use Rattle.model.specs.Basics.{firstOf}
 use Rattle.model.specs.Layout.{tableRefusal, tableOf, countT, chordsStart, countR}
 use Rattle.model.specs.Layout.{chordRefusal}
 use Rattle.model.proofs.Accepted.{accepted}
-use Rattle.model.proofs.Tests.{unless-none}
+use Rattle.model.proofs.Tests.{unless-none, first-none}
 use Rattle.model.proofs.AcceptedChords.{length-chords}
 use Rattle.model.proofs.TableLaws.{below-count}
 use Rattle.table.specs.Headers.{Counts}
@@ -24,10 +23,6 @@ pub entry-in : (s : List ℕ) (q : ℕ) → tableRefusal s ≡ 0 → q < length 
 entry-in s q e h = let a = accepted s e in omega (arith, below-count s q e h)
 
 -- a chord that is not refused
-pub first-none : (a b : ℕ) → firstOf a b ≡ 0 → (a ≡ 0) × (b ≡ 0)
-first-none zero b e = (refl, e)
-first-none (suc a) b e = absurd (let z : suc a ≡ 0 = e in omega arith)
-
 pub chord-there : (s : List ℕ) (q : ℕ) → chordRefusal s q ≡ 0 → (tableRefusal s ≡ 0) × (q < length (tableOf s .chords))
 unfolding chordRefusal
 chord-there s q e =
@@ -35,10 +30,6 @@ chord-there s q e =
     let u = unless-none (ltb q (countR s)) 31 0 (p .1) in
     let l = length-chords s (accepted s (p .0)) in
     (p .0, rw l (ltb-true q (countR s) (u .0)))
-
-pub refused-first : (a b : ℕ) → (a ≡ 0 → ⊥) → a ≡ firstOf a b
-refused-first zero b n = absurd (n refl)
-refused-first (suc a) b n = refl
 
 -- a kind, by the byte that holds it
 pub kind-at : (s : List ℕ) (i : ℕ) → i < countT s → getD (tableOf s .kinds) i 0 ≡ getD s (12 + i) 0

@@ -9,7 +9,7 @@ use Rattle.io.specs.Counts.{Counts}
 use Rattle.model.specs.Tables.{Table}
 use Rattle.model.specs.Layout.{word, tableRefusal, tableBytes, writeRefusal, written}
 use Rattle.model.proofs.Written.{header, whole-written}
-use Rattle.table.proofs.Places.{first-none}
+use Rattle.model.proofs.Tests.{first-none}
 use Rattle.writer.proofs.Refusals.{all-written}
 use Rattle.codec.specs.declared.Table as DT
 use Rattle.codec.specs.Views.{tableIn}

@@ -9,7 +9,7 @@ use Rattle.model.specs.Tables.{Table}
 use Rattle.model.specs.Layout.{tableRefusal, tableOf, tableBytes, writeRefusal, written, keepsLayout, allBytes}
 use Rattle.model.proofs.Written.{reads-written}
 use Rattle.model.proofs.Survive.{tables-survive}
-use Rattle.table.proofs.Places.{first-none}
+use Rattle.model.proofs.Tests.{first-none}
 use Rattle.codec.specs.declared.Table as DT
 use Rattle.codec.specs.Views.{tableIn, readOf}
 use Rattle.codec.proofs.Views.{read-seen}

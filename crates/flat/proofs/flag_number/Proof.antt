@@ -1,6 +1,6 @@
 -- `flat::flag_number` meets its contract: 1 for yes.
 use borrow.Author.Needs.{needs}
-use Rattle.flat.proofs.PhaseLaws.{byte-flag}
+use Rattle.model.proofs.TableLaws.{byte-flag}
 use Rattle.flat.proofs.flag_number.Statement.{statement}
 use Rattle.flat.proofs.flag_number.Tie as tie
 

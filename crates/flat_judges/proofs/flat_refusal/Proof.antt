@@ -7,7 +7,7 @@ use native.Mathlib.Omega.{arith}
 use Rattle.model.specs.Sound.{sound}
 use Rattle.model.specs.Basics.{unless}
 use Rattle.model.specs.Layout.{tableRefusal, tableOf}
-use Rattle.table.proofs.Places.{refused-first}
+use Rattle.model.proofs.Tests.{refused-first}
 use Rattle.columns.specs.MatchColumns.{MatchColumns, matchesOf}
 use Rattle.columns.specs.Columns.{Columns, columnsOf}
 use Rattle.judges.proofs.Refusals.{lengths-by}

@@ -11,7 +11,7 @@ use Rattle.judges.specs.Judged.{boardRefusal}
 use Rattle.reading.proofs.ReadLaws.{quiet-is}
 use Rattle.flat.specs.Flat.{flatOk}
 use Rattle.flat.specs.Decoded.{boardFrom}
-use Rattle.flat.proofs.PhaseLaws.{byte-flag}
+use Rattle.model.proofs.TableLaws.{byte-flag}
 use Rattle.flat.proofs.WalkLaws.{all-numbers}
 use Rattle.flat_judges.specs.Judged.{flatRefusal}
 use Rattle.flat_judges.proofs.FlatLaws.{flat-accepted}

@@ -4,7 +4,7 @@ use mathlib.Core.Bool.{_&&_}
 use borrow.Author.Tests.{not-true, not-false}
 use Rattle.model.specs.Layout.{tableRefusal, tableOf}
 use Rattle.model.specs.Sound.{sound}
-use Rattle.table.proofs.Places.{refused-first}
+use Rattle.model.proofs.Tests.{refused-first}
 use Rattle.columns.specs.Columns.{Columns, columnsOf}
 use Rattle.columns.specs.MatchColumns.{MatchColumns, matchesOf}
 use Rattle.boards.specs.Boards.{boardIn}

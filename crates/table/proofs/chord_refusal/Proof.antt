@@ -3,7 +3,8 @@ use mathlib.Core.Path.{_≡_, sym, _∙_}
 use native.Mathlib.Omega.{arith}
 use borrow.Author.Tests.{lt-ltb, le-ltb}
 use Rattle.model.specs.Layout.{tableRefusal, chordRefusal, countR}
-use Rattle.table.proofs.Places.{counts-in, refused-first}
+use Rattle.model.proofs.Tests.{refused-first}
+use Rattle.table.proofs.Places.{counts-in}
 use borrow.Author.Needs.{needs}
 use Rattle.table.proofs.chord_refusal.Statement.{statement}
 use Rattle.table.proofs.chord_refusal.Tie as tie

@@ -1,19 +1,12 @@
 -- `writer::put_entry` meets its contract: a word and two bytes stored in turn are the entry stored.
-use mathlib.Core.Bool.{Bool, true, false}
-use mir.Val.{boolByte}
-use Rattle.model.specs.Layout.{flag}
-use mathlib.Core.Path.{_≡_, refl}
+use mathlib.Core.Path.{_≡_}
 use Prim.Native.Nat.{suc, _+_}
 use native.Mathlib.Omega.{arith}
 use lib.ListN.{length-set}
+use Rattle.model.proofs.TableLaws.{byte-flag}
 use borrow.Author.Needs.{needs}
 use Rattle.writer.proofs.put_entry.Statement.{statement}
 use Rattle.writer.proofs.put_entry.Tie as tie
-
--- a bool as a byte
-byte-flag : (b : Bool) → boolByte b ≡ flag b
-byte-flag true = refl
-byte-flag false = refl
 
 put-two-requires : tie.Need-put-two-requires
 put-two-requires c κs = search needs

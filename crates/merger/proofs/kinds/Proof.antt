@@ -1,0 +1,51 @@
+-- `merger::kinds` meets its contract: the part after the header, as long as the header says.
+use Rattle.model.proofs.AcceptedChords.{length-kinds}
+use Rattle.model.proofs.Accepted.{accepted}
+use Rattle.model.specs.Layout.{tableOf}
+use native.Mathlib.Omega.{arith}
+use Prim.Native.Nat.{_+_, _-_}
+use mathlib.Core.Path.{_≡_}
+use borrow.Author.Needs.{needs}
+use Rattle.merger.proofs.kinds.Statement.{statement}
+use Rattle.merger.proofs.kinds.Tie as tie
+
+channels-len-requires : tie.Need-channels-len-requires
+channels-len-requires c κs = search needs
+
+cast-t : tie.Need-cast-t
+cast-t c = search needs
+
+add-end : tie.Need-add-end
+add-end c = search needs
+
+sub-result : tie.Need-sub-result
+sub-result c = search needs
+
+part-result-start : tie.Need-part-result-start
+part-result-start c = search needs
+
+part-result-end : tie.Need-part-result-end
+part-result-end c =
+    let s = c .before .before in
+    let a = accepted _ (s .pre) in
+    omega (arith, a .whole, length-kinds _ a, c .channels-len .ensures)
+
+returns : tie.Need-returns
+unfolding tableOf
+returns c =
+    let n = c .before .channels-len in
+    let s = c .before .before .before in
+    let e : 12 + n .result - 12 ≡ n .result = omega arith in
+    rw (e, n .ensures, length-kinds (s .args .table .now) (accepted _ (s .pre)))
+
+pub kinds-spec : {M : Type 1} → statement M
+kinds-spec =
+    tie.close
+    (tie.spec
+    channels-len-requires
+    cast-t
+    add-end
+    sub-result
+    part-result-start
+    part-result-end
+    returns)

@@ -1,0 +1,173 @@
+-- Public calls are the model's schedule, so the law of a merge holds of what they return.
+use mathlib.Core.Path.{_≡_, refl, sym, ap, subst, _∙_}
+use mathlib.Core.Bool.{Bool, true, false}
+use mathlib.Core.List.{List, [], _∷_, _++_}
+use Prim.Native.Nat.{ℕ, _<_, _≤_}
+use borrow.Author.Tests.{ltb-true, ltb-false}
+use lib.Dec.{ltb}
+use lib.ListN.{length, getD, drop}
+use Rattle.model.specs.Layout.{tableOf}
+use Rattle.model.specs.Boards.{Board, builtinBackoffs, emptyBoard}
+use Rattle.model.specs.Effects.{Said, Ended}
+use Rattle.model.specs.Pools.{Call, Exchange, MatchRead, history, matchReads, noRead}
+use Rattle.model.specs.Demands.{boardAfter}
+use Rattle.merging.specs.Merges.{mergeRefusal, mergedBytes, Same-schedule}
+use Rattle.merging.proofs.Theorem.{merges}
+use Rattle.columns.specs.MatchColumns.{matchIn}
+use Rattle.columns.proofs.ListFrom.{length-from}
+use Rattle.columns.proofs.Messages.{length-messages}
+use Rattle.boards.specs.Calls.{Held}
+use Rattle.judges.specs.Calls.{boardOf}
+use Rattle.reading.specs.Answers.{matchNumber, matchAnswer, messageNumber, messageAnswer, replyNumber, replyAnswer}
+use Rattle.reading.proofs.ReadLaws.{match-is, match-none, message-is, message-none, reply-is, reply-none}
+use Rattle.replaying.specs.Replays.{callsOf, answerNumbers}
+use Rattle.schedules.specs.Schedules.{PlaysAll, exchanges, Opened, Reads-as, Keeps-demand-3}
+use Rattle.schedules.specs.Merged.{Alike, Reads-alike, Own-calls, Merged-calls}
+use Rattle.schedules.proofs.PublicCalls.{public-calls}
+
+-- a number is in range or past it
+by-range : {P : Type 0} (n limit : ℕ) → (n < limit → P) → (limit ≤ n → P) → P
+by-range {P} n limit below past = go (ltb n limit) refl
+  where
+    go : (u : Bool) → ltb n limit ≡ u → P
+    go true e = below (ltb-true n limit e)
+    go false e = past (ltb-false n limit e)
+
+-- the counts of a board as it is held
+module _ (t : List ℕ) (k : Held) (b : Board) (e : boardOf t k ≡ b) where
+  messages-held : length (b .messages) ≡ k .board .messages
+  messages-held =
+      ap (λ (x : Board). length (x .messages)) (sym e) ∙ length-messages (k .columns) 0 (k .board .messages)
+
+  matches-held : length (b .matches) ≡ k .board .matches
+  matches-held =
+      ap (λ (x : Board). length (x .matches)) (sym e)
+      ∙ length-from (matchIn (tableOf t) (k .matches)) 0 (k .board .matches)
+
+-- boards h and g that the same calls lead to, under the first table and under the merged one
+module _ (s z ms : List ℕ) (ks : List Call) (h g : Held) (e : mergeRefusal s z ms ≡ 0) (o : Own-calls s z ms ks)
+    (d : Keeps-demand-3 s ks h) (d′ : Keeps-demand-3 (mergedBytes s z ms) ks g) where
+  abbrev v : List ℕ
+  v = mergedBytes s z ms
+
+  abbrev b : Board
+  b = boardAfter (tableOf s) builtinBackoffs ks
+
+  abbrev m : Same-schedule (tableOf s) (tableOf v) builtinBackoffs ks
+  m = merges .same s z ms builtinBackoffs ks e o
+
+  merged-leaves : boardOf v g ≡ b
+  merged-leaves = d′ .leaves ∙ m .board
+
+  merged-reads : Reads-as v g b
+  merged-reads = subst (Reads-as v g) (m .board) (d′ .reads)
+
+  reads-same : matchReads (tableOf v) b ≡ matchReads (tableOf s) b
+  reads-same = ap (matchReads (tableOf v)) (sym (m .board)) ∙ m .reads
+
+  messages-first : length (b .messages) ≡ h .board .messages
+  messages-first = messages-held s h b (d .leaves)
+
+  messages-merged : length (b .messages) ≡ g .board .messages
+  messages-merged = messages-held v g b merged-leaves
+
+  matches-first : length (b .matches) ≡ h .board .matches
+  matches-first = matches-held s h b (d .leaves)
+
+  matches-merged : length (b .matches) ≡ g .board .matches
+  matches-merged = matches-held v g b merged-leaves
+
+  -- in range the reads are those of one board, past it they are refused alike
+  match-alike : (k : ℕ) → Alike matchNumber s h v g k × Alike matchAnswer s h v g k
+  match-alike k =
+      by-range k (length (b .matches))
+      (λ l.
+      let x = match-is s (h .board) (h .columns) (h .matches) (d .accepted) k (rw matches-first at l) in
+      let y = match-is v (g .board) (g .columns) (g .matches) (d′ .accepted) k (rw matches-merged at l) in
+      let r = ap (λ (xs : List MatchRead). getD xs k noRead) reads-same in
+      (sym (y .0) ∙ x .0, merged-reads .match-reads k l ∙ r ∙ sym (d .reads .match-reads k l)))
+      (λ l.
+      let x = match-none s (h .board) (h .columns) (h .matches) (d .accepted) k (rw matches-first at l) in
+      let y = match-none v (g .board) (g .columns) (g .matches) (d′ .accepted) k (rw matches-merged at l) in
+      (sym (y .0) ∙ x .0, sym (y .1) ∙ x .1))
+
+  message-alike : (n : ℕ) → Alike messageNumber s h v g n × Alike messageAnswer s h v g n
+  message-alike n =
+      by-range n (length (b .messages))
+      (λ l.
+      let x = message-is s (h .board) (h .columns) (h .matches) (d .accepted) n (rw messages-first at l) in
+      let y = message-is v (g .board) (g .columns) (g .matches) (d′ .accepted) n (rw messages-merged at l) in
+      (sym (y .0) ∙ x .0, merged-reads .message-reads n l ∙ sym (d .reads .message-reads n l)))
+      (λ l.
+      let x = message-none s (h .board) (h .columns) (h .matches) (d .accepted) n (rw messages-first at l) in
+      let y = message-none v (g .board) (g .columns) (g .matches) (d′ .accepted) n (rw messages-merged at l) in
+      (sym (y .0) ∙ x .0, sym (y .1) ∙ x .1))
+
+  reply-alike : (i : ℕ) → Alike replyNumber s h v g i × Alike replyAnswer s h v g i
+  reply-alike i =
+      by-range i 32
+      (λ l.
+      let x = reply-is s (h .board) (h .columns) (h .matches) (d .accepted) i l in
+      let y = reply-is v (g .board) (g .columns) (g .matches) (d′ .accepted) i l in
+      (sym (y .0) ∙ x .0, merged-reads .reply-reads i l ∙ sym (d .reads .reply-reads i l)))
+      (λ l.
+      let x = reply-none s (h .board) (h .columns) (h .matches) (d .accepted) i l in
+      let y = reply-none v (g .board) (g .columns) (g .matches) (d′ .accepted) i l in
+      (sym (y .0) ∙ x .0, sym (y .1) ∙ x .1))
+
+  alike : Reads-alike s h v g
+  alike = record {
+    board = merged-leaves ∙ sym (d .leaves);
+    match-reads = match-alike;
+    message-reads = message-alike;
+    reply-reads = reply-alike;
+    quiet-reads = merged-reads .quiet-reads ∙ sym (d .reads .quiet-reads);
+  }
+
+-- answers to the same calls that make the same exchanges
+said-first : List Exchange → Said
+said-first [] = Ended
+said-first (x ∷ xs) = x .said
+
+rest : List Exchange → List Exchange
+rest [] = []
+rest (x ∷ xs) = xs
+
+same-said : (s z : List ℕ) (h h′ g g′ : Held) (ks : List Call) (ws vs : List Said) → PlaysAll s h ks ws h′
+    → PlaysAll z g ks vs g′ → exchanges ks vs ≡ exchanges ks ws → vs ≡ ws
+unfolding said-first rest
+same-said s z h h′ g g′ [] ws vs p q e = q .0 ∙ sym (p .0)
+same-said s z h h′ g g′ (k ∷ ks) [] vs p q e = absurd p
+same-said s z h h′ g g′ (k ∷ ks) (w ∷ ws) [] p q e = absurd q
+same-said s z h h′ g g′ (k ∷ ks) (w ∷ ws) (v ∷ vs) p q e =
+    let a : v ≡ w = ap said-first e in
+    rw (a, same-said s z (p .0) h′ (q .0) g′ ks ws vs (p .2) (q .2) (ap rest e))
+
+says-is : (s : List ℕ) (h h′ : Held) (ks : List Call) (ws : List Said) → Opened s h → PlaysAll s h ks ws h′
+    → exchanges ks ws ≡ history (tableOf s) (emptyBoard builtinBackoffs) ks
+says-is s h h′ ks ws o p =
+    public-calls .demand s h ks ws h′ o p .0 .says
+    ∙ ap (λ (b : Board). history (tableOf s) b ks) (public-calls .opened s h o .1)
+
+pub merged-calls : Merged-calls
+merged-calls = record {
+  same = λ s z ms h h′ g g′ ks ws vs e own o p o′ q.
+      let t = mergedBytes s z ms in (
+        same-said s t h h′ g g′ ks ws vs p q
+            (says-is t g g′ ks vs o′ q
+            ∙ merges .same s z ms builtinBackoffs ks e own .answers
+            ∙ sym (says-is s h h′ ks ws o p)),
+        alike s z ms ks h′ g′ e own (public-calls .demand s h ks ws h′ o p .1)
+            (public-calls .demand t g ks vs g′ o′ q .1),
+      );
+  replayed = λ s z ms h h′ g g′ c before after after′ e own o p o′ q.
+      let t = mergedBytes s z ms in
+      let a = public-calls .replayed s h c before after h′ o p in
+      let b = public-calls .replayed t g c before after′ g′ o′ q in (
+        b .1
+            ∙ ap (λ (xs : List Exchange). answerNumbers xs ++ drop (length (c .kinds)) before)
+            (merges .same s z ms builtinBackoffs (callsOf c) e own .answers)
+            ∙ sym (a .1),
+        alike s z ms (callsOf c) h′ g′ e own (a .0) (b .0),
+      );
+}

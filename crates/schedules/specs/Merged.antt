@@ -1,0 +1,49 @@
+-- Public calls under a merged table (request 1): on channels that are the first's own they do what they do under the
+-- first.
+use mathlib.Core.Path.{_≡_}
+use mathlib.Core.Bool.{true}
+use mathlib.Core.List.{List}
+use Prim.Native.Nat.{ℕ}
+use Rattle.model.specs.Basics.{every}
+use Rattle.model.specs.Layout.{tableOf}
+use Rattle.model.specs.Effects.{Said}
+use Rattle.model.specs.Pools.{Call}
+use Rattle.merging.specs.Merges.{mergeRefusal, mergedBytes, ownChannel, addsTo}
+use Rattle.columns.specs.Columns.{Columns}
+use Rattle.columns.specs.MatchColumns.{MatchColumns}
+use Rattle.boards.specs.declared.Board as DB
+use Rattle.boards.specs.Calls.{Held}
+use Rattle.judges.specs.Calls.{boardOf}
+use Rattle.reading.specs.Answers.{matchNumber, matchAnswer, messageNumber, messageAnswer, replyNumber, replyAnswer}
+use Rattle.reading.specs.Answers.{quietAnswer}
+use Rattle.replaying.specs.Replays.{CallColumns, callsOf, Replays}
+use Rattle.schedules.specs.Schedules.{PlaysAll, Opened}
+
+-- a read by its number and its answer, on h under the table s and on g under v
+abbrev pub Alike : {A : Type 0} → (List ℕ → DB.Board → Columns → MatchColumns → ℕ → A) → List ℕ → Held → List ℕ → Held
+    → ℕ → Type 0
+Alike f s h v g n =
+    f v (g .board) (g .columns) (g .matches) n ≡ f s (h .board) (h .columns) (h .matches) n
+
+-- h under the table s and g under v are one board, and every read, refused or not, answers the same
+pub record Reads-alike (s : List ℕ) (h : Held) (v : List ℕ) (g : Held) : Type 0 where
+  pub board : boardOf v g ≡ boardOf s h
+  pub match-reads : (k : ℕ) → Alike matchNumber s h v g k × Alike matchAnswer s h v g k
+  pub message-reads : (n : ℕ) → Alike messageNumber s h v g n × Alike messageAnswer s h v g n
+  pub reply-reads : (i : ℕ) → Alike replyNumber s h v g i × Alike replyAnswer s h v g i
+  pub quiet-reads : quietAnswer v (g .board) (g .columns) (g .matches)
+      ≡ quietAnswer s (h .board) (h .columns) (h .matches)
+
+-- calls that add to none but the first's own channels
+abbrev pub Own-calls : List ℕ → List ℕ → List ℕ → List Call → Type 0
+Own-calls s z ms ks = every (addsTo (ownChannel (tableOf s) (tableOf z) ms)) ks ≡ true
+
+-- the same calls to a board opened with the first table, and to one opened with the merged table
+pub record Merged-calls : Type 0 where
+  pub same : (s z ms : List ℕ) (h h′ g g′ : Held) (ks : List Call) (ws vs : List Said) → mergeRefusal s z ms ≡ 0
+      → Own-calls s z ms ks → Opened s h → PlaysAll s h ks ws h′ → Opened (mergedBytes s z ms) g
+      → PlaysAll (mergedBytes s z ms) g ks vs g′ → (vs ≡ ws) × Reads-alike s h′ (mergedBytes s z ms) g′
+  pub replayed : (s z ms : List ℕ) (h h′ g g′ : Held) (c : CallColumns) (before after after′ : List ℕ)
+      → mergeRefusal s z ms ≡ 0 → Own-calls s z ms (callsOf c) → Opened s h → Replays s h c before after 0 h′
+      → Opened (mergedBytes s z ms) g → Replays (mergedBytes s z ms) g c before after′ 0 g′
+      → (after′ ≡ after) × Reads-alike s h′ (mergedBytes s z ms) g′
