@@ -60,7 +60,8 @@ fn joins(kinds: &[u8], m: u8, kind: u8) -> bool
         return true;
     }
     let k = m as usize;
-    kinds[k] == kind
+    let own = kinds[k];
+    own == kind
 }
 
 // Whether channels that are joined are of one kind.
@@ -187,17 +188,25 @@ fn targets(map: &[u8], n: u8) -> [u8; 16]
     out
 }
 
+// What channel x of the second becomes.
+fn becomes(targets: [u8; 16], x: u8) -> u8
+    requires { ⌜ x < 16 ⌝ }
+    ensures { λ r. ⌜ r ≡ getD targets x 0 ⌝ }
+{
+    let k = x as usize;
+    targets[k]
+}
+
 // A chord of the second with its channels mapped.
-fn chord_after(second: &[u8], chord: u8, becomes: [u8; 16]) -> codec::Chord
+fn chord_after(second: &[u8], chord: u8, targets: [u8; 16]) -> codec::Chord
     requires { ⌜ ChordAsked (now second) chord ⌝ }
-    ensures { λ r. ⌜ r ≡ chordFor (mergedChord becomes (chordAt (tableOf (now (second .entry))) chord)) ⌝ }
+    ensures { λ r. ⌜ r ≡ chordFor (mergedChord targets (chordAt (tableOf (now (second .entry))) chord)) ⌝ }
 {
     let part = table::members(second, chord);
     let mut channels = [0; 8];
     let mut k: usize = 0;
     while k < part.len() {
-        let x = part[k] as usize;
-        channels[k] = becomes[x];
+        channels[k] = becomes(targets, part[k]);
         k += 1;
     }
     codec::Chord {
@@ -212,16 +221,16 @@ fn chords_after(
     chords: [codec::Chord; 32],
     at: u8,
     second: &[u8],
-    becomes: [u8; 16],
+    targets: [u8; 16],
 ) -> [codec::Chord; 32]
     requires { ⌜ ChordsRoom (now second) at ⌝ }
-    ensures { λ r. ⌜ r ≡ sets chords at (chordsFor becomes (now (second .entry))) ⌝ }
+    ensures { λ r. ⌜ r ≡ sets chords at (chordsFor targets (now (second .entry))) ⌝ }
 {
     let r = table::chords_len(second);
     let mut out = chords;
     let mut i: u8 = 0;
     while i < r {
-        let c = chord_after(second, i, becomes);
+        let c = chord_after(second, i, targets);
         let k = (at as usize) + (i as usize);
         out[k] = c;
         i += 1;

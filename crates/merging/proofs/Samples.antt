@@ -1,16 +1,19 @@
 -- The samples computed.
 use mathlib.Core.Path.{_≡_, refl}
-use mathlib.Core.List.{[], _∷_, map}
+use mathlib.Core.List.{[], _∷_, _++_, map}
+use lib.ListN.{replicate}
 use Rattle.model.specs.Layout.{tableBytes}
 use Rattle.model.specs.Samples.{tableP}
 use Rattle.model.proofs.Samples.{opened}
-use Rattle.merging.specs.Merges.{mergedTable, mapOk, countsFit, mergedBytes, mergeRefusal}
+use Rattle.merging.specs.Merges.{mergedTable, mapOk, countsFit, mergeRefusal, mergeWriteRefusal, mergeWritten}
 use Rattle.merging.specs.Samples.{samples, twoP}
 
-pub sample-numbers : map (λ x. mergeRefusal (x .first) (x .second) (x .map)) samples ≡ map (λ x. x .number) samples
-unfolding opened mergedTable mapOk countsFit mergeRefusal tableBytes
+pub sample-numbers : map (λ x. mergeWriteRefusal (x .first) (x .second) (x .map) (replicate (x .room) 7)) samples
+    ≡ map (λ x. x .number) samples
+unfolding opened mergedTable mapOk countsFit mergeRefusal mergeWriteRefusal tableBytes
 sample-numbers = refl
 
-pub two-P : mergedBytes tableP tableP (0 ∷ 255 ∷ []) ≡ twoP
-unfolding opened mergedTable tableBytes
+-- bytes past the table are kept
+pub two-P : mergeWritten tableP tableP (0 ∷ 255 ∷ []) (replicate 29 7) ≡ twoP ++ (7 ∷ 7 ∷ [])
+unfolding opened mergedTable mapOk countsFit mergeRefusal mergeWriteRefusal mergeWritten tableBytes
 two-P = refl

@@ -4,15 +4,16 @@ use Prim.Native.Nat.{ℕ}
 use lib.ListN.{take, replicate}
 use Rattle.model.specs.Samples.{tableP}
 
--- two tables, a map, and the number
+-- two tables, a map, the bytes of the buffer, and the number
 pub record Sample : Type 0 where
   pub first : List ℕ
   pub second : List ℕ
   pub map : List ℕ
+  pub room : ℕ
   pub number : ℕ
 
-abbrev pub of : List ℕ → List ℕ → List ℕ → ℕ → Sample
-of s z ms n = record { first = s; second = z; map = ms; number = n }
+abbrev pub of : List ℕ → List ℕ → List ℕ → ℕ → ℕ → Sample
+of s z ms r n = record { first = s; second = z; map = ms; room = r; number = n }
 
 -- sixteen asynchronous channels and no chord
 abbrev pub full : List ℕ
@@ -24,24 +25,26 @@ three = 3 ∷ 0 ∷ 0 ∷ 0 ∷ 0 ∷ 0 ∷ 12 ∷ 0 ∷ 15 ∷ 0 ∷ 15 ∷ 0 �
 
 abbrev pub samples : List Sample
 samples =
-    of tableP tableP (0 ∷ 1 ∷ []) 0 ∷
-    of tableP tableP (255 ∷ 255 ∷ []) 0 ∷
-    of tableP tableP (0 ∷ 255 ∷ []) 0 ∷
-    of three three (2 ∷ 255 ∷ 255 ∷ []) 0 ∷
-    -- the first's number before the second's
-    of (take 11 tableP) (take 19 tableP) (0 ∷ 1 ∷ []) 1 ∷
-    of tableP (take 19 tableP) (0 ∷ []) 3 ∷
+    of tableP tableP (0 ∷ 1 ∷ []) 26 0 ∷
+    of tableP tableP (255 ∷ 255 ∷ []) 28 0 ∷
+    of tableP tableP (0 ∷ 255 ∷ []) 30 0 ∷
+    of three three (2 ∷ 255 ∷ 255 ∷ []) 30 0 ∷
+    -- the first's number before the second's, the second's before 17
+    of (take 11 tableP) (take 19 tableP) (0 ∷ 1 ∷ []) 30 1 ∷
+    of tableP (take 19 tableP) (0 ∷ []) 30 3 ∷
     -- the map's length; a channel that is not there; one named twice; kinds that differ
-    of tableP tableP (0 ∷ []) 17 ∷
-    of tableP tableP (0 ∷ 1 ∷ 255 ∷ []) 17 ∷
-    of tableP tableP (2 ∷ 1 ∷ []) 17 ∷
-    of tableP tableP (254 ∷ 1 ∷ []) 17 ∷
-    of three three (0 ∷ 255 ∷ 0 ∷ []) 17 ∷
-    of tableP tableP (1 ∷ 0 ∷ []) 17 ∷
-    -- 17 before 18
-    of full tableP (0 ∷ 0 ∷ []) 17 ∷
-    of full tableP (255 ∷ 255 ∷ []) 18 ∷
-    of full tableP (0 ∷ 255 ∷ []) 18 ∷ []
+    of tableP tableP (0 ∷ []) 30 17 ∷
+    of tableP tableP (0 ∷ 1 ∷ 255 ∷ []) 30 17 ∷
+    of tableP tableP (2 ∷ 1 ∷ []) 30 17 ∷
+    of tableP tableP (254 ∷ 1 ∷ []) 30 17 ∷
+    of three three (0 ∷ 255 ∷ 0 ∷ []) 30 17 ∷
+    of tableP tableP (1 ∷ 0 ∷ []) 30 17 ∷
+    -- 17 before 18, 18 before 31
+    of full tableP (16 ∷ 255 ∷ []) 30 17 ∷
+    of full tableP (0 ∷ 255 ∷ []) 30 18 ∷
+    of full tableP (255 ∷ 255 ∷ []) 0 18 ∷
+    of tableP tableP (0 ∷ 255 ∷ []) 26 31 ∷
+    of tableP tableP (0 ∷ 255 ∷ []) 27 0 ∷ []
 
 -- table P joined with another table P: its asynchronous channel is the same, its synchronous one is new
 abbrev pub twoP : List ℕ

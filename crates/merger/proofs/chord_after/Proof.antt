@@ -17,12 +17,12 @@ use Rattle.merger.proofs.chord_after.Statement.{statement}
 use Rattle.merger.proofs.chord_after.Tie as tie
 
 abbrev Inv-loop : tie.InvT-loop
-Inv-loop second chord becomes part channels₀ k₀ channels k =
-    (k ≤ length part) × (sets channels k (drop k (map (λ x. getD becomes x 0) part))
-    ≡ sets (replicate 8 0) 0 (map (λ x. getD becomes x 0) part))
+Inv-loop second chord targets part channels₀ k₀ channels k =
+    (k ≤ length part) × (sets channels k (drop k (map (λ x. getD targets x 0) part))
+    ≡ sets (replicate 8 0) 0 (map (λ x. getD targets x 0) part))
 
 abbrev μ-loop : tie.MeasureT-loop
-μ-loop second chord becomes part channels₀ k₀ channels k = length part - k
+μ-loop second chord targets part channels₀ k₀ channels k = length part - k
 
 few : (c : tie.After-members Inv-loop μ-loop) → length (c .members .result .now) ≤ 8
 few c =
@@ -44,17 +44,14 @@ members-requires c κs = search needs
 loop-holds : tie.Need-loop-holds Inv-loop μ-loop
 loop-holds c = search needs
 
-shared-slice-read-x : tie.Need-shared-slice-read-x Inv-loop μ-loop
-shared-slice-read-x c = search needs
+shared-slice-read-becomes : tie.Need-shared-slice-read-becomes Inv-loop μ-loop
+shared-slice-read-becomes c = search needs
 
-cast-x : tie.Need-cast-x Inv-loop μ-loop
-cast-x c = let p = c .before .before in omega (arith, below (p .before) (p .loop .k) (omega arith))
-
-array-read-channels : tie.Need-array-read-channels Inv-loop μ-loop
-array-read-channels c = let p = c .before .before in omega (arith, below (p .before) (p .loop .k) (omega arith))
+becomes-requires : tie.Need-becomes-requires Inv-loop μ-loop
+becomes-requires c κs = let p = c .before .before in below (p .before) (p .loop .k) (omega arith)
 
 array-write-channels : tie.Need-array-write-channels Inv-loop μ-loop
-array-write-channels c = omega (arith, few (c .before .before .before))
+array-write-channels c = omega (arith, few (c .before .before .before .before))
 
 add-k : tie.Need-add-k Inv-loop μ-loop
 add-k c = search needs
@@ -64,14 +61,14 @@ loop-less c = search needs
 
 loop-again : tie.Need-loop-again Inv-loop μ-loop
 loop-again c =
-    let p = c .before .before in
+    let p = c .before .before .before in
     let m = p .before in
-    let f : ℕ → ℕ = λ x. getD (m .before .before .args .t3) x 0 in
+    let f : ℕ → ℕ = λ x. getD (m .before .before .args .targets) x 0 in
     let k = p .loop .k in
     let part = m .members .result .now in
     let l = length-map part f in
     let g = fill-next (p .loop .channels) (map f part) k k 0 (omega arith) in
-    (omega arith, rw (← nth-map f part k 0 0 (omega arith)) (sym g ∙ p .loop .inv .1))
+    (omega arith, rw (c .becomes .ensures, ← nth-map f part k 0 0 (omega arith)) (sym g ∙ p .loop .inv .1))
 
 chord-len-requires : tie.Need-chord-len-requires Inv-loop μ-loop
 chord-len-requires c κs = search needs
@@ -85,7 +82,7 @@ returns c =
     let p = c .before .before .before in
     let m = p .before in
     let a = m .before .before .args in
-    let f : ℕ → ℕ = λ x. getD (a .t3) x 0 in
+    let f : ℕ → ℕ = λ x. getD (a .targets) x 0 in
     let k = p .loop .k in
     let part = m .members .result .now in
     let l = length-map part f in
@@ -103,9 +100,8 @@ chord-after-spec =
     μ-loop
     members-requires
     loop-holds
-    shared-slice-read-x
-    cast-x
-    array-read-channels
+    shared-slice-read-becomes
+    becomes-requires
     array-write-channels
     add-k
     loop-less

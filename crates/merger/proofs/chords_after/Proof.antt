@@ -17,11 +17,11 @@ use Rattle.merger.proofs.chords_after.Statement.{statement}
 use Rattle.merger.proofs.chords_after.Tie as tie
 
 abbrev Inv-loop : tie.InvT-loop
-Inv-loop at second becomes r out₀ i₀ out i =
-    (i ≤ r) × (sets out (at + i) (drop i (chordsFor becomes second)) ≡ sets out₀ at (chordsFor becomes second))
+Inv-loop at second targets r out₀ i₀ out i =
+    (i ≤ r) × (sets out (at + i) (drop i (chordsFor targets second)) ≡ sets out₀ at (chordsFor targets second))
 
 abbrev μ-loop : tie.MeasureT-loop
-μ-loop at second becomes r out₀ i₀ out i = r - i
+μ-loop at second targets r out₀ i₀ out i = r - i
 
 chords-len-requires : tie.Need-chords-len-requires Inv-loop μ-loop
 chords-len-requires c κs = c .before .pre .accepted
@@ -70,7 +70,7 @@ loop-again c =
     let a = s .args in
     let i = p .loop .i in
     let cs = tableOf (a .second .now) .chords in
-    let m = mergedChord (a .becomes) in
+    let m = mergedChord (a .targets) in
     let n = length-map cs m in
     let o = length-map (map m cs) chordFor in
     let f = fill-next (p .loop .out) (map chordFor (map m cs)) (a .at + i) i (chordFor (m noChord))
@@ -86,7 +86,7 @@ returns c =
     let a = l .before .before .args in
     let i = p .loop .i in
     let cs = tableOf (a .second .now) .chords in
-    let m = mergedChord (a .becomes) in
+    let m = mergedChord (a .targets) in
     let n = length-map cs m in
     let o = length-map (map m cs) chordFor in
     sym (fill-end (p .loop .out) (map chordFor (map m cs)) (a .at + i) i (omega (arith, l .chords-len .ensures)))
