@@ -20,7 +20,6 @@ use Rattle.schedules.proofs.PublicPeace.{public-peace}
 use Rattle.schedules.proofs.PublicMerge.{merged-calls}
 use Rattle.flat.specs.Flat.{flatOk}
 use Rattle.host.specs.Lent.{Lent, heldOf}
-use Rattle.host.specs.Plays.{Flat-plays}
 use Rattle.host.specs.Schedules.{CallsAll, Opened, Comes-to-rest, Host-calls}
 use Rattle.host.proofs.Chains.{opened-board, refused-kept}
 

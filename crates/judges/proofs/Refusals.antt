@@ -1,13 +1,12 @@
 -- What a board call has where its first tests refuse nothing.
-use mathlib.Core.Path.{_≡_, refl}
+use mathlib.Core.Path.{_≡_}
 use mathlib.Core.Bool.{true, _&&_}
 use mathlib.Core.List.{List}
-use Prim.Native.Nat.{ℕ, zero, suc, _≤_}
+use Prim.Native.Nat.{ℕ, _≤_}
 use native.Mathlib.Omega.{arith}
 use borrow.Author.Tests.{eqb-true}
 use lib.Dec.{eqb}
 use lib.ListN.{length}
-use Rattle.model.specs.Basics.{firstOf}
 use Rattle.model.specs.Layout.{tableRefusal, tableOf}
 use Rattle.model.specs.Sound.{sound}
 use Rattle.model.proofs.Tests.{both, unless-none, first-none}

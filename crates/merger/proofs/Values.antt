@@ -10,7 +10,7 @@ use Rattle.model.specs.Tables.{Chord, Table, noChord}
 use Rattle.model.specs.Layout.{flag, tableRefusal, tableOf}
 use Rattle.model.proofs.AcceptedChords.{table-ok}
 use Rattle.codec.specs.declared.Table as DT
-use Rattle.codec.specs.Views.{firsts, chordIn, tableIn, chordFor}
+use Rattle.codec.specs.Views.{firsts, chordIn, tableIn}
 use Rattle.codec.proofs.Views.{firsts-front, map-sets, chords-seen}
 use Rattle.writer.proofs.Chords.{length-kinds-in}
 use Rattle.merging.specs.Merges.{isNew, targets, newKinds, mergedChord, mergedTable}

@@ -1,11 +1,10 @@
 -- A table that has more channels and chords after another's: on channels that only the first's chords name, every call
 -- does the same under both.
 use mathlib.Core.Path.{_≡_, refl, ap}
-use mathlib.Core.Logic.{_⊎_, inl, inr}
 use mathlib.Core.Bool.{Bool, true, false, not, _&&_}
 use mathlib.Core.List.{List, [], _∷_}
 use Prim.Native.Nat.{ℕ, zero, suc, _<_, _≤_, _+_, _-_}
-use borrow.Author.Tests.{lt-ltb, le-ltb, ltb-true, ltb-false}
+use borrow.Author.Tests.{lt-ltb, le-ltb}
 use lib.Dec.{eqb, ltb}
 use lib.ListN.{length, getD, set, length-set, List·getD-eq-default}
 use native.Mathlib.Omega.{arith}
@@ -15,6 +14,7 @@ use Rattle.model.specs.Boards.{Message, noMessage, Sender, isConsumed}
 use Rattle.model.specs.Effects.{Turn, turned}
 use Rattle.model.specs.Jobs.{passFrom, startAt, inJob, job-end, endsBy, syncEnd, wakerEnd}
 use Rattle.model.specs.Steps.{toTell}
+use Rattle.model.proofs.Tests.{by-range}
 
 pub record Extends (t v : Table) : Type 0 where
   pub chords-same : (r : ℕ) → r < length (t .chords) → chordAt v r ≡ chordAt t r
@@ -98,13 +98,10 @@ module _ (t v : Table) (e : Extends t v) where
   -- synchronous channels
   sync-at : (is : List Message) → AllOwn t v is → (n : ℕ)
       → isSync v (getD is n noMessage .sent .channel) ≡ isSync t (getD is n noMessage .sent .channel)
-  sync-at is f n = go (ltb n (length is)) refl
-    where
-      go : (u : Bool) → ltb n (length is) ≡ u
-          → isSync v (getD is n noMessage .sent .channel) ≡ isSync t (getD is n noMessage .sent .channel)
-      go true y = e .sync-same _ (f n (ltb-true n (length is) y) .in-first)
-      go false y =
-          rw (List·getD-eq-default is noMessage {n = n} (ltb-false n (length is) y)) (e .sync-same 0 (e .kinds-some))
+  sync-at is f n =
+      by-range n (length is)
+      (λ l. e .sync-same _ (f n l .in-first))
+      (λ l. rw (List·getD-eq-default is noMessage {n = n} l) (e .sync-same 0 (e .kinds-some)))
 
   pub first-sync-same : (r : ℕ) → r < length (t .chords) → firstSync v r ≡ firstSync t r
   unfolding firstSync
@@ -145,8 +142,6 @@ set-sent (x ∷ xs) (suc n) τ (suc j) = set-sent xs n τ j
 
 pub own-set : (t v : Table) (is : List Message) (n : ℕ) (τ : Turn) → AllOwn t v is
     → AllOwn t v (set is n (turned τ (getD is n noMessage)))
-own-set t v is n τ f j l = rw (set-sent is n τ j) (f j (omega (
-  arith,
-  length-set is n (turned τ
-      (getD is n noMessage)),
-)))
+own-set t v is n τ f j l =
+    let k = length-set is n (turned τ (getD is n noMessage)) in
+    rw (set-sent is n τ j) (f j (omega arith))

@@ -1,5 +1,5 @@
 -- The merged table keeps the layout's rules, so its bytes are accepted and read as it.
-use mathlib.Core.Path.{_≡_, refl, ap, _∙_, subst⁻¹}
+use mathlib.Core.Path.{_≡_, refl, subst⁻¹}
 use mathlib.Core.Bool.{Bool, true, false, _||_}
 use mathlib.Core.List.{List, [], _∷_, map}
 use Prim.Native.Nat.{ℕ, zero, suc, _<_, _≤_, _+_}
@@ -62,14 +62,16 @@ keeps n c s f i =
     and (le-leb 1 (length (c .channels)) s)
     (and (le-leb (length (c .channels)) 8 f) (nth-every (λ m. ltb m n) (c .channels) 0 (λ j l. lt-ltb _ _ (i j l))))
 
-module _ (t u : Table) (ms : List ℕ) (tok : TableOk t) (uok : TableOk u) (m : mapOk t u ms ≡ true) where
-  map-says : (length ms ≡ length (u .kinds)) × (every (λ m. isNew m || ltb m (length (t .kinds))) ms ≡ true)
-  unfolding mapOk
-  map-says =
-      let a = all-four (eqb (length ms) (length (u .kinds))) (every (λ m. isNew m || ltb m (length (t .kinds))) ms)
-      (noneTwice ms) (kindsAgree (t .kinds) ms (u .kinds)) m in
-      (eqb-true _ _ (a .0), a .1)
+-- a map that may join has a byte for each channel of the second, and names channels of the first
+pub map-says : (t u : Table) (ms : List ℕ) → mapOk t u ms ≡ true
+    → (length ms ≡ length (u .kinds)) × (every (λ m. isNew m || ltb m (length (t .kinds))) ms ≡ true)
+unfolding mapOk
+map-says t u ms m =
+    let a = all-four (eqb (length ms) (length (u .kinds))) (every (λ m. isNew m || ltb m (length (t .kinds))) ms)
+    (noneTwice ms) (kindsAgree (t .kinds) ms (u .kinds)) m in
+    (eqb-true _ _ (a .0), a .1)
 
+module _ (t u : Table) (ms : List ℕ) (tok : TableOk t) (uok : TableOk u) (m : mapOk t u ms ≡ true) where
   abbrev n : ℕ
   n = length (t .kinds) + length (newKinds ms (u .kinds))
 
@@ -85,12 +87,13 @@ module _ (t u : Table) (ms : List ℕ) (tok : TableOk t) (uok : TableOk u) (m : 
       → ((j : ℕ) → j < length (c .channels) → getD (c .channels) j 0 < length (u .kinds))
       → chordKeeps n (merged c) ≡ true
   merged-keeps c s f i =
+      let says = map-says t u ms m in
       let becomes : ℕ → ℕ = λ x. getD (targets (length (t .kinds)) ms) x 0 in
       let z = length-map (c .channels) becomes in
       keeps n (merged c) (omega arith) (omega arith) (λ j l.
       rw (nth-map becomes (c .channels) j 0 0 (omega arith))
-      (target-in ms (u .kinds) (length (t .kinds)) (length (t .kinds)) (getD (c .channels) j 0) (map-says .0)
-      (map-says .1) (omega arith) (omega (arith, i j (omega arith), map-says .0))))
+      (target-in ms (u .kinds) (length (t .kinds)) (length (t .kinds)) (getD (c .channels) j 0) (says .0) (says .1)
+      (omega arith) (omega (arith, i j (omega arith), says .0))))
 
   second-keep : (cs : List Chord) → ((q : ℕ) → q < length cs → chordKeeps n (merged (getD cs q noChord)) ≡ true)
       → every (chordKeeps n) (map merged cs) ≡ true

@@ -90,11 +90,6 @@ module _ (t u : Table) (ms : List ℕ) (tok : TableOk t) (uok : TableOk u) where
       let p = both {t = leb (length (t .kinds) + length (newKinds ms (u .kinds))) 16} (sym fits-by-two ∙ e) in
       (leb-true _ _ (p .0), leb-true _ _ (p .1))
 
--- a map that may join has a byte for each channel
-pub map-whole : (t u : Table) (ms : List ℕ) → mapOk t u ms ≡ true → length ms ≡ length (u .kinds)
-unfolding mapOk
-map-whole t u ms e = eqb-true _ _ (both {t = eqb (length ms) (length (u .kinds))} e .0)
-
 -- a merge that is not refused is a write of the merged table
 module _ (s z ms out : List ℕ) (e : mergeRefusal s z ms ≡ 0) where
   pub write-refusal-is : mergeWriteRefusal s z ms out ≡ writeRefusal (mergedOf s z ms) out

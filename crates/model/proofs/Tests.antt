@@ -2,9 +2,9 @@
 use mathlib.Core.Path.{_≡_, subst, sym, refl}
 use mathlib.Core.Logic.{_⊎_, inl, inr, _≢_}
 use mathlib.Core.Bool.{false, true, Bool, _&&_, _||_, not}
-use Prim.Native.Nat.{ℕ, zero, suc}
+use Prim.Native.Nat.{ℕ, zero, suc, _<_, _≤_}
 use borrow.Author.Tests.{eqb-true, eqb-false, ltb-true, ltb-false, leb-true, leb-false}
-use lib.Dec.{T, eqb}
+use lib.Dec.{T, eqb, ltb}
 use native.Mathlib.Omega.{arith}
 use Rattle.model.specs.Basics.{unless, firstOf}
 
@@ -53,6 +53,14 @@ same? m n = go (eqb m n) refl
     go : (t : Bool) → eqb m n ≡ t → (m ≡ n) ⊎ (m ≢ n)
     go true e = inl (eqb-true m n e)
     go false e = inr (eqb-false m n e)
+
+-- a number is in range or past it
+pub by-range : {P : Type 0} (n limit : ℕ) → (n < limit → P) → (limit ≤ n → P) → P
+by-range {P} n limit below past = go (ltb n limit) refl
+  where
+    go : (u : Bool) → ltb n limit ≡ u → P
+    go true e = below (ltb-true n limit e)
+    go false e = past (ltb-false n limit e)
 
 pub eqb-no : (a b : ℕ) → eqb a b ≡ false → a ≢ b
 eqb-no a b e = eqb-false a b e

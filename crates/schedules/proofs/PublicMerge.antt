@@ -1,16 +1,14 @@
 -- Public calls are the model's schedule, so the law of a merge holds of what they return.
-use mathlib.Core.Path.{_≡_, refl, sym, ap, subst, _∙_}
-use mathlib.Core.Bool.{Bool, true, false}
+use mathlib.Core.Path.{_≡_, sym, ap, subst, _∙_}
 use mathlib.Core.List.{List, [], _∷_, _++_}
-use Prim.Native.Nat.{ℕ, _<_, _≤_}
-use borrow.Author.Tests.{ltb-true, ltb-false}
-use lib.Dec.{ltb}
+use Prim.Native.Nat.{ℕ}
 use lib.ListN.{length, getD, drop}
 use Rattle.model.specs.Layout.{tableOf}
 use Rattle.model.specs.Boards.{Board, builtinBackoffs, emptyBoard}
 use Rattle.model.specs.Effects.{Said, Ended}
 use Rattle.model.specs.Pools.{Call, Exchange, MatchRead, history, matchReads, noRead}
 use Rattle.model.specs.Demands.{boardAfter}
+use Rattle.model.proofs.Tests.{by-range}
 use Rattle.merging.specs.Merges.{mergeRefusal, mergedBytes, Same-schedule}
 use Rattle.merging.proofs.Theorem.{merges}
 use Rattle.columns.specs.MatchColumns.{matchIn}
@@ -24,14 +22,6 @@ use Rattle.replaying.specs.Replays.{callsOf, answerNumbers}
 use Rattle.schedules.specs.Schedules.{PlaysAll, exchanges, Opened, Reads-as, Keeps-demand-3}
 use Rattle.schedules.specs.Merged.{Alike, Reads-alike, Own-calls, Merged-calls}
 use Rattle.schedules.proofs.PublicCalls.{public-calls}
-
--- a number is in range or past it
-by-range : {P : Type 0} (n limit : ℕ) → (n < limit → P) → (limit ≤ n → P) → P
-by-range {P} n limit below past = go (ltb n limit) refl
-  where
-    go : (u : Bool) → ltb n limit ≡ u → P
-    go true e = below (ltb-true n limit e)
-    go false e = past (ltb-false n limit e)
 
 -- the counts of a board as it is held
 module _ (t : List ℕ) (k : Held) (b : Board) (e : boardOf t k ≡ b) where

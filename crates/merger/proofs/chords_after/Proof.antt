@@ -1,17 +1,17 @@
 -- `merger::chords_after` meets its contract: the chords left, stored from here on, give all of them stored.
 -- The measure is the number of chords left.
-use Rattle.merger.specs.Asks.{chordsFor}
-use Rattle.merging.specs.Merges.{mergedChord}
-use Rattle.codec.proofs.Fills.{fill-next, fill-end}
-use Rattle.codec.specs.Views.{chordFor}
-use Rattle.model.specs.Layout.{tableOf}
-use Rattle.model.specs.Tables.{noChord}
-use lib.Seq.{sets}
-use lib.ListN.{drop, length-map, List·getD-map}
-use native.Mathlib.Omega.{arith}
-use Prim.Native.Nat.{_≤_, _-_, _+_}
-use mathlib.Core.List.{map}
 use mathlib.Core.Path.{_≡_, sym, _∙_, ap}
+use mathlib.Core.List.{map}
+use Prim.Native.Nat.{_≤_, _-_, _+_}
+use native.Mathlib.Omega.{arith}
+use lib.ListN.{drop, length-map, List·getD-map}
+use lib.Seq.{sets}
+use Rattle.model.specs.Tables.{noChord}
+use Rattle.model.specs.Layout.{tableOf}
+use Rattle.merging.specs.Merges.{mergedChord}
+use Rattle.codec.specs.Views.{chordFor}
+use Rattle.codec.proofs.Fills.{fill-next, fill-end}
+use Rattle.merger.specs.Asks.{chordsFor}
 use borrow.Author.Needs.{needs}
 use Rattle.merger.proofs.chords_after.Statement.{statement}
 use Rattle.merger.proofs.chords_after.Tie as tie

@@ -1,8 +1,9 @@
-use lib.ListN.{getD}
+-- `merger::count_new` meets its contract: the count so far and what is left make the whole. The measure is the number
+-- of bytes left.
 use mathlib.Core.Path.{_≡_}
 use Prim.Native.Nat.{_≤_, _-_, _+_}
 use native.Mathlib.Omega.{arith}
-use lib.ListN.{length, drop}
+use lib.ListN.{getD, length, drop}
 use Rattle.model.proofs.TableLaws.{byte-flag}
 use Rattle.merging.specs.Merges.{isNew}
 use Rattle.merger.specs.Asks.{countNew}

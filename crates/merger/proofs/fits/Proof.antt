@@ -1,29 +1,34 @@
 -- `merger::fits` meets its contract: two sums decide.
-use Rattle.merger.proofs.Walks.{count-le, new-count}
-use Rattle.merging.proofs.WriteLaws.{fits-by-two}
+use mathlib.Core.Path.{sym}
+use Prim.Native.Nat.{_≤_}
+use native.Mathlib.Omega.{arith}
+use lib.ListN.{length}
 use Rattle.model.specs.Layout.{tableOf}
 use Rattle.model.proofs.AcceptedChords.{table-ok}
-use native.Mathlib.Omega.{arith}
-use mathlib.Core.Path.{sym}
+use Rattle.merging.proofs.WriteLaws.{fits-by-two}
+use Rattle.merger.proofs.Walks.{count-le, new-count}
 use borrow.Author.Needs.{needs}
 use Rattle.merger.proofs.fits.Statement.{statement}
 use Rattle.merger.proofs.fits.Tie as tie
+
+abbrev start : tie.After-channels-len → tie.Start
+start c = c .before .before .before .before
+
+few : (s : tie.Start) → length (s .args .map .now) ≤ 16
+few s = omega (arith, s .pre .whole, table-ok _ (s .pre .second-ok) .kinds-few)
 
 channels-len-requires : tie.Need-channels-len-requires
 channels-len-requires c κs = search needs
 
 count-new-requires : tie.Need-count-new-requires
-count-new-requires c κs =
-    let s = c .before .before .before .before in
-    omega (arith, s .pre .whole, table-ok _ (s .pre .second-ok) .kinds-few)
+count-new-requires c κs = few (start c)
 
 add-t : tie.Need-add-t
 add-t c =
-    let s = c .before .before .before .before .before in
+    let s = start (c .before) in
     omega (
       arith,
-      s .pre .whole,
-      table-ok _ (s .pre .second-ok) .kinds-few,
+      few s,
       table-ok _ (s .pre .first-ok) .kinds-few,
       c .count-new .ensures,
       c .before .channels-len .ensures,
@@ -38,7 +43,7 @@ chords-len-requires-2 c κs = search needs
 
 add-r : tie.Need-add-r
 add-r c =
-    let s = c .before .before .before .before .before .before .before in
+    let s = start (c .before .before .before) in
     omega (
       arith,
       table-ok _ (s .pre .second-ok) .chords-few,
@@ -49,11 +54,12 @@ add-r c =
 
 returns : tie.Need-returns
 returns c =
-    let s = c .before .before .before .before .before .before .before in
+    let new = c .before .before in
+    let s = start (new .before) in
     let a = s .args in
     rw (
-      c .before .before .before .channels-len .ensures,
-      c .before .before .count-new .ensures,
+      new .before .channels-len .ensures,
+      new .count-new .ensures,
       c .before .chords-len .ensures,
       c .chords-len2 .ensures,
     )

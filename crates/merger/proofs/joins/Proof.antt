@@ -1,6 +1,6 @@
 -- `merger::joins` meets its contract: a new channel joins none, another one has a kind.
-use Rattle.merger.proofs.Walks.{named}
 use borrow.Author.Tests.{eq-eqb, ne-eqb}
+use Rattle.merger.proofs.Walks.{named}
 use Rattle.merger.proofs.joins.Statement.{statement}
 use Rattle.merger.proofs.joins.Tie as tie
 

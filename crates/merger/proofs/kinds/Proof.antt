@@ -1,10 +1,10 @@
 -- `merger::kinds` meets its contract: the part after the header, as long as the header says.
+use mathlib.Core.Path.{_≡_}
+use Prim.Native.Nat.{_+_, _-_}
+use native.Mathlib.Omega.{arith}
+use Rattle.model.specs.Layout.{tableOf}
 use Rattle.model.proofs.AcceptedChords.{length-kinds}
 use Rattle.model.proofs.Accepted.{accepted}
-use Rattle.model.specs.Layout.{tableOf}
-use native.Mathlib.Omega.{arith}
-use Prim.Native.Nat.{_+_, _-_}
-use mathlib.Core.Path.{_≡_}
 use borrow.Author.Needs.{needs}
 use Rattle.merger.proofs.kinds.Statement.{statement}
 use Rattle.merger.proofs.kinds.Tie as tie

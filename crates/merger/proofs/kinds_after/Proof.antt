@@ -1,12 +1,14 @@
-use Rattle.merger.proofs.Walks.{joined-at, new-at, none-new, count-joined, count-new}
-use Rattle.merging.specs.Merges.{newKinds}
-use Rattle.merger.specs.Asks.{countNew}
-use lib.Seq.{sets}
-use lib.ListN.{length, drop}
+-- `merger::kinds_after` meets its contract: the new kinds left, stored from here on, give all of them stored.
+-- The measure is the number of bytes left.
+use mathlib.Core.Path.{_≡_, refl}
+use Prim.Native.Nat.{_≤_, _-_, _+_}
 use native.Mathlib.Numerals.{add-one}
 use native.Mathlib.Omega.{arith}
-use Prim.Native.Nat.{_≤_, _-_, _+_}
-use mathlib.Core.Path.{_≡_, refl}
+use lib.ListN.{length, drop}
+use lib.Seq.{sets}
+use Rattle.merging.specs.Merges.{newKinds}
+use Rattle.merger.specs.Asks.{countNew}
+use Rattle.merger.proofs.Walks.{joined-at, new-at, none-new, count-joined, count-new}
 use borrow.Author.Needs.{needs}
 use Rattle.merger.proofs.kinds_after.Statement.{statement}
 use Rattle.merger.proofs.kinds_after.Tie as tie

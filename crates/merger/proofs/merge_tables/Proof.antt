@@ -10,7 +10,8 @@ use Rattle.model.specs.Tables.{Table}
 use Rattle.model.specs.Layout.{tableRefusal, tableOf}
 use Rattle.model.proofs.AcceptedChords.{table-ok}
 use Rattle.merging.specs.Merges.{mapOk, countsFit, mergedOf}
-use Rattle.merging.proofs.WriteLaws.{map-whole, fits-room, write-refusal-is, written-is, first-refused}
+use Rattle.merging.proofs.MergedAccepted.{map-says}
+use Rattle.merging.proofs.WriteLaws.{fits-room, write-refusal-is, written-is, first-refused}
 use Rattle.merging.proofs.WriteLaws.{second-refused, map-refused, counts-refused, none-refused}
 use Rattle.codec.specs.Views.{readOf}
 use Rattle.codec.specs.declared.Read as DR
@@ -100,7 +101,7 @@ fits-requires c κs =
     record {
       first-ok = first-ok (two .before .before);
       second-ok = second-ok two;
-      whole = map-whole _ _ _ (map-is c);
+      whole = map-says _ _ _ (map-is c) .0;
     }
 
 returns-4 : tie.Need-returns-4
@@ -119,7 +120,7 @@ merged-requires c κs =
     let r = read two in
     let t = r .read-table .ensures .1 (first-ok (two .before .before)) in
     let value = r .read-table .result .table in
-    let w = map-whole _ _ _ (map-is three) in
+    let w = map-says _ _ _ (map-is three) .0 in
     let f = fits-room _ _ _ (table-ok _ (first-ok (two .before .before))) (table-ok _ (second-ok two)) (fits-are c) in
     let k = sym (length-kinds-in value) ∙ ap (λ (x : Table). length (x .kinds)) t in
     let h = sym (length-chords-in value) ∙ ap (λ (x : Table). length (x .chords)) t in

@@ -1,6 +1,6 @@
 -- `merger::targets` meets its contract: what is left, stored from here on, gives all of it stored.
 -- The measure is the number of bytes left.
-use mathlib.Core.Path.{_≡_, refl, sym, _∙_}
+use mathlib.Core.Path.{_≡_}
 use Prim.Native.Nat.{_≤_, _+_, _-_}
 use native.Mathlib.Numerals.{add-one}
 use native.Mathlib.Omega.{arith}
