@@ -54,7 +54,7 @@ uint8_t gv_table_refusal(const uint8_t *table, size_t table_len);
  * members by its own header, at most GV_TABLE_BYTES. Or a refusal: 1 to 7 for the first table, then for the second,
  * 17 for a map that is not as above, 18 for more than 16 channels, 32 chords or 256 members, 31.
  * From an empty board on, calls that add (or try to) only to channels of the first that no chord of the second names
- * after the map answer the same under the merged table as under the first, and leave the same numbers. */
+ * after the map answer the same under the merged table as under the first, and so does every read after them. */
 #define GV_TABLE_BYTES 412
 #define GV_NEW 255
 uint8_t gv_merge_tables(
