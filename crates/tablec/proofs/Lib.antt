@@ -1,2 +1,2 @@
--- Laws of a count of bytes, and of the bytes that are written.
-pub mod Sizes
+-- Laws of the bytes that are written.
+pub mod Written

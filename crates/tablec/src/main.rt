@@ -2,13 +2,19 @@
 // A line is `tray NAME leave|waiting` or `rule NAME = A + B [same property]`; a comment goes from `#` to its end.
 // Standard output gets nothing unless the whole text is right; what is wrong goes to standard error as one line.
 ghost use mathlib.Core.Path.{_≡_};
-ghost use Prim.Native.Nat.{_+_, _*_, _<_, _≤_};
+ghost use Prim.Native.Nat.{_<_, _≤_};
 ghost use lib.ListN.{length, take};
 ghost use Rattle.io.specs.Counts.{Counts};
 ghost use Rattle.tablec.specs.Encoded.{Encoded};
-use libc::STDERR_FILENO;
 use libc::STDIN_FILENO;
 use libc::STDOUT_FILENO;
+use texts::complain;
+use texts::complain_number;
+use texts::is_same;
+use texts::least;
+use texts::past;
+use texts::table_refused;
+use texts::word_at;
 
 // A name, with zeros past it; one of no bytes is no name.
 struct Name {
@@ -55,15 +61,9 @@ fn say_number(n: usize) {
     io::print_decimal(STDOUT_FILENO, n as u64);
 }
 
-fn complain(text: &[u8]) {
-    io::write_all(STDERR_FILENO, text);
-}
-
 // The one line on standard error, about a word that stands between two texts.
 fn wrong_word(number: u64, ahead: &[u8], word: &[u8], behind: &[u8]) {
-    complain(b"line ");
-    io::print_decimal(STDERR_FILENO, number);
-    complain(b": ");
+    complain_number(b"line ", number, b": ");
     complain(ahead);
     complain(word);
     complain(behind);
@@ -80,11 +80,7 @@ fn failed(t: Text) -> Text {
     next
 }
 
-// Words of a line.
-
-fn is_blank(b: u8) -> bool {
-    (b == b' ') | (b == b'\t')
-}
+// The bytes of a line.
 
 // Whether a byte may stand in a name.
 fn is_letter(b: u8) -> bool {
@@ -92,15 +88,6 @@ fn is_letter(b: u8) -> bool {
     let large = (b'A' <= b) & (b <= b'Z');
     let digit = (b'0' <= b) & (b <= b'9');
     small | large | digit | (b == b'-') | (b == b'_')
-}
-
-fn least(a: usize, b: usize) -> usize
-    ensures { λ r. ⌜ (r ≤ a) × (r ≤ b) ⌝ }
-{
-    if a < b {
-        return a;
-    }
-    b
 }
 
 // The length of a line without a carriage return at its end.
@@ -131,62 +118,6 @@ fn bare_len(line: &[u8], len: usize) -> usize
         i += 1;
     }
     without_return(line, n)
-}
-
-// Where the next word starts, or the line's end.
-fn word_start(line: &[u8], at: usize) -> usize
-    ensures { λ r. ⌜ r ≤ length (now (line .entry)) ⌝ }
-{
-    let mut i = least(at, line.len());
-    while i < line.len() {
-        if !is_blank(line[i]) {
-            return i;
-        }
-        i += 1;
-    }
-    i
-}
-
-// Where the word at a place ends.
-fn word_end(line: &[u8], at: usize) -> usize
-    requires { ⌜ at ≤ length (now line) ⌝ }
-    ensures { λ r. ⌜ (at ≤ r) × (r ≤ length (now (line .entry))) ⌝ }
-{
-    let mut i = at;
-    while i < line.len() {
-        if is_blank(line[i]) {
-            return i;
-        }
-        i += 1;
-    }
-    i
-}
-
-// The next word from a place on; no bytes at the line's end.
-fn word_at(line: &[u8], at: usize) -> &[u8] {
-    let from = word_start(line, at);
-    let to = word_end(line, from);
-    &line[from..to]
-}
-
-// The place behind that word.
-fn past(line: &[u8], at: usize) -> usize {
-    let from = word_start(line, at);
-    word_end(line, from)
-}
-
-fn is_same(a: &[u8], b: &[u8]) -> bool {
-    if a.len() != b.len() {
-        return false;
-    }
-    let mut i: usize = 0;
-    while i < a.len() {
-        if a[i] != b[i] {
-            return false;
-        }
-        i += 1;
-    }
-    true
 }
 
 // Names.
@@ -647,17 +578,8 @@ fn read_text() -> Text {
 
 // Table bytes.
 
-// Two bytes as a number, low byte first.
-fn two(low: u8, high: u8) -> usize
-    ensures { λ r. ⌜ r ≡ low + 256 * high ⌝ }
-    ensures { λ r. ⌜ r ≤ 65535 ⌝ }
-{
-    (low as usize) + 256 * (high as usize)
-}
-
 // The table's bytes at the start of a buffer, and how many they are; 0 where the writer refuses the table.
 // The writer stores only bytes that the reader accepts, so what is written to standard output always passes it.
-// Their number is where the header says that the members begin, and the number of members.
 fn encode(table: codec::Table, out: &mut [u8; 412]) -> usize
     ensures { λ r. ⌜ Counts r (now (out .exit)) ⌝ }
     ensures { λ r. ⌜ ((r ≡ 0 → ⊥) → Encoded table (take r (now (out .exit)))) ⌝ }
@@ -665,7 +587,7 @@ fn encode(table: codec::Table, out: &mut [u8; 412]) -> usize
     if writer::write_table(table, out) != 0 {
         return 0;
     }
-    two(out[10], out[11]) + two(out[4], out[5])
+    texts::table_len(out)
 }
 
 // From text to bytes.
@@ -765,34 +687,13 @@ fn say_rules(table: codec::Table) {
     }
 }
 
-// When the reader gives a number.
-fn complain_when(number: u8) {
-    match number {
-        1 => complain(b"under 12 bytes"),
-        2 => complain(b"T, R or M out of range"),
-        3 => complain(b"offsets or length wrong"),
-        4 => complain(b"byte over 1"),
-        5 => complain(b"wrong first member, count not 1 to 8, or last byte over 1"),
-        6 => complain(b"member counts do not sum to M"),
-        _ => complain(b"tray number T or more"),
-    }
-}
-
-fn refused(number: u8) {
-    complain(b"refused ");
-    io::print_decimal(STDERR_FILENO, number as u64);
-    complain(b": ");
-    complain_when(number);
-    complain(b"\n");
-}
-
 // One byte more than the longest table is read, so that longer input is refused.
 fn decompile() {
     let mut bytes = [0u8; 413];
     let n = io::read_full(STDIN_FILENO, &mut bytes);
     let read = codec::read_table(&bytes[..n]);
     if read.number != 0 {
-        refused(read.number);
+        table_refused(read.number, b"");
         return;
     }
     let table = read.table;

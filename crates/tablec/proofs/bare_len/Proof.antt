@@ -1,7 +1,7 @@
 -- `tablec::bare_len` is safe and ends: the line's bytes are looked at in turn, and it answers a count of them.
 use Prim.Native.Nat.{_≤_, _-_}
 use borrow.Author.Needs.{needs}
-use Rattle.tablec.proofs.Sizes.{counts}
+use Rattle.io.proofs.Counting.{counts}
 use Rattle.tablec.proofs.bare_len.Statement.{statement}
 use Rattle.tablec.proofs.bare_len.Tie as tie
 

@@ -1,9 +1,9 @@
--- `tablec::is_same` is safe and ends: slices of one length are compared.
+-- `texts::is_same` is safe and ends: slices of one length are compared.
 use Prim.Native.Nat.{_≤_, _-_}
 use lib.ListN.{length}
 use borrow.Author.Needs.{needs}
-use Rattle.tablec.proofs.is_same.Statement.{statement}
-use Rattle.tablec.proofs.is_same.Tie as tie
+use Rattle.texts.proofs.is_same.Statement.{statement}
+use Rattle.texts.proofs.is_same.Tie as tie
 
 abbrev Inv-loop : tie.InvT-loop
 Inv-loop a b i₀ i = i ≤ length a

@@ -1,24 +1,23 @@
--- `tablec::word_end` meets its contract: from the place on, within the line.
+-- `maps::complain_words` is safe and ends: each channel of the second has a word.
 use Prim.Native.Nat.{_≤_, _-_}
-use lib.ListN.{length}
 use borrow.Author.Needs.{needs}
-use Rattle.tablec.proofs.word_end.Statement.{statement}
-use Rattle.tablec.proofs.word_end.Tie as tie
+use Rattle.maps.proofs.complain_words.Statement.{statement}
+use Rattle.maps.proofs.complain_words.Tie as tie
 
 abbrev Inv-loop : tie.InvT-loop
-Inv-loop line at i₀ i = (at ≤ i) × (i ≤ length line)
+Inv-loop first second map text n i₀ i = i ≤ n
 
 abbrev μ-loop : tie.MeasureT-loop
-μ-loop line at i₀ i = length line - i
+μ-loop first second map text n i₀ i = n - i
+
+channels-len-requires : tie.Need-channels-len-requires Inv-loop μ-loop
+channels-len-requires c κs = search needs
 
 loop-holds : tie.Need-loop-holds Inv-loop μ-loop
 loop-holds c = search needs
 
-shared-slice-read-is-blank : tie.Need-shared-slice-read-is-blank Inv-loop μ-loop
-shared-slice-read-is-blank c = search needs
-
-is-blank-requires : tie.Need-is-blank-requires Inv-loop μ-loop
-is-blank-requires c κs = search needs
+complain-at-requires : tie.Need-complain-at-requires Inv-loop μ-loop
+complain-at-requires c κs = search needs
 
 returns : tie.Need-returns Inv-loop μ-loop
 returns c = search needs
@@ -35,15 +34,15 @@ loop-again c = search needs
 returns-2 : tie.Need-returns-2 Inv-loop μ-loop
 returns-2 c = search needs
 
-pub word-end-spec : {M : Type 1} → statement M
-word-end-spec =
+pub complain-words-spec : {M : Type 1} → statement M
+complain-words-spec =
     tie.close
     (tie.spec
     Inv-loop
     μ-loop
+    channels-len-requires
     loop-holds
-    shared-slice-read-is-blank
-    is-blank-requires
+    complain-at-requires
     returns
     add-i
     loop-less

@@ -1,18 +1,15 @@
--- `tablec::word_start` meets its contract: within the line.
+-- `texts::word_end` meets its contract: from the place on, within the line.
 use Prim.Native.Nat.{_≤_, _-_}
 use lib.ListN.{length}
 use borrow.Author.Needs.{needs}
-use Rattle.tablec.proofs.word_start.Statement.{statement}
-use Rattle.tablec.proofs.word_start.Tie as tie
+use Rattle.texts.proofs.word_end.Statement.{statement}
+use Rattle.texts.proofs.word_end.Tie as tie
 
 abbrev Inv-loop : tie.InvT-loop
-Inv-loop line at i₀ i = i ≤ length line
+Inv-loop line at i₀ i = (at ≤ i) × (i ≤ length line)
 
 abbrev μ-loop : tie.MeasureT-loop
 μ-loop line at i₀ i = length line - i
-
-least-requires : tie.Need-least-requires Inv-loop μ-loop
-least-requires c κs = search needs
 
 loop-holds : tie.Need-loop-holds Inv-loop μ-loop
 loop-holds c = search needs
@@ -38,13 +35,12 @@ loop-again c = search needs
 returns-2 : tie.Need-returns-2 Inv-loop μ-loop
 returns-2 c = search needs
 
-pub word-start-spec : {M : Type 1} → statement M
-word-start-spec =
+pub word-end-spec : {M : Type 1} → statement M
+word-end-spec =
     tie.close
     (tie.spec
     Inv-loop
     μ-loop
-    least-requires
     loop-holds
     shared-slice-read-is-blank
     is-blank-requires

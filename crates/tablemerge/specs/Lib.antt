@@ -1,0 +1,2 @@
+-- What the contracts of `tablemerge` cite.
+pub mod Merged

@@ -1,0 +1,2 @@
+-- Laws of the bytes that a written table takes.
+pub mod Sizes
