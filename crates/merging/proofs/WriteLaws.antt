@@ -4,8 +4,8 @@ use mathlib.Core.Logic.{_≢_}
 use mathlib.Core.Bool.{Bool, true, false, _&&_}
 use mathlib.Core.List.{List, [], _∷_, _++_, map}
 use Prim.Native.Nat.{ℕ, zero, suc, _+_, _*_, _<_, _≤_}
-use borrow.Author.Tests.{ne-eqb, leb-true, le-leb, eqb-true}
-use lib.Dec.{eqb, leb}
+use borrow.Author.Tests.{ne-eqb, leb-true, le-leb}
+use lib.Dec.{leb}
 use lib.ListN.{length, getD, length-append, length-map}
 use native.Mathlib.Nat.{not-suc-le-zero}
 use native.Mathlib.Omega.{arith}
