@@ -161,7 +161,7 @@ fn kinds_after(kinds: [u8; 16], at: u8, map: &[u8], second: &[u8]) -> [u8; 16]
 }
 
 // What byte m of the map says that a channel becomes, where n is the next new one.
-fn target(m: u8, n: u8) -> u8
+fn target_of(m: u8, n: u8) -> u8
     ensures { λ r. ⌜ r ≡ pick (isNew m) n m ⌝ }
 {
     if m == 255 {
@@ -180,7 +180,7 @@ fn targets(map: &[u8], n: u8) -> [u8; 16]
     let mut i: usize = 0;
     while i < map.len() {
         let m = map[i];
-        out[i] = target(m, next);
+        out[i] = target_of(m, next);
         let new = m == 255;
         next += new as u8;
         i += 1;

@@ -27,8 +27,8 @@ loop-holds c = search needs
 shared-slice-read-m : tie.Need-shared-slice-read-m Inv-loop μ-loop
 shared-slice-read-m c = search needs
 
-target-requires : tie.Need-target-requires Inv-loop μ-loop
-target-requires c κs = search needs
+target-of-requires : tie.Need-target-of-requires Inv-loop μ-loop
+target-of-requires c κs = search needs
 
 array-write-out : tie.Need-array-write-out Inv-loop μ-loop
 array-write-out c = search needs
@@ -58,7 +58,7 @@ loop-again c =
     let e = targets-at (a .map .now) i (p .loop .next) (omega arith) in (
       omega arith,
       omega (arith, byte-flag new, flag-le new, p .loop .inv .1),
-      rw (c .target .ensures, byte-flag new, add-one i) (rw (e, add-one i) at (p .loop .inv .2)),
+      rw (c .target-of .ensures, byte-flag new, add-one i) (rw (e, add-one i) at (p .loop .inv .2)),
     )
 
 returns : tie.Need-returns Inv-loop μ-loop
@@ -75,7 +75,7 @@ targets-spec =
     μ-loop
     loop-holds
     shared-slice-read-m
-    target-requires
+    target-of-requires
     array-write-out
     cast-next
     add-next
