@@ -1,2 +1,4 @@
--- One sender of a board.
+-- Laws of the lent lists.
+pub mod PartLaws
+pub mod LayoutLaws
 pub mod SenderLaws

@@ -3,12 +3,13 @@ use mathlib.Core.List.{List}
 use Prim.Native.Nat.{ℕ}
 use lib.IntN.{ℤ}
 use Rattle.model.specs.Tables.{Table}
-use Rattle.model.specs.Boards.{Board}
+use Rattle.model.specs.Boards as MB
 use Rattle.model.specs.Pools as MP
 use Rattle.columns.specs.Columns.{Columns, columnsOf}
 use Rattle.columns.specs.MatchColumns.{MatchColumns, matchesOf}
 use Rattle.boards.specs.Boards.{boardIn}
 use Rattle.boards.specs.declared.Board as DB
+use Rattle.boards.specs.declared.Sent as DS
 use Rattle.boards.specs.declared.Call as DC
 use Rattle.boards.specs.declared.Call.the-variants as C
 
@@ -27,10 +28,12 @@ heldBy b channels properties cents statuses matched wakers chords messages =
     held b (columnsOf channels properties cents statuses matched wakers) (matchesOf chords messages)
 
 -- as the model's board
-abbrev pub heldIn : Table → Held → Board
+abbrev pub heldIn : Table → Held → MB.Board
 heldIn t h = boardIn t (h .board) (h .columns) (h .matches)
 
+abbrev pub sentIn : DS.Sent → MB.Sent
+sentIn x = record { channel = x .channel; property = x .property; cents = x .cents }
+
 abbrev pub callIn : DC.Call → MP.Call
-callIn (C.Add i channel property cents) =
-    MP.adds i (record { channel = channel; property = property; cents = cents })
+callIn (C.Add i x) = MP.adds i (sentIn x)
 callIn (C.Step i) = MP.steps i

@@ -1,6 +1,22 @@
-// The board, without the messages and matches, which stand in columns that are lent.
+// The board as the lists that a host lends: where its columns stand in them; and the calls.
+ghost use mathlib.Core.Path.{_≡_};
+ghost use lib.ListN.{length};
+ghost use Rattle.boards.specs.Layout.{bytesLen, linksLen, keysLen};
+ghost use Rattle.boards.specs.Layout.{channelsIn, statusesIn, chordsIn, matchedIn, wakersIn, membersIn};
+ghost use Rattle.boards.specs.Layout.{propertiesIn};
 use state::Said;
 use state::Sender;
+
+// Lengths, and the places of columns that are not the first of their list.
+pub const BOARD_LEN: usize = 674;
+pub const BYTES_LEN: usize = 3072;
+pub const LINKS_LEN: usize = 10240;
+pub const KEYS_LEN: usize = 1024;
+pub const CENTS_LEN: usize = 1024;
+pub const STATUSES: usize = 1024;
+pub const CHORDS: usize = 2048;
+pub const WAKERS: usize = 1024;
+pub const MEMBERS: usize = 2048;
 
 // How many messages and matches there are, and the senders.
 pub struct Board {
@@ -15,8 +31,71 @@ pub struct Answer {
     pub board: Board,
 }
 
-// An add by a sender, to a channel, with a property number and cents; or a step of a sender.
+// A message as it is added.
+pub struct Sent {
+    pub channel: u16,
+    pub property: u32,
+    pub cents: i64,
+}
+
+// An add by a sender, or a step of a sender.
 pub enum Call {
-    Add(u16, u16, u32, i64),
+    Add(u16, Sent),
     Step(u16),
+}
+
+// The messages' channels.
+pub fn channels(bytes: &[u8]) -> &[u8]
+    requires { ⌜ length (now bytes) ≡ bytesLen ⌝ }
+    ensures { λ r. ⌜ (now r ≡ channelsIn (now (bytes .entry))) × (length (now r) ≡ 1024) ⌝ }
+{
+    &bytes[0..STATUSES]
+}
+
+// The messages' statuses.
+pub fn statuses(bytes: &[u8]) -> &[u8]
+    requires { ⌜ length (now bytes) ≡ bytesLen ⌝ }
+    ensures { λ r. ⌜ (now r ≡ statusesIn (now (bytes .entry))) × (length (now r) ≡ 1024) ⌝ }
+{
+    &bytes[STATUSES..CHORDS]
+}
+
+// The matches' chords.
+pub fn chords(bytes: &[u8]) -> &[u8]
+    requires { ⌜ length (now bytes) ≡ bytesLen ⌝ }
+    ensures { λ r. ⌜ (now r ≡ chordsIn (now (bytes .entry))) × (length (now r) ≡ 1024) ⌝ }
+{
+    &bytes[CHORDS..BYTES_LEN]
+}
+
+// The matches that messages note, plus 1.
+pub fn matched(links: &[u16]) -> &[u16]
+    requires { ⌜ length (now links) ≡ linksLen ⌝ }
+    ensures { λ r. ⌜ (now r ≡ matchedIn (now (links .entry))) × (length (now r) ≡ 1024) ⌝ }
+{
+    &links[0..WAKERS]
+}
+
+// The wakers that messages note, plus 1.
+pub fn wakers(links: &[u16]) -> &[u16]
+    requires { ⌜ length (now links) ≡ linksLen ⌝ }
+    ensures { λ r. ⌜ (now r ≡ wakersIn (now (links .entry))) × (length (now r) ≡ 1024) ⌝ }
+{
+    &links[WAKERS..MEMBERS]
+}
+
+// The matches' messages, eight each.
+pub fn members(links: &[u16]) -> &[u16]
+    requires { ⌜ length (now links) ≡ linksLen ⌝ }
+    ensures { λ r. ⌜ (now r ≡ membersIn (now (links .entry))) × (length (now r) ≡ 8192) ⌝ }
+{
+    &links[MEMBERS..LINKS_LEN]
+}
+
+// The messages' property numbers.
+pub fn properties(keys: &[u32]) -> &[u32]
+    requires { ⌜ length (now keys) ≡ keysLen ⌝ }
+    ensures { λ r. ⌜ (now r ≡ propertiesIn (now (keys .entry))) × (length (now r) ≡ 1024) ⌝ }
+{
+    &keys[0..1024]
 }

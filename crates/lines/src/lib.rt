@@ -1,5 +1,6 @@
 // A line of the program's input read as a call. Bytes are ASCII: 32 space, 45 minus, 48 to 57 digits, 97 `a`, 115 `s`.
 use boards::Call;
+use boards::Sent;
 ghost use mathlib.Core.Path.{_≡_};
 ghost use Prim.Native.Nat.{_+_, _-_, _*_, _≤_};
 ghost use lib.IntN.{pos, negℤ};
@@ -135,7 +136,12 @@ fn add_of(sender: &[u8], channel: &[u8], property: &[u8], cents: &[u8]) -> Line
         return Line::Unreadable;
     }
     let v = signed(is_minus(cents), c - 1);
-    Line::Reads(Call::Add((d - 1) as u16, (t - 1) as u16, (p - 1) as u32, v))
+    let x = Sent {
+        channel: (t - 1) as u16,
+        property: (p - 1) as u32,
+        cents: v,
+    };
+    Line::Reads(Call::Add((d - 1) as u16, x))
 }
 
 // An add by what follows the `a` and its space.

@@ -52,7 +52,7 @@ pub fn caller_of(call: Call) -> u16
     ensures { λ r. ⌜ r ≡ callerOf (callIn call) ⌝ }
 {
     match call {
-        Call::Add(i, _, _, _) => i,
+        Call::Add(i, _) => i,
         Call::Step(i) => i,
     }
 }
@@ -183,8 +183,8 @@ pub fn move_of(
         (now (statuses .entry)) (now (matched .entry)) (now (wakers .entry))) (callIn call) r × Fits n k r ⌝ }
 {
     match call {
-        Call::Add(i, channel, property, amount) => {
-            add_move(table, i, d, n, channel, property, amount)
+        Call::Add(i, x) => {
+            add_move(table, i, d, n, x.channel, x.property, x.cents)
         }
         Call::Step(i) => {
             step_move(

@@ -15,6 +15,7 @@ ghost use Rattle.flat_judges.specs.Judged.{flatRefusal};
 ghost use Rattle.replaying.specs.Replays.{callColumns, callAt, columnsFit, answerNumber};
 ghost use Rattle.replaying.specs.Replays.{refusalAfter, Fit, Plays-all, Waits};
 use boards::Call;
+use boards::Sent;
 use state::Said;
 
 // The word by its number.
@@ -123,7 +124,12 @@ fn call_at(
     if kinds[k] == 0 {
         return Call::Step(i);
     }
-    Call::Add(i, targets[k], numbers[k], amounts[k])
+    let x = Sent {
+        channel: targets[k],
+        property: numbers[k],
+        cents: amounts[k],
+    };
+    Call::Add(i, x)
 }
 
 // Whether a call is a step of a sender that may not step.
@@ -131,7 +137,7 @@ fn waits(call: Call, may: bool) -> bool
     ensures { λ r. ⌜ (r ≡ true → Waits (callIn call) may) ⌝ }
 {
     match call {
-        Call::Add(_, _, _, _) => false,
+        Call::Add(_, _) => false,
         Call::Step(i) => (i < 32) & !may,
     }
 }

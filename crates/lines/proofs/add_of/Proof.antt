@@ -51,23 +51,23 @@ sub-signed c = search needs
 signed-requires : tie.Need-signed-requires
 signed-requires c κs = search needs
 
-sub-t11 : tie.Need-sub-t11
-sub-t11 c = search needs
+sub-t12 : tie.Need-sub-t12
+sub-t12 c = search needs
 
-cast-t12 : tie.Need-cast-t12
-cast-t12 c = search needs
+cast-t13 : tie.Need-cast-t13
+cast-t13 c = search needs
 
-sub-t13 : tie.Need-sub-t13
-sub-t13 c = search needs
+sub-t14 : tie.Need-sub-t14
+sub-t14 c = search needs
 
-cast-t14 : tie.Need-cast-t14
-cast-t14 c = search needs
+cast-t15 : tie.Need-cast-t15
+cast-t15 c = search needs
 
-sub-t15 : tie.Need-sub-t15
-sub-t15 c = search needs
+sub-t12-2 : tie.Need-sub-t12-2
+sub-t12-2 c = search needs
 
-cast-t16 : tie.Need-cast-t16
-cast-t16 c = search needs
+cast-t13-2 : tie.Need-cast-t13-2
+cast-t13-2 c = search needs
 
 returns-5 : tie.Need-returns-5
 returns-5 c =
@@ -109,10 +109,10 @@ add-of-spec =
     is-minus-requires
     sub-signed
     signed-requires
-    sub-t11
-    cast-t12
-    sub-t13
-    cast-t14
-    sub-t15
-    cast-t16
+    sub-t12
+    cast-t13
+    sub-t14
+    cast-t15
+    sub-t12-2
+    cast-t13-2
     returns-5)

@@ -22,7 +22,8 @@ enum-known-call : tie.Need-enum-known-call
 enum-known-call c = search needs
 
 add-move-requires : tie.Need-add-move-requires
-add-move-requires c κs = let s = c .before .before .before .before .before .before .before .before .before in
+add-move-requires c κs =
+    let s = c .before .before .before .before .before .before .before .before .before .before in
     table-accepted _ _ _ _ (s .pre .0 .accepted)
 
 enum-known-call-2 : tie.Need-enum-known-call-2
@@ -36,12 +37,11 @@ step-move-requires c κs =
 
 returns : tie.Need-returns
 returns c =
-    let t = c .before in
-    let k = t .before in
+    let k = c .before .before .before in
     let s = k .before .before .before .before .before .before .before .before in
     let a = s .args in
-    let fits = t .known-told .given .1 .1 .1 .0 .1 in
-    let back = toZ-ofZ w64 (k .call .given .0 .1 .1 .1 .0) (record { sfits = fits }) in
+    let fits = c .before .struct-told .given .1 .1 .0 .1 in
+    let back = toZ-ofZ w64 (k .call .given .0 .1 .0 .cents) (record { sfits = fits }) in
     let e = c .add-move .ensures .0 (a .k) (a .channels .now) (a .properties .now) (a .statuses .now) (a .matched .now)
     (a .wakers .now) in
     subst (λ (x : DC.Call). IsMove (a .table .now) (view s x) (callIn x) (c .add-move .result))

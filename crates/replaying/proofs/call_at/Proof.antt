@@ -20,29 +20,29 @@ shared-slice-read-if1 c = search needs
 returns : tie.Need-returns
 returns c = step-at _ _ (c .if1 .taken)
 
-mul-t8 : tie.Need-mul-t8
-mul-t8 c = search needs
+mul-t9 : tie.Need-mul-t9
+mul-t9 c = search needs
 
-shared-slice-read-t10 : tie.Need-shared-slice-read-t10
-shared-slice-read-t10 c = search needs
+shared-slice-read-t11 : tie.Need-shared-slice-read-t11
+shared-slice-read-t11 c = search needs
 
-mul-t15 : tie.Need-mul-t15
-mul-t15 c = search needs
+mul-t16 : tie.Need-mul-t16
+mul-t16 c = search needs
 
-shared-slice-read-t17 : tie.Need-shared-slice-read-t17
-shared-slice-read-t17 c = search needs
+shared-slice-read-t18 : tie.Need-shared-slice-read-t18
+shared-slice-read-t18 c = search needs
 
-mul-t18 : tie.Need-mul-t18
-mul-t18 c = search needs
+mul-t19 : tie.Need-mul-t19
+mul-t19 c = search needs
 
-shared-slice-copy-out-t20 : tie.Need-shared-slice-copy-out-t20
-shared-slice-copy-out-t20 c = search needs
+shared-slice-copy-out-t21 : tie.Need-shared-slice-copy-out-t21
+shared-slice-copy-out-t21 c = search needs
 
 returns-2 : tie.Need-returns-2
 returns-2 c =
     let q = c .before .before .before in
     let a = q .before .before .before .args in
-    let back = toZ-ofZ w64 (getD (a .amounts .now) (a .k) (pos 0)) (record { sfits = c .t20 .given }) in
+    let back = toZ-ofZ w64 (getD (a .amounts .now) (a .k) (pos 0)) (record { sfits = c .t21 .given }) in
     rw back (add-at _ _ (q .if1 .left))
 
 pub call-at-spec : {M : Type 1} → statement M
@@ -53,10 +53,10 @@ call-at-spec =
     shared-slice-read-i
     shared-slice-read-if1
     returns
-    mul-t8
-    shared-slice-read-t10
-    mul-t15
-    shared-slice-read-t17
-    mul-t18
-    shared-slice-copy-out-t20
+    mul-t9
+    shared-slice-read-t11
+    mul-t16
+    shared-slice-read-t18
+    mul-t19
+    shared-slice-copy-out-t21
     returns-2)
