@@ -11,8 +11,8 @@ use Rattle.columns.specs.Columns.{Columns}
 use Rattle.columns.specs.MatchColumns.{MatchColumns}
 use Rattle.boards.specs.Boards.{boardIn}
 use Rattle.boards.specs.Calls.{held}
-use Rattle.judges.specs.Judged.{statusesOk, boardRefusal, Lengths}
-use Rattle.judges.proofs.CallLaws.{accepts}
+use Rattle.refusals.specs.Judged.{statusesOk, boardRefusal, Lengths}
+use Rattle.refusals.proofs.CallLaws.{accepts}
 use Rattle.adding.specs.Opens.{emptyHeld}
 
 pub opens-empty : (t : Table) (c : Columns) (m : MatchColumns)

@@ -4,7 +4,7 @@ ghost use Rattle.model.specs.Layout.{tableRefusal};
 ghost use Rattle.model.specs.Pools.{adds};
 ghost use Rattle.state.specs.Views.{saidIn};
 ghost use Rattle.boards.specs.Calls.{heldBy};
-ghost use Rattle.judges.specs.Calls.{refusalOf, Plays};
+ghost use Rattle.refusals.specs.Calls.{refusalOf, Plays};
 ghost use Rattle.adds.specs.Sends.{sent};
 ghost use Rattle.adding.specs.Opens.{emptyHeld};
 use boards::Answer;
@@ -81,12 +81,12 @@ fn add_core(
         (now (matched .exit)) (now (wakers .exit)) (now (chords .entry)) (now (messages .entry))) ⌝ }
 {
     let n = b.messages;
-    let at = moves::place_of(i);
+    let at = valued::place_of(i);
     let d = b.senders[at as usize];
-    let m = moves::add_move(table, i, d, n, channel, property, amount);
-    moves::put_added(m, n, channels, properties, cents, statuses, matched, wakers);
+    let m = valued::add_move(table, i, d, n, channel, property, amount);
+    valued::put_added(m, n, channels, properties, cents, statuses, matched, wakers);
     let said = m.said;
-    let r = moves::moved(b, at, m);
+    let r = valued::moved(b, at, m);
     Answer {
         said: said,
         board: r,

@@ -1,6 +1,2 @@
--- Laws of the tests over the board's numbers.
-pub mod PhaseBy
-pub mod RowLaws
-pub mod RowWalks
-pub mod FlatSound
+-- Laws of the refusal over numbers and columns.
 pub mod FlatLaws

@@ -5,9 +5,9 @@ use Rattle.model.specs.Basics.{unless, firstOf}
 use Rattle.model.specs.Layout.{tableRefusal}
 use Rattle.columns.specs.Columns.{Columns}
 use Rattle.columns.specs.MatchColumns.{MatchColumns}
-use Rattle.judges.specs.Judged.{boardRefusal}
-use Rattle.flat.specs.Flat.{flatOk}
-use Rattle.flat.specs.Decoded.{boardFrom}
+use Rattle.refusals.specs.Judged.{boardRefusal}
+use Rattle.rows.specs.Flat.{flatOk}
+use Rattle.rows.specs.Decoded.{boardFrom}
 
 -- the reader's numbers for the table, then 30 for numbers that are no board's, then the board's refusal
 unfoldable pub flatRefusal : List ℕ → List ℕ → Columns → MatchColumns → ℕ

@@ -1,3 +1,2 @@
--- What every board call tests first, over the board's numbers.
-pub mod Rows
+-- What every board call tests first, over the board's numbers and lent columns.
 pub mod Judged

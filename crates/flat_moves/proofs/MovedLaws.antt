@@ -10,13 +10,13 @@ use native.Mathlib.Omega.{arith}
 use Rattle.state.specs.declared.Sender as DD
 use Rattle.boards.specs.declared.Board as DB
 use Rattle.applies.specs.Writes.{signalBy, signalledBy, matchesBy}
-use Rattle.moves.specs.declared.Move as DM
-use Rattle.moves.specs.Moves.{messagesBy, movedBoard}
-use Rattle.moves.proofs.WriteLaws.{signal-none, signal-some, moved-by}
-use Rattle.flat.specs.Fits.{SenderFits, SendersFit, BoardFits}
-use Rattle.flat.specs.Flat.{senderNumbers, sendersNumbers, boardNumbers, flatOk}
-use Rattle.flat.specs.Decoded.{boardFrom}
-use Rattle.flat.proofs.DecodeLaws.{from-back}
+use Rattle.valued.specs.declared.Move as DM
+use Rattle.valued.specs.Moves.{messagesBy, movedBoard}
+use Rattle.valued.proofs.WriteLaws.{signal-none, signal-some, moved-by}
+use Rattle.rows.specs.Fits.{SenderFits, SendersFit, BoardFits}
+use Rattle.rows.specs.Flat.{senderNumbers, sendersNumbers, boardNumbers, flatOk}
+use Rattle.rows.specs.Decoded.{boardFrom}
+use Rattle.rows.proofs.DecodeLaws.{from-back}
 use Rattle.flat_moves.specs.Signals.{signalledBoard}
 use Rattle.flat_moves.proofs.PlaceLaws.{paste-behind, senders-paste}
 use Rattle.flat_moves.proofs.SignalLaws.{IsBoard, is-board}

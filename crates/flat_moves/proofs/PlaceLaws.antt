@@ -6,9 +6,9 @@ use lib.ListN.{length, getD, take, drop, set, List·getD-append}
 use lib.Seq.{take-all, drop-at, take-append-add, drop-append-add, getD-append-add, set-append-left, paste}
 use native.Mathlib.Omega.{arith}
 use Rattle.state.specs.declared.Sender as DD
-use Rattle.flat.specs.Fits.{SenderFits, SendersFit}
-use Rattle.flat.specs.Flat.{senderNumbers, sendersNumbers}
-use Rattle.flat.proofs.SenderLaws.{sender-long}
+use Rattle.rows.specs.Fits.{SenderFits, SendersFit}
+use Rattle.rows.specs.Flat.{senderNumbers, sendersNumbers}
+use Rattle.rows.proofs.SenderLaws.{sender-long}
 
 -- past a front
 pub paste-behind : (p xs ys : List ℕ) (at n : ℕ) → paste (p ++ xs) (length p + at) ys n ≡ p ++ paste xs at ys n

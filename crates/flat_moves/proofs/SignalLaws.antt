@@ -17,11 +17,11 @@ use Rattle.boards.specs.declared.Board as DB
 use Rattle.boards.specs.Boards.{zeroSender}
 use Rattle.applies.specs.Writes.{signalledBy}
 use Rattle.applies.proofs.SignalLaws.{mapped-step, mapped-end}
-use Rattle.flat.specs.Fits.{SenderFits, SendersFit, BoardFits}
-use Rattle.flat.specs.Flat.{stateNumber, senderNumbers, sendersNumbers, boardNumbers, flatOk}
-use Rattle.flat.specs.Decoded.{boardFrom}
-use Rattle.flat.proofs.SenderLaws.{numbers-listed}
-use Rattle.flat.proofs.Encoded.{encoded-ok, board-back}
+use Rattle.rows.specs.Fits.{SenderFits, SendersFit, BoardFits}
+use Rattle.rows.specs.Flat.{stateNumber, senderNumbers, sendersNumbers, boardNumbers, flatOk}
+use Rattle.rows.specs.Decoded.{boardFrom}
+use Rattle.rows.proofs.SenderLaws.{numbers-listed}
+use Rattle.rows.proofs.Encoded.{encoded-ok, board-back}
 use Rattle.flat_moves.specs.Signals.{signalAt, signalledBoard}
 use Rattle.flat_moves.proofs.PlaceLaws.{set-behind, number-at, number-set}
 

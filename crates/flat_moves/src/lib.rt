@@ -5,11 +5,11 @@ ghost use Prim.Native.Nat.{_+_, _-_, _<_, _≤_};
 ghost use lib.ListN.{length, getD};
 ghost use Rattle.state.specs.Views.{canStep};
 ghost use Rattle.boards.specs.Boards.{zeroSender};
-ghost use Rattle.moves.specs.Moves.{movedBoard, Fits};
-ghost use Rattle.flat.specs.Flat.{flatOk};
-ghost use Rattle.flat.specs.Decoded.{boardFrom};
+ghost use Rattle.valued.specs.Moves.{movedBoard, Fits};
+ghost use Rattle.rows.specs.Flat.{flatOk};
+ghost use Rattle.rows.specs.Decoded.{boardFrom};
 ghost use Rattle.flat_moves.specs.Signals.{signalAt, signalledBoard};
-use moves::Move;
+use valued::Move;
 use state::Sender;
 
 // The sender at a place.
@@ -18,7 +18,7 @@ pub fn sender_at(s: &[u16], i: u8) -> Sender
     ensures { λ r. ⌜ r ≡ getD (boardFrom (now (s .entry)) .senders) i zeroSender ⌝ }
 {
     let at = 2 + 21 * (i as usize);
-    flat::sender_of(&s[at..at + 21])
+    rows::sender_of(&s[at..at + 21])
 }
 
 // Whether the sender at a place may step.
@@ -27,7 +27,7 @@ pub fn may_step(s: &[u16], i: u8) -> bool
     ensures { λ r. ⌜ r ≡ canStep (getD (boardFrom (now (s .entry)) .senders) i zeroSender) ⌝ }
 {
     let at = 2 + 21 * (i as usize);
-    flat::steps_at(s[at], s[at + 1])
+    rows::steps_at(s[at], s[at + 1])
 }
 
 // Sets the signal of the sender whose numbers are from a place on, if it is not idle and `own` is its own.
@@ -66,8 +66,8 @@ pub fn put_moved(m: Move, i: u8, s: &mut [u16])
     let k = s[1];
     let d = m.sender;
     let c = m.change;
-    flat::put_sender(d, s, 2 + 21 * (i as usize));
-    s[0] = moves::messages_after(m.adds, n);
+    rows::put_sender(d, s, 2 + 21 * (i as usize));
+    s[0] = valued::messages_after(m.adds, n);
     s[1] = applies::matches_after(c, k);
     let x = applies::signals(c);
     if x == 0 {

@@ -6,7 +6,7 @@ use Rattle.model.specs.Layout.{tableRefusal}
 use Rattle.columns.specs.Columns.{Columns}
 use Rattle.columns.specs.MatchColumns.{MatchColumns}
 use Rattle.boards.specs.declared.Board as DB
-use Rattle.judges.specs.Judged.{boardRefusal, Lengths}
+use Rattle.refusals.specs.Judged.{boardRefusal, Lengths}
 use Rattle.adding.specs.Opens.{emptyHeld}
 use Rattle.adding.proofs.OpenLaws.{open-accepted}
 

@@ -10,13 +10,13 @@ use Rattle.model.specs.Effects.{Said, numberOf}
 use Rattle.model.specs.Pools.{Call}
 use Rattle.state.specs.declared.Sender as DD
 use Rattle.boards.specs.Calls.{Held}
-use Rattle.judges.specs.Calls.{Plays}
+use Rattle.refusals.specs.Calls.{Plays}
 use Rattle.adding.specs.Opens.{idleHeld, emptyHeld}
-use Rattle.flat.specs.Flat.{boardNumbers, flatOk}
-use Rattle.flat.specs.Decoded.{boardFrom}
-use Rattle.flat.specs.Fits.{SenderFits, SendersFit, BoardFits}
-use Rattle.flat.proofs.Encoded.{encoded-ok, board-back}
-use Rattle.flat.proofs.DecodeLaws.{from-back}
+use Rattle.rows.specs.Flat.{boardNumbers, flatOk}
+use Rattle.rows.specs.Decoded.{boardFrom}
+use Rattle.rows.specs.Fits.{SenderFits, SendersFit, BoardFits}
+use Rattle.rows.proofs.Encoded.{encoded-ok, board-back}
+use Rattle.rows.proofs.DecodeLaws.{from-back}
 use Rattle.host.specs.Lent.{Lent, heldOf}
 use Rattle.host.specs.Plays.{Flat-opens}
 

@@ -8,8 +8,8 @@ use lib.IntN.{ℤ}
 use lib.ListN.{length}
 use native.Mathlib.Omega.{arith}
 use Rattle.model.proofs.Tests.{never, refused-first}
-use Rattle.judges.specs.Judged.{boardRefusal}
-use Rattle.flat.specs.Decoded.{boardFrom}
+use Rattle.refusals.specs.Judged.{boardRefusal}
+use Rattle.rows.specs.Decoded.{boardFrom}
 use Rattle.flat_judges.specs.Judged.{flatRefusal}
 use Rattle.flat_judges.proofs.FlatLaws.{flat-none, flat-on, flat-accepted}
 use Rattle.host.specs.Lent.{Lent, noBoard}

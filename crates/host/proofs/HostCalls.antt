@@ -11,14 +11,14 @@ use Rattle.model.specs.Pools.{Call, steps}
 use Rattle.alone.specs.Alone.{In-peace}
 use Rattle.merging.specs.Merges.{mergedBytes}
 use Rattle.model.proofs.Tests.{first-none}
-use Rattle.judges.specs.Calls.{boardOf}
+use Rattle.refusals.specs.Calls.{boardOf}
 use Rattle.replaying.specs.Replays.{answerNumber}
 use Rattle.schedules.specs.Schedules as Held-schedules
 use Rattle.schedules.specs.Schedules.{PlaysAll}
 use Rattle.schedules.proofs.PublicCalls.{public-calls}
 use Rattle.schedules.proofs.PublicPeace.{public-peace}
 use Rattle.schedules.proofs.PublicMerge.{merged-calls}
-use Rattle.flat.specs.Flat.{flatOk}
+use Rattle.rows.specs.Flat.{flatOk}
 use Rattle.host.specs.Lent.{Lent, heldOf}
 use Rattle.host.specs.Schedules.{CallsAll, Opened, Comes-to-rest, Host-calls}
 use Rattle.host.proofs.Chains.{opened-board, refused-kept}

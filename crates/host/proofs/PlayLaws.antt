@@ -13,11 +13,11 @@ use Rattle.model.specs.Layout.{tableRefusal}
 use Rattle.model.specs.Effects.{Refused}
 use Rattle.model.specs.Pools.{Call}
 use Rattle.model.proofs.Tests.{never, refused-first}
-use Rattle.judges.proofs.CallLaws as Calls
+use Rattle.refusals.proofs.CallLaws as Calls
 use Rattle.adding.specs.Opens.{emptyHeld}
 use Rattle.replaying.specs.Replays.{CallColumns, callAt, answerNumber, refusalAfter, Plays-all}
 use Rattle.replaying.proofs.ScheduleLaws as Schedules
-use Rattle.flat.specs.Flat.{boardNumbers, flatOk}
+use Rattle.rows.specs.Flat.{boardNumbers, flatOk}
 use Rattle.flat_judges.specs.Judged.{flatRefusal}
 use Rattle.flat_judges.proofs.FlatLaws.{flat-none, flat-on, flat-accepted}
 use Rattle.host.specs.Lent.{Lent, heldOf, noBoard}

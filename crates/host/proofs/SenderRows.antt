@@ -13,10 +13,10 @@ use Rattle.columns.specs.MatchColumns.{MatchColumns}
 use Rattle.state.specs.Views.{stepsIn}
 use Rattle.boards.specs.Boards.{boardIn, zeroSender}
 use Rattle.reads.proofs.QuietLaws.{quietFrom, quiet-no, quiet-next, quiet-end}
-use Rattle.flat.specs.Decoded.{stateFrom, boardFrom}
-use Rattle.flat_judges.specs.Rows.{sendersIn}
-use Rattle.flat.proofs.WalkLaws.{part-at, part-first}
-use Rattle.flat_judges.proofs.RowWalks.{senders-count, nth-sender}
+use Rattle.rows.specs.Decoded.{stateFrom, boardFrom}
+use Rattle.refusals.specs.Rows.{sendersIn}
+use Rattle.rows.proofs.WalkLaws.{part-at, part-first}
+use Rattle.refusals.proofs.RowWalks.{senders-count, nth-sender}
 
 pub reply-at : (s : List ℕ) (i : ℕ) → i < 32
     → getD s (2 + 21 * i + 4) 0 ≡ getD (boardFrom s .senders) i zeroSender .reply

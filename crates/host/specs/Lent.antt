@@ -7,7 +7,7 @@ use Rattle.model.specs.Layout.{tableRefusal}
 use Rattle.columns.specs.Columns.{Columns, columnsOf}
 use Rattle.columns.specs.MatchColumns.{MatchColumns, matchesOf}
 use Rattle.boards.specs.Calls.{Held, held}
-use Rattle.flat.specs.Decoded.{boardFrom}
+use Rattle.rows.specs.Decoded.{boardFrom}
 
 -- the board's numbers, and the columns lent with it
 pub record Lent : Type 0 where

@@ -11,10 +11,10 @@ use Rattle.model.specs.Basics.{unless, firstOf}
 use Rattle.model.specs.Layout.{tableRefusal}
 use Rattle.model.specs.Effects.{Said, Refused}
 use Rattle.model.specs.Pools.{Call}
-use Rattle.judges.specs.Calls.{Plays}
+use Rattle.refusals.specs.Calls.{Plays}
 use Rattle.adding.specs.Opens.{emptyHeld}
 use Rattle.replaying.specs.Replays.{CallColumns, callColumns, callAt, answerNumber, Replays}
-use Rattle.flat.specs.Flat.{boardNumbers, flatOk}
+use Rattle.rows.specs.Flat.{boardNumbers, flatOk}
 use Rattle.host.specs.Lent.{Lent, heldOf, noBoard}
 
 -- one call by its columns: kind 0 is a step, any other an add

@@ -14,11 +14,11 @@ use Rattle.model.specs.Pools.{MatchRead}
 use Rattle.columns.specs.Columns.{Columns}
 use Rattle.columns.specs.MatchColumns.{MatchColumns}
 use Rattle.boards.specs.declared.Board as DB
-use Rattle.judges.specs.Judged.{boardRefusal}
+use Rattle.refusals.specs.Judged.{boardRefusal}
 use Rattle.reading.specs.Answers.{quietAnswer, replyNumber, replyAnswer, messageNumber, messageAnswer}
 use Rattle.reading.specs.Answers.{matchNumber, matchAnswer}
-use Rattle.flat.specs.Flat.{flatOk}
-use Rattle.flat.specs.Decoded.{boardFrom}
+use Rattle.rows.specs.Flat.{flatOk}
+use Rattle.rows.specs.Decoded.{boardFrom}
 use Rattle.host.specs.Lent.{Lent, noBoard}
 
 abbrev pub statusNumber : Status → ℕ

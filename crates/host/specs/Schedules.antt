@@ -9,12 +9,12 @@ use Rattle.model.specs.Effects.{Said, Refused}
 use Rattle.model.specs.Pools.{Call, steps}
 use Rattle.alone.specs.Alone.{In-peace, mostSteps}
 use Rattle.merging.specs.Merges.{mergeRefusal, mergedBytes}
-use Rattle.judges.specs.Judged.{Lengths}
-use Rattle.judges.specs.Calls.{boardOf}
+use Rattle.refusals.specs.Judged.{Lengths}
+use Rattle.refusals.specs.Calls.{boardOf}
 use Rattle.replaying.specs.Replays.{CallColumns, callsOf, answerNumber}
 use Rattle.schedules.specs.Schedules.{Is-schedule, Keeps-demand-3}
 use Rattle.schedules.specs.Merged.{Own-calls, Reads-alike}
-use Rattle.flat.specs.Flat.{flatOk}
+use Rattle.rows.specs.Flat.{flatOk}
 use Rattle.host.specs.Lent.{Lent, heldOf}
 use Rattle.host.specs.Plays.{Flat-opens, Flat-plays, Flat-replays}
 

@@ -14,7 +14,7 @@ ghost use Rattle.reads.specs.Reads.{messageOf, readOf};
 ghost use Rattle.columns.specs.Columns.{Columns};
 ghost use Rattle.columns.specs.MatchColumns.{MatchColumns};
 ghost use Rattle.boards.specs.Boards.{boardIn};
-ghost use Rattle.flat.specs.Decoded.{boardFrom};
+ghost use Rattle.rows.specs.Decoded.{boardFrom};
 ghost use Rattle.replaying.specs.Replays.{callColumns};
 ghost use Rattle.host.specs.Lent.{lent};
 ghost use Rattle.host.specs.Plays.{oneCall, Flat-opens, Flat-plays, Flat-replays};
@@ -57,7 +57,7 @@ pub extern "C" fn gv_open(table: &[u8], board: &mut [u16]) -> u8
         return 30;
     }
     let empty = opened.board;
-    flat::put_board(empty, board);
+    rows::put_board(empty, board);
     0
 }
 
@@ -488,7 +488,7 @@ fn is_quiet(board: &[u16]) -> bool
     let mut i: usize = 0;
     while i < 32 {
         let at = 2 + 21 * i;
-        if flat::steps_at(board[at], board[at + 1]) {
+        if rows::steps_at(board[at], board[at + 1]) {
             return false;
         }
         i += 1;

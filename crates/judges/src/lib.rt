@@ -9,7 +9,7 @@ ghost use Rattle.model.specs.Sound.{sound};
 ghost use Rattle.columns.specs.Columns.{columnsOf};
 ghost use Rattle.columns.specs.MatchColumns.{matchesOf};
 ghost use Rattle.boards.specs.Boards.{boardIn};
-ghost use Rattle.judges.specs.Judged.{lentOk, statusesOk, boardRefusal};
+ghost use Rattle.refusals.specs.Judged.{lentOk, statusesOk, boardRefusal};
 use boards::Board;
 
 // Whether 1,024 messages and 1,024 matches are lent, each column of them whole.

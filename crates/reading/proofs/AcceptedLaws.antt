@@ -12,8 +12,8 @@ use Rattle.model.proofs.Lists.{every-nth}
 use Rattle.columns.specs.Columns.{Columns}
 use Rattle.columns.specs.MatchColumns.{MatchColumns}
 use Rattle.boards.specs.declared.Board as DB
-use Rattle.judges.specs.Judged.{boardRefusal, statusesOk}
-use Rattle.judges.proofs.Refusals.{lent-whole, statuses-known, sound-board, messages-few, matches-few}
+use Rattle.refusals.specs.Judged.{boardRefusal, statusesOk}
+use Rattle.refusals.proofs.Refusals.{lent-whole, statuses-known, sound-board, messages-few, matches-few}
 use Rattle.reads.specs.Reads.{Readable}
 use Rattle.reads.proofs.BoardLaws.{readable}
 

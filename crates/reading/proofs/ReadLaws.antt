@@ -17,7 +17,7 @@ use Rattle.state.specs.Views.{senderIn}
 use Rattle.boards.specs.Boards.{boardIn}
 use Rattle.boards.specs.declared.Board as DB
 use Rattle.boards.specs.Boards.{zeroSender}
-use Rattle.judges.specs.Judged.{boardRefusal}
+use Rattle.refusals.specs.Judged.{boardRefusal}
 use Rattle.reading.specs.Answers.{answered, quietAnswer, replyNumber, replyAnswer, messageNumber, messageAnswer}
 use Rattle.reading.specs.Answers.{matchNumber, matchAnswer}
 

@@ -11,7 +11,7 @@ use Rattle.columns.specs.Columns.{Columns}
 use Rattle.columns.specs.MatchColumns.{MatchColumns}
 use Rattle.boards.specs.Boards.{boardIn}
 use Rattle.boards.specs.declared.Board as DB
-use Rattle.judges.specs.Judged.{boardRefusal}
+use Rattle.refusals.specs.Judged.{boardRefusal}
 
 -- what is read where the number refuses nothing, the other where it does
 abbrev pub answered : {A : Type 0} → ℕ → A → A → A

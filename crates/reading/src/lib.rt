@@ -7,7 +7,7 @@ ghost use Rattle.model.specs.Pools.{noRead};
 ghost use Rattle.columns.specs.Columns.{columnsOf};
 ghost use Rattle.columns.specs.MatchColumns.{matchesOf};
 ghost use Rattle.reads.specs.Reads.{messageOf, readOf};
-ghost use Rattle.judges.specs.Judged.{boardRefusal};
+ghost use Rattle.refusals.specs.Judged.{boardRefusal};
 ghost use Rattle.reading.specs.Answers.{quietAnswer, replyNumber, replyAnswer, messageNumber, messageAnswer};
 ghost use Rattle.reading.specs.Answers.{matchNumber, matchAnswer};
 use boards::Board;

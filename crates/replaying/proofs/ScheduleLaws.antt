@@ -22,13 +22,13 @@ use Rattle.state.specs.Views.{senderIn, canStep}
 use Rattle.boards.specs.Calls.{Held}
 use Rattle.boards.specs.Boards.{zeroSender}
 use Rattle.boards.proofs.SenderLaws.{nth-sender}
-use Rattle.judges.specs.Calls.{boardOf, refusalOf, SameFrom, Beyond, Plays}
-use Rattle.judges.proofs.CallLaws.{beyond-same}
+use Rattle.refusals.specs.Calls.{boardOf, refusalOf, SameFrom, Beyond, Plays}
+use Rattle.refusals.proofs.CallLaws.{beyond-same}
 use Rattle.replaying.specs.Replays.{CallColumns, callAt, callsOf, columnsFit, answerNumber, answerNumbers}
 use Rattle.steps.proofs.StateSteps.{refused-is}
-use Rattle.moves.specs.Moves.{placeOf, callerOf}
-use Rattle.moves.proofs.StepLaws.{by-state, refused-plays}
-use Rattle.moves.proofs.MoveLaws.{place-in}
+use Rattle.valued.specs.Moves.{placeOf, callerOf}
+use Rattle.valued.proofs.StepLaws.{by-state, refused-plays}
+use Rattle.valued.proofs.MoveLaws.{place-in}
 use Rattle.replaying.specs.Replays.{refusalAfter, replayNumber, Fit, Plays-all, Replays, Waits}
 
 -- Records past the counts

@@ -13,7 +13,7 @@ use Rattle.model.specs.Effects.{Said, wordOf, valueOf, numberOf}
 use Rattle.model.specs.Pools.{Call, adds, steps, Exchange, afterAll, history}
 use Rattle.columns.specs.Columns.{listFrom}
 use Rattle.boards.specs.Calls.{Held}
-use Rattle.judges.specs.Calls.{boardOf, refusalOf, Beyond, Plays}
+use Rattle.refusals.specs.Calls.{boardOf, refusalOf, Beyond, Plays}
 
 -- the lent calls: which kind, by which sender, to which channel, with which property number and cents
 pub record CallColumns : Type 0 where

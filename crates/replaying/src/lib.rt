@@ -8,9 +8,9 @@ ghost use Rattle.state.specs.Views.{saidIn};
 ghost use Rattle.boards.specs.Calls.{heldBy, callIn};
 ghost use Rattle.columns.specs.Columns.{columnsOf};
 ghost use Rattle.columns.specs.MatchColumns.{matchesOf};
-ghost use Rattle.judges.specs.Calls.{refusalOf};
-ghost use Rattle.flat.specs.Flat.{flatOk};
-ghost use Rattle.flat.specs.Decoded.{boardFrom};
+ghost use Rattle.refusals.specs.Calls.{refusalOf};
+ghost use Rattle.rows.specs.Flat.{flatOk};
+ghost use Rattle.rows.specs.Decoded.{boardFrom};
 ghost use Rattle.flat_judges.specs.Judged.{flatRefusal};
 ghost use Rattle.replaying.specs.Replays.{callColumns, callAt, columnsFit, answerNumber};
 ghost use Rattle.replaying.specs.Replays.{refusalAfter, Fit, Plays-all, Waits};
@@ -181,7 +181,7 @@ pub fn replay_core(
     let mut k: usize = 0;
     while k < kinds.len() {
         let call = call_at(kinds, callers, targets, numbers, amounts, k);
-        let at = moves::place_of(moves::caller_of(call));
+        let at = valued::place_of(valued::caller_of(call));
         if waits(call, flat_moves::may_step(board, at)) {
             answers[k] = answer_number(Said::Refused(13));
             k += 1;
@@ -190,7 +190,7 @@ pub fn replay_core(
         let d = flat_moves::sender_at(board, at);
         let n = board[0];
         let count = board[1];
-        let m = moves::move_of(
+        let m = valued::move_of(
             table,
             call,
             d,
@@ -203,7 +203,7 @@ pub fn replay_core(
             matched,
             wakers,
         );
-        moves::write_move(
+        valued::write_move(
             m,
             n,
             count,
@@ -218,7 +218,7 @@ pub fn replay_core(
         );
         flat_moves::put_moved(m, at, board);
         let c = m.change;
-        start = moves::start_after(c, start, board[0], statuses);
+        start = valued::start_after(c, start, board[0], statuses);
         let said = m.said;
         answers[k] = answer_number(said);
         k += 1;

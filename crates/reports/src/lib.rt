@@ -13,7 +13,7 @@ ghost use Rattle.model.specs.Sessions.{matchLines, openLines};
 ghost use Rattle.columns.specs.Columns.{Columns, statusOf};
 ghost use Rattle.columns.specs.MatchColumns.{MatchColumns, matchIn, matchesOf};
 ghost use Rattle.boards.specs.Calls.{held, heldBy};
-ghost use Rattle.judges.specs.Calls.{refusalOf, boardOf};
+ghost use Rattle.refusals.specs.Calls.{refusalOf, boardOf};
 ghost use Rattle.reads.specs.Reads.{Readable};
 ghost use Rattle.prints.specs.Printed.{Printed};
 ghost use Rattle.reports.specs.Parts.{between, itemLine};

@@ -17,7 +17,7 @@ use Rattle.columns.proofs.ListFrom.{length-from}
 use Rattle.columns.proofs.Messages.{length-messages}
 use Rattle.boards.specs.Calls.{Held}
 use Rattle.boards.proofs.SenderLaws.{nth-sender}
-use Rattle.judges.specs.Calls.{boardOf, refusalOf, Plays}
+use Rattle.refusals.specs.Calls.{boardOf, refusalOf, Plays}
 use Rattle.adding.proofs.OpenLaws.{opens-empty, open-accepted}
 use Rattle.replaying.specs.Replays.{callsOf, answerNumbers}
 use Rattle.reading.proofs.ReadLaws.{match-is, message-is, reply-is, quiet-is}

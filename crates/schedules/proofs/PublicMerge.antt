@@ -15,7 +15,7 @@ use Rattle.columns.specs.MatchColumns.{matchIn}
 use Rattle.columns.proofs.ListFrom.{length-from}
 use Rattle.columns.proofs.Messages.{length-messages}
 use Rattle.boards.specs.Calls.{Held}
-use Rattle.judges.specs.Calls.{boardOf}
+use Rattle.refusals.specs.Calls.{boardOf}
 use Rattle.reading.specs.Answers.{matchNumber, matchAnswer, messageNumber, messageAnswer, replyNumber, replyAnswer}
 use Rattle.reading.proofs.ReadLaws.{match-is, match-none, message-is, message-none, reply-is, reply-none}
 use Rattle.replaying.specs.Replays.{callsOf, answerNumbers}

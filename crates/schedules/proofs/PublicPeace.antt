@@ -12,7 +12,7 @@ use Rattle.model.proofs.Backoffs.{builtin-passes}
 use Rattle.alone.specs.Alone.{In-peace, steppedAlone, Finishes, mostSteps}
 use Rattle.alone.proofs.Theorem.{alone}
 use Rattle.boards.specs.Calls.{Held}
-use Rattle.judges.specs.Calls.{boardOf, refusalOf, Plays}
+use Rattle.refusals.specs.Calls.{boardOf, refusalOf, Plays}
 use Rattle.schedules.specs.Schedules.{PlaysAll}
 use Rattle.schedules.specs.InPeace.{Comes-to-rest, Public-peace}
 use Rattle.schedules.proofs.PublicCalls.{public-calls, said-is}

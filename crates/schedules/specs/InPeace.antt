@@ -8,7 +8,7 @@ use Rattle.model.specs.Effects.{Said, Refused}
 use Rattle.model.specs.Pools.{Call, steps}
 use Rattle.alone.specs.Alone.{In-peace, mostSteps}
 use Rattle.boards.specs.Calls.{Held}
-use Rattle.judges.specs.Calls.{boardOf, Plays}
+use Rattle.refusals.specs.Calls.{boardOf, Plays}
 use Rattle.schedules.specs.Schedules.{PlaysAll, Opened}
 
 -- after so many public steps of sender i, or more, the next is refused 13 and leaves everything as found, byte for byte

@@ -13,7 +13,7 @@ use Rattle.columns.specs.Columns.{Columns}
 use Rattle.columns.specs.MatchColumns.{MatchColumns}
 use Rattle.boards.specs.declared.Board as DB
 use Rattle.boards.specs.Calls.{Held}
-use Rattle.judges.specs.Calls.{boardOf}
+use Rattle.refusals.specs.Calls.{boardOf}
 use Rattle.reading.specs.Answers.{matchNumber, matchAnswer, messageNumber, messageAnswer, replyNumber, replyAnswer}
 use Rattle.reading.specs.Answers.{quietAnswer}
 use Rattle.replaying.specs.Replays.{CallColumns, callsOf, Replays}

@@ -11,8 +11,8 @@ use Rattle.model.specs.Effects.{Said, numberOf, Ended}
 use Rattle.model.specs.Pools.{Call, Exchange, afterAll, history, quiet, matchReads, noRead}
 use Rattle.model.specs.Demands.{boardAfter, Run-of, Quiet-at}
 use Rattle.boards.specs.Calls.{Held}
-use Rattle.judges.specs.Judged.{Lengths}
-use Rattle.judges.specs.Calls.{boardOf, refusalOf, Plays}
+use Rattle.refusals.specs.Judged.{Lengths}
+use Rattle.refusals.specs.Calls.{boardOf, refusalOf, Plays}
 use Rattle.reading.specs.Answers.{matchAnswer, messageAnswer, replyAnswer, quietAnswer}
 use Rattle.adding.specs.Opens.{emptyHeld}
 use Rattle.replaying.specs.Replays.{CallColumns, callsOf, answerNumbers, Replays}

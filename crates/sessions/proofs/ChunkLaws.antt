@@ -10,7 +10,7 @@ use Rattle.model.specs.Layout.{tableOf}
 use Rattle.model.specs.Lines.{lineOf}
 use Rattle.model.specs.Sessions.{Session, lineEnds, fed, inputEnds}
 use Rattle.boards.specs.Calls.{Held}
-use Rattle.judges.specs.Calls.{boardOf, refusalOf}
+use Rattle.refusals.specs.Calls.{boardOf, refusalOf}
 use Rattle.lines.proofs.Fields.{to-end}
 use Rattle.prints.specs.Printed.{Printed}
 use Rattle.prints.proofs.Texts as texts

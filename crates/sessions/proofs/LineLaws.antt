@@ -9,7 +9,7 @@ use Rattle.model.specs.Lines.{lineOf}
 use Rattle.model.specs.Lines.Line.{unreadable, reads}
 use Rattle.model.specs.Printing.{answerLine}
 use Rattle.boards.specs.Calls.{Held}
-use Rattle.judges.specs.Calls.{boardOf, refusalOf, Plays}
+use Rattle.refusals.specs.Calls.{boardOf, refusalOf, Plays}
 use Rattle.prints.specs.Printed.{Printed}
 use Rattle.sessions.specs.Serves.{Serves}
 

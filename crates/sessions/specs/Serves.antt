@@ -11,7 +11,7 @@ use Rattle.model.specs.Printing.{answerLine}
 use Rattle.model.specs.Sessions.{Session, lineAnswer, fed, inputEnds}
 use Rattle.lines.specs.Views.{byteAt}
 use Rattle.boards.specs.Calls.{Held}
-use Rattle.judges.specs.Calls.{boardOf, refusalOf}
+use Rattle.refusals.specs.Calls.{boardOf, refusalOf}
 use Rattle.prints.specs.Printed.{Printed}
 use Rattle.sessions.specs.declared.Carry as DC
 

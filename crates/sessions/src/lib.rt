@@ -4,7 +4,7 @@ ghost use mathlib.Core.List.{_++_};
 ghost use Prim.Native.Nat.{_+_, _*_, _≤_};
 ghost use lib.ListN.{length, take};
 ghost use Rattle.boards.specs.Calls.{heldBy};
-ghost use Rattle.judges.specs.Calls.{refusalOf};
+ghost use Rattle.refusals.specs.Calls.{refusalOf};
 ghost use Rattle.sessions.specs.Serves.{Serves, Serves-chunk, Serves-end, carryOf};
 use boards::Board;
 use lines::Line;
@@ -61,7 +61,7 @@ pub fn serve_line(
         let e = prints::put_answer(out, at, Said::Refused(16));
         return Served { board: b, at: e };
     };
-    let a = moves::play(
+    let a = valued::play(
         table,
         b,
         call,

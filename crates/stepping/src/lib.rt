@@ -3,7 +3,7 @@ ghost use mathlib.Core.Path.{_≡_};
 ghost use Rattle.model.specs.Pools.{steps};
 ghost use Rattle.state.specs.Views.{saidIn};
 ghost use Rattle.boards.specs.Calls.{heldBy};
-ghost use Rattle.judges.specs.Calls.{refusalOf, Plays};
+ghost use Rattle.refusals.specs.Calls.{refusalOf, Plays};
 use boards::Answer;
 use boards::Board;
 use state::Said;
@@ -34,9 +34,9 @@ fn step_core(
 {
     let n = b.messages;
     let k = b.matches;
-    let at = moves::place_of(i);
+    let at = valued::place_of(i);
     let d = b.senders[at as usize];
-    let m = moves::step_move(
+    let m = valued::step_move(
         table,
         i,
         d,
@@ -54,7 +54,7 @@ fn step_core(
     let j = e.job;
     applies::write_change(c, k, j, statuses, matched, wakers, chords, messages);
     let said = m.said;
-    let r = moves::moved(b, at, m);
+    let r = valued::moved(b, at, m);
     Answer {
         said: said,
         board: r,

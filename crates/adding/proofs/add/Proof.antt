@@ -3,9 +3,9 @@ use mathlib.Core.Path.{_≡_, sym, _∙_}
 use mir.ValLaws.{toZ-ofZ}
 use mir.Syntax.{w64}
 use Rattle.boards.specs.Calls.{Held, heldBy}
-use Rattle.judges.specs.Calls.{refusalOf}
-use Rattle.moves.proofs.AddLaws.{by-cents}
-use Rattle.judges.proofs.CallLaws.{plays-refused}
+use Rattle.refusals.specs.Calls.{refusalOf}
+use Rattle.valued.proofs.AddLaws.{by-cents}
+use Rattle.refusals.proofs.CallLaws.{plays-refused}
 use borrow.Author.Needs.{needs}
 use Rattle.adding.proofs.add.Statement.{statement}
 use Rattle.adding.proofs.add.Tie as tie

@@ -5,12 +5,12 @@ use mir.ValLaws.{toZ-ofZ}
 use mir.Syntax.{w64}
 use Rattle.model.specs.Pools.{adds}
 use Rattle.boards.specs.Calls.{Held, heldBy}
-use Rattle.judges.proofs.Refusals.{table-accepted, lent-whole, messages-few, matches-few}
+use Rattle.refusals.proofs.Refusals.{table-accepted, lent-whole, messages-few, matches-few}
 use Rattle.adds.specs.Sends.{sent}
-use Rattle.moves.specs.Moves.{Fits}
-use Rattle.moves.proofs.AddLaws.{by-cents}
-use Rattle.moves.proofs.MoveLaws.{standsAt, moved-plays}
-use Rattle.moves.proofs.WriteLaws.{written-add}
+use Rattle.valued.specs.Moves.{Fits}
+use Rattle.valued.proofs.AddLaws.{by-cents}
+use Rattle.valued.proofs.MoveLaws.{standsAt, moved-plays}
+use Rattle.valued.proofs.WriteLaws.{written-add}
 use Rattle.adding.proofs.add_core.Statement.{statement}
 use Rattle.adding.proofs.add_core.Tie as tie
 

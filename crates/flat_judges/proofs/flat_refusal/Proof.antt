@@ -10,12 +10,13 @@ use Rattle.model.specs.Layout.{tableRefusal, tableOf}
 use Rattle.model.proofs.Tests.{refused-first}
 use Rattle.columns.specs.MatchColumns.{MatchColumns, matchesOf}
 use Rattle.columns.specs.Columns.{Columns, columnsOf}
-use Rattle.judges.proofs.Refusals.{lengths-by}
-use Rattle.judges.specs.Judged.{lentOk, statusesOk}
-use Rattle.flat.specs.Decoded.{boardFrom}
-use Rattle.flat.specs.Flat.{flatOk}
+use Rattle.refusals.proofs.Refusals.{lengths-by}
+use Rattle.refusals.specs.Judged.{lentOk, statusesOk}
+use Rattle.rows.specs.Decoded.{boardFrom}
+use Rattle.rows.specs.Flat.{flatOk}
 use Rattle.flat_judges.specs.Judged.{flatRefusal}
-use Rattle.flat_judges.proofs.FlatSound.{boardOn, flat-short, flat-refusal-is}
+use Rattle.refusals.proofs.FlatSound.{boardOn, flat-short}
+use Rattle.flat_judges.proofs.FlatLaws.{flat-refusal-is}
 use Rattle.flat_judges.proofs.flat_refusal.Statement.{statement}
 use Rattle.flat_judges.proofs.flat_refusal.Tie as tie
 

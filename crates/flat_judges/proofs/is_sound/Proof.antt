@@ -14,9 +14,9 @@ use Rattle.model.specs.Tables.{Table}
 use Rattle.columns.specs.MatchColumns.{MatchColumns, matchesOf}
 use Rattle.columns.specs.Columns.{Columns, columnsOf}
 use Rattle.soundness.specs.Tests.{messagesOk}
-use Rattle.judges.proofs.Parts.{matchesTest}
-use Rattle.flat.specs.Decoded.{boardFrom}
-use Rattle.flat_judges.proofs.FlatSound.{boardOn, flat-sound, seen-flat, known-flat}
+use Rattle.refusals.proofs.Parts.{matchesTest}
+use Rattle.rows.specs.Decoded.{boardFrom}
+use Rattle.refusals.proofs.FlatSound.{boardOn, flat-sound, seen-flat, known-flat}
 use Rattle.flat_judges.proofs.is_sound.Statement.{statement}
 use Rattle.flat_judges.proofs.is_sound.Tie as tie
 

@@ -8,9 +8,9 @@ use lib.ListN.{getD}
 use native.Mathlib.Omega.{arith}
 use Rattle.state.specs.Views.{stepsIn, canStep}
 use Rattle.boards.specs.Boards.{zeroSender}
-use Rattle.flat.specs.Decoded.{stateFrom, boardFrom}
-use Rattle.flat.proofs.WalkLaws.{all-numbers, part-at, part-first}
-use Rattle.flat.proofs.DecodeLaws.{sender-from}
+use Rattle.rows.specs.Decoded.{stateFrom, boardFrom}
+use Rattle.rows.proofs.WalkLaws.{all-numbers, part-at, part-first}
+use Rattle.rows.proofs.DecodeLaws.{sender-from}
 use Rattle.flat_moves.proofs.may_step.Statement.{statement}
 use Rattle.flat_moves.proofs.may_step.Tie as tie
 

@@ -5,9 +5,9 @@ use Prim.Native.Nat.{ℕ}
 use borrow.Author.Needs.{needs}
 use lib.ListN.{length, set, length-set}
 use native.Mathlib.Omega.{arith}
-use Rattle.moves.proofs.WriteLaws.{sure-signal}
-use Rattle.flat.specs.Decoded.{boardFrom}
-use Rattle.flat.proofs.WalkLaws.{all-numbers}
+use Rattle.valued.proofs.WriteLaws.{sure-signal}
+use Rattle.rows.specs.Decoded.{boardFrom}
+use Rattle.rows.proofs.WalkLaws.{all-numbers}
 use Rattle.flat_moves.proofs.SignalLaws.{IsBoard}
 use Rattle.flat_moves.proofs.MovedLaws.{withSender, sender-put, moved-none, moved-some}
 use Rattle.flat_moves.proofs.put_moved.Statement.{statement}

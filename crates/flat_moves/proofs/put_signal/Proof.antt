@@ -4,10 +4,10 @@ use Prim.Native.Nat.{_-_, _≤_}
 use borrow.Author.Needs.{needs}
 use lib.ListN.{length}
 use native.Mathlib.Omega.{arith}
-use Rattle.flat.specs.Flat.{boardNumbers}
-use Rattle.flat.specs.Decoded.{boardFrom}
-use Rattle.flat.proofs.WalkLaws.{all-numbers}
-use Rattle.flat.proofs.DecodeLaws.{from-back}
+use Rattle.rows.specs.Flat.{boardNumbers}
+use Rattle.rows.specs.Decoded.{boardFrom}
+use Rattle.rows.proofs.WalkLaws.{all-numbers}
+use Rattle.rows.proofs.DecodeLaws.{from-back}
 use Rattle.flat_moves.proofs.SignalLaws.{signalledTo, signal-next, signal-end}
 use Rattle.flat_moves.proofs.put_signal.Statement.{statement}
 use Rattle.flat_moves.proofs.put_signal.Tie as tie

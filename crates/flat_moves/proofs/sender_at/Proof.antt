@@ -4,10 +4,10 @@ use Prim.Native.Nat.{_+_, _*_}
 use borrow.Author.Needs.{needs}
 use native.Mathlib.Omega.{arith}
 use Rattle.boards.specs.Boards.{zeroSender}
-use Rattle.flat.specs.Decoded.{senderFrom}
-use Rattle.flat.proofs.WalkLaws.{span, part-len, part-ok, all-numbers}
-use Rattle.flat.proofs.Encoded.{sender-back}
-use Rattle.flat.proofs.DecodeLaws.{sender-from}
+use Rattle.rows.specs.Decoded.{senderFrom}
+use Rattle.rows.proofs.WalkLaws.{span, part-len, part-ok, all-numbers}
+use Rattle.rows.proofs.Encoded.{sender-back}
+use Rattle.rows.proofs.DecodeLaws.{sender-from}
 use Rattle.flat_moves.proofs.sender_at.Statement.{statement}
 use Rattle.flat_moves.proofs.sender_at.Tie as tie
 

@@ -9,7 +9,7 @@ use Rattle.model.specs.Printing.{quietLine}
 use Rattle.columns.specs.Columns.{Columns}
 use Rattle.columns.specs.MatchColumns.{matchesOf}
 use Rattle.boards.specs.Calls.{held}
-use Rattle.judges.specs.Calls.{boardOf}
+use Rattle.refusals.specs.Calls.{boardOf}
 use borrow.Author.Needs.{needs}
 use Rattle.gevnyusto.proofs.say_quiet.Statement.{statement}
 use Rattle.gevnyusto.proofs.say_quiet.Tie as tie

@@ -1,7 +1,7 @@
 -- `gevnyusto::serve` is safe: the first tests accept the board from its opening to the report.
 use mathlib.Core.Path.{sym, _∙_}
 use borrow.Author.Needs.{needs}
-use Rattle.judges.proofs.Refusals.{lent-whole}
+use Rattle.refusals.proofs.Refusals.{lent-whole}
 use Rattle.gevnyusto.proofs.Opened.{opened-by}
 use Rattle.gevnyusto.proofs.serve.Statement.{statement}
 use Rattle.gevnyusto.proofs.serve.Tie as tie

@@ -5,8 +5,8 @@ use Prim.Native.Nat.{_≤_}
 use native.Mathlib.Omega.{arith}
 use borrow.Author.Needs.{needs}
 use Rattle.boards.specs.Calls.{heldBy}
-use Rattle.judges.specs.Calls.{refusalOf}
-use Rattle.judges.proofs.Refusals.{lent-whole}
+use Rattle.refusals.specs.Calls.{refusalOf}
+use Rattle.refusals.proofs.Refusals.{lent-whole}
 use Rattle.gevnyusto.proofs.serve_all.Statement.{statement}
 use Rattle.gevnyusto.proofs.serve_all.Tie as tie
 

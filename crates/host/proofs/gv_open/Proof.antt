@@ -1,7 +1,7 @@
 -- `host::gv_open` meets its contract: refused by the table or the length, or written.
 use mathlib.Core.Path.{sym, _∙_, ap}
 use borrow.Author.Needs.{needs}
-use Rattle.flat.specs.Flat.{boardNumbers}
+use Rattle.rows.specs.Flat.{boardNumbers}
 use Rattle.host.proofs.PlayLaws.{opens-table, opens-none, opens-empty}
 use Rattle.host.proofs.gv_open.Statement.{statement}
 use Rattle.host.proofs.gv_open.Tie as tie

@@ -7,12 +7,12 @@ use borrow.Author.Needs.{needs}
 use lib.IntN.{pos}
 use native.Mathlib.Omega.{arith}
 use Rattle.model.specs.Layout.{flag, tableOf}
-use Rattle.judges.specs.Judged.{boardRefusal}
+use Rattle.refusals.specs.Judged.{boardRefusal}
 use Rattle.reading.proofs.ReadLaws.{quiet-is}
-use Rattle.flat.specs.Flat.{flatOk}
-use Rattle.flat.specs.Decoded.{boardFrom}
+use Rattle.rows.specs.Flat.{flatOk}
+use Rattle.rows.specs.Decoded.{boardFrom}
 use Rattle.model.proofs.TableLaws.{byte-flag}
-use Rattle.flat.proofs.WalkLaws.{all-numbers}
+use Rattle.rows.proofs.WalkLaws.{all-numbers}
 use Rattle.flat_judges.specs.Judged.{flatRefusal}
 use Rattle.flat_judges.proofs.FlatLaws.{flat-accepted}
 use Rattle.host.specs.Lent.{Lent, lent}

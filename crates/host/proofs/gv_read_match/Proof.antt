@@ -7,14 +7,14 @@ use native.Mathlib.Omega.{arith}
 use Rattle.model.specs.Layout.{tableOf}
 use Rattle.model.specs.Pools.{MatchRead, readMatch}
 use Rattle.boards.specs.Boards.{boardIn}
-use Rattle.judges.specs.Judged.{boardRefusal}
-use Rattle.judges.proofs.Refusals.{table-accepted}
+use Rattle.refusals.specs.Judged.{boardRefusal}
+use Rattle.refusals.proofs.Refusals.{table-accepted}
 use Rattle.reads.proofs.BoardLaws.{match-at, cents-at}
 use Rattle.reading.proofs.ReadLaws.{match-refused, match-none, match-is}
 use Rattle.reading.proofs.AcceptedLaws.{match-readable}
-use Rattle.flat.specs.Flat.{flatOk}
-use Rattle.flat.specs.Decoded.{boardFrom}
-use Rattle.flat.proofs.WalkLaws.{all-numbers}
+use Rattle.rows.specs.Flat.{flatOk}
+use Rattle.rows.specs.Decoded.{boardFrom}
+use Rattle.rows.proofs.WalkLaws.{all-numbers}
 use Rattle.flat_judges.specs.Judged.{flatRefusal}
 use Rattle.flat_judges.proofs.FlatLaws.{flat-accepted}
 use Rattle.host.specs.Lent.{Lent, lent}

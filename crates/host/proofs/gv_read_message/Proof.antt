@@ -7,14 +7,14 @@ use lib.ListN.{getD}
 use native.Mathlib.Omega.{arith}
 use Rattle.model.specs.Boards.{Message}
 use Rattle.model.specs.Layout.{tableOf}
-use Rattle.judges.specs.Judged.{boardRefusal}
-use Rattle.judges.proofs.Refusals.{lent-whole, messages-few}
+use Rattle.refusals.specs.Judged.{boardRefusal}
+use Rattle.refusals.proofs.Refusals.{lent-whole, messages-few}
 use Rattle.reads.proofs.BoardLaws.{message-at}
 use Rattle.reading.proofs.ReadLaws.{message-refused, message-none, message-is}
 use Rattle.reading.proofs.AcceptedLaws.{status-known}
-use Rattle.flat.specs.Flat.{flatOk}
-use Rattle.flat.specs.Decoded.{boardFrom}
-use Rattle.flat.proofs.WalkLaws.{all-numbers}
+use Rattle.rows.specs.Flat.{flatOk}
+use Rattle.rows.specs.Decoded.{boardFrom}
+use Rattle.rows.proofs.WalkLaws.{all-numbers}
 use Rattle.flat_judges.specs.Judged.{flatRefusal}
 use Rattle.flat_judges.proofs.FlatLaws.{flat-accepted}
 use Rattle.host.specs.Lent.{Lent, lent}

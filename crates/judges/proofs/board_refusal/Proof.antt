@@ -8,8 +8,8 @@ use Rattle.model.proofs.Tests.{refused-first}
 use Rattle.columns.specs.Columns.{Columns, columnsOf}
 use Rattle.columns.specs.MatchColumns.{MatchColumns, matchesOf}
 use Rattle.boards.specs.Boards.{boardIn}
-use Rattle.judges.specs.Judged.{lentOk, statusesOk, boardRefusal}
-use Rattle.judges.proofs.Refusals.{lengths-by}
+use Rattle.refusals.specs.Judged.{lentOk, statusesOk, boardRefusal}
+use Rattle.refusals.proofs.Refusals.{lengths-by}
 use borrow.Author.Needs.{needs}
 use Rattle.judges.proofs.board_refusal.Statement.{statement}
 use Rattle.judges.proofs.board_refusal.Tie as tie

@@ -17,9 +17,9 @@ use Rattle.columns.specs.MatchColumns.{MatchColumns, matchIn, matchesOf}
 use Rattle.columns.proofs.Messages.{length-messages}
 use Rattle.boards.specs.Boards.{boardIn}
 use Rattle.soundness.specs.Tests.{messagesOk}
-use Rattle.judges.specs.Judged.{statusesOk}
+use Rattle.refusals.specs.Judged.{statusesOk}
 use Rattle.columns.proofs.ListFrom.{length-from}
-use Rattle.judges.proofs.Parts.{matchesTest, sendersTest, sound-is, seen-on, known-on}
+use Rattle.refusals.proofs.Parts.{matchesTest, sendersTest, sound-is, seen-on, known-on}
 use Rattle.judges.proofs.is_sound.Statement.{statement}
 use Rattle.judges.proofs.is_sound.Tie as tie
 

@@ -1,6 +1,6 @@
 -- `judges::lent_ok` meets its contract: the test is the definition's own.
 use mathlib.Core.Path.{refl}
-use Rattle.judges.specs.Judged.{lentOk}
+use Rattle.refusals.specs.Judged.{lentOk}
 use Rattle.judges.proofs.lent_ok.Statement.{statement}
 use Rattle.judges.proofs.lent_ok.Tie as tie
 

@@ -7,8 +7,8 @@ use Rattle.model.specs.Pools.{readMatch}
 use Rattle.columns.specs.Columns.{Columns, columnsOf}
 use Rattle.columns.specs.MatchColumns.{MatchColumns, matchesOf}
 use Rattle.boards.specs.Boards.{boardIn}
-use Rattle.judges.specs.Judged.{boardRefusal}
-use Rattle.judges.proofs.Refusals.{table-accepted}
+use Rattle.refusals.specs.Judged.{boardRefusal}
+use Rattle.refusals.proofs.Refusals.{table-accepted}
 use Rattle.reads.proofs.BoardLaws.{match-at, cents-at}
 use Rattle.reading.proofs.ReadLaws.{match-refused, match-none, match-is}
 use Rattle.reading.proofs.AcceptedLaws.{match-readable}

@@ -5,8 +5,8 @@ use native.Mathlib.Omega.{arith}
 use Rattle.model.specs.Layout.{tableOf}
 use Rattle.columns.specs.Columns.{Columns, columnsOf}
 use Rattle.columns.specs.MatchColumns.{MatchColumns, matchesOf}
-use Rattle.judges.specs.Judged.{boardRefusal}
-use Rattle.judges.proofs.Refusals.{lent-whole, messages-few}
+use Rattle.refusals.specs.Judged.{boardRefusal}
+use Rattle.refusals.proofs.Refusals.{lent-whole, messages-few}
 use Rattle.reads.proofs.BoardLaws.{message-at}
 use Rattle.reading.proofs.ReadLaws.{message-refused, message-none, message-is}
 use Rattle.reading.proofs.AcceptedLaws.{status-known}

@@ -3,7 +3,7 @@ use mathlib.Core.Path.{_≡_, sym, _∙_}
 use native.Mathlib.Omega.{arith}
 use Rattle.columns.specs.Columns.{Columns, columnsOf}
 use Rattle.columns.specs.MatchColumns.{MatchColumns, matchesOf}
-use Rattle.judges.specs.Judged.{boardRefusal}
+use Rattle.refusals.specs.Judged.{boardRefusal}
 use Rattle.reading.proofs.ReadLaws.{reply-refused, reply-none, reply-is}
 use borrow.Author.Needs.{needs}
 use Rattle.reading.proofs.read_reply.Statement.{statement}

@@ -11,14 +11,14 @@ use Rattle.boards.specs.Calls.{Held, heldBy, callIn}
 use Rattle.boards.specs.Boards.{zeroSender}
 use Rattle.columns.specs.Columns.{Passed}
 use Rattle.columns.proofs.Passed.{passed-none}
-use Rattle.judges.specs.Judged.{Lengths}
-use Rattle.judges.specs.Calls.{Plays, refusalOf}
-use Rattle.judges.proofs.Refusals.{lent-whole, messages-few, matches-few}
-use Rattle.moves.specs.Moves.{placeOf, callerOf, Stands}
-use Rattle.moves.proofs.MoveLaws.{readBy, standsBy, moved-plays}
-use Rattle.flat.specs.Flat.{flatOk}
-use Rattle.flat.specs.Decoded.{boardFrom}
-use Rattle.flat.proofs.WalkLaws.{all-numbers}
+use Rattle.refusals.specs.Judged.{Lengths}
+use Rattle.refusals.specs.Calls.{Plays, refusalOf}
+use Rattle.refusals.proofs.Refusals.{lent-whole, messages-few, matches-few}
+use Rattle.valued.specs.Moves.{placeOf, callerOf, Stands}
+use Rattle.valued.proofs.MoveLaws.{readBy, standsBy, moved-plays}
+use Rattle.rows.specs.Flat.{flatOk}
+use Rattle.rows.specs.Decoded.{boardFrom}
+use Rattle.rows.proofs.WalkLaws.{all-numbers}
 use Rattle.replaying.specs.Replays.{callColumns}
 use Rattle.replaying.proofs.ScheduleLaws.{Played, plays-waiting, played-none, played-next, played-all}
 use Rattle.replaying.proofs.replay_core.Statement.{statement}

@@ -8,7 +8,7 @@ use Rattle.model.specs.Printing.{matchLine}
 use Rattle.columns.specs.Columns.{Columns, columnsOf}
 use Rattle.columns.specs.MatchColumns.{MatchColumns, matchesOf}
 use Rattle.boards.specs.Boards.{boardIn}
-use Rattle.judges.proofs.Refusals.{table-accepted}
+use Rattle.refusals.proofs.Refusals.{table-accepted}
 use Rattle.reads.proofs.BoardLaws.{cents-at}
 use Rattle.reading.proofs.AcceptedLaws.{match-readable}
 use Rattle.reports.proofs.PartLaws.{Lined, lined-none, lined-kept}

@@ -6,7 +6,7 @@ use borrow.Author.Needs.{needs}
 use Rattle.model.specs.Layout.{tableOf}
 use Rattle.columns.specs.Columns.{Columns, columnsOf}
 use Rattle.columns.specs.MatchColumns.{MatchColumns, matchesOf}
-use Rattle.judges.proofs.Refusals.{lent-whole, messages-few}
+use Rattle.refusals.proofs.Refusals.{lent-whole, messages-few}
 use Rattle.reports.proofs.PartLaws.{Lined, messageLine, lined-none, lined-kept}
 use Rattle.reports.proofs.BoardLines.{messagesOf, messages-count, open-next, open-ends}
 use Rattle.reports.proofs.open_lines.Statement.{statement}

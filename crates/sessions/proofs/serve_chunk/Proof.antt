@@ -5,7 +5,7 @@ use Prim.Native.Nat.{_-_, _^_, _<_}
 use native.Mathlib.Omega.{arith}
 use lib.ListN.{length}
 use Rattle.boards.specs.Calls.{heldBy}
-use Rattle.judges.proofs.Refusals.{lent-whole}
+use Rattle.refusals.proofs.Refusals.{lent-whole}
 use Rattle.sessions.proofs.ChunkLaws.{Sofar, sofar-none, sofar-next, sofar-all}
 use borrow.Author.Needs.{needs}
 use Rattle.sessions.proofs.serve_chunk.Statement.{statement}

@@ -2,7 +2,7 @@
 use borrow.Author.Needs.{needs}
 use Rattle.model.specs.Pools.{steps}
 use Rattle.boards.specs.Calls.{Held, heldBy}
-use Rattle.judges.proofs.CallLaws.{plays-refused}
+use Rattle.refusals.proofs.CallLaws.{plays-refused}
 use Rattle.stepping.proofs.step.Statement.{statement}
 use Rattle.stepping.proofs.step.Tie as tie
 

@@ -4,9 +4,9 @@ use borrow.Author.Needs.{needs}
 use Rattle.model.specs.Pools.{steps}
 use Rattle.columns.proofs.Passed.{passed-none}
 use Rattle.boards.specs.Calls.{Held, heldBy}
-use Rattle.judges.proofs.Refusals.{lent-whole, messages-few, matches-few}
-use Rattle.moves.proofs.MoveLaws.{standsAt, moved-plays}
-use Rattle.moves.proofs.WriteLaws.{sure-all, written-step}
+use Rattle.refusals.proofs.Refusals.{lent-whole, messages-few, matches-few}
+use Rattle.valued.proofs.MoveLaws.{standsAt, moved-plays}
+use Rattle.valued.proofs.WriteLaws.{sure-all, written-step}
 use Rattle.stepping.proofs.step_core.Statement.{statement}
 use Rattle.stepping.proofs.step_core.Tie as tie
 

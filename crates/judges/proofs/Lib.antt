@@ -1,4 +1,0 @@
--- Laws of what every board call tests first.
-pub mod Parts
-pub mod Refusals
-pub mod CallLaws

@@ -1,3 +1,0 @@
--- What every board call tests first.
-pub mod Judged
-pub mod Calls

@@ -1,0 +1,72 @@
+-- The board that numbers are, tested in the order of the code: counts, messages, matches, senders.
+use mathlib.Core.Path.{_≡_, refl}
+use mathlib.Core.Bool.{Bool, true, false, _&&_}
+use mathlib.Core.List.{List, map}
+use Prim.Native.Nat.{ℕ, _≤_}
+use borrow.Author.Tests.{eq-eqb, ne-eqb}
+use lib.Dec.{leb}
+use lib.ListN.{getD, drop, length}
+use Rattle.model.specs.Basics.{every}
+use Rattle.model.specs.Tables.{Table}
+use Rattle.model.specs.Boards.{Board}
+use Rattle.model.specs.Sound.{sound, senderOk, noneShared}
+use Rattle.columns.specs.Columns.{Columns}
+use Rattle.columns.specs.MatchColumns.{MatchColumns}
+use Rattle.state.specs.Views.{senderIn}
+use Rattle.boards.specs.Boards.{boardIn}
+use Rattle.soundness.specs.Tests.{messagesOk}
+use Rattle.senders.specs.Seen.{Seen, Known}
+use Rattle.refusals.specs.Judged.{statusesOk}
+use Rattle.refusals.proofs.Parts.{matchesTest, sound-is, seen-on, known-on}
+use Rattle.rows.specs.Flat.{sendersOk, flatOk}
+use Rattle.rows.specs.Decoded.{boardFrom}
+use Rattle.refusals.specs.Rows.{rowsOk, sendersIn}
+use Rattle.refusals.proofs.RowWalks.{senders-count, rows-are}
+
+-- numbers of another length are no board's
+pub flat-short : (s : List ℕ) → (length s ≡ 674 → ⊥) → flatOk s ≡ false
+unfolding flatOk
+flat-short s e = rw (ne-eqb (length s) 674 e)
+
+-- the numbers' test beside that of the senders
+moved : (f x y z e n : Bool) → (f && (x && (y && (z && (e && n))))) ≡ (x && (y && (z && ((f && e) && n))))
+moved true x y z e n = refl
+moved false true true true e n = refl
+moved false true true false e n = refl
+moved false true false z e n = refl
+moved false false y z e n = refl
+
+module _ (t : Table) (s : List ℕ) (c : Columns) (m : MatchColumns) where
+  -- the model's board
+  abbrev pub boardOn : Board
+  boardOn = boardIn t (boardFrom s) c m
+
+  -- the senders, each by itself and all together
+  abbrev sendersTest : Bool
+  sendersTest = rowsOk t boardOn 32 (drop 2 s) && noneShared (map (senderIn t) (sendersIn s))
+
+  -- numbers of a sound board, in the order of the code
+  pub flat-sound : length s ≡ 674
+      → (flatOk s && (statusesOk (boardFrom s .messages) (c .statuses) && sound t boardOn))
+      ≡ ((leb (getD s 0 0) 1024 && leb (getD s 1 0) 1024)
+      && (messagesOk t boardOn c (getD s 0 0) && (matchesTest t (boardFrom s) c m && sendersTest)))
+  unfolding flatOk boardFrom
+  flat-sound e =
+      rw (
+        eq-eqb (length s) 674 e,
+        sound-is t (boardFrom s) c m (senders-count 32 (drop 2 s)),
+        rows-are t boardOn 32 (drop 2 s),
+      )
+      (moved (sendersOk 32 (drop 2 s)) (leb (getD s 0 0) 1024 && leb (getD s 1 0) 1024)
+      (messagesOk t boardOn c (getD s 0 0)) (matchesTest t (boardFrom s) c m)
+      (every (senderOk t boardOn) (map (senderIn t) (sendersIn s))) (noneShared (map (senderIn t) (sendersIn s))))
+
+  -- what the test of senders sees of the board
+  pub seen-flat : Seen boardOn (getD s 0 0) (getD s 1 0) (c .channels)
+  unfolding boardFrom
+  seen-flat = seen-on t (boardFrom s) c m
+
+  pub known-flat : getD s 0 0 ≤ length (c .channels) → messagesOk t boardOn c (getD s 0 0) ≡ true
+      → Known t (getD s 0 0) (c .channels)
+  unfolding boardFrom
+  known-flat l e = known-on t (boardFrom s) c m l e

@@ -1,0 +1,44 @@
+-- `refusals::senders_ok` meets its contract: each sender by itself, then no mark twice.
+use mathlib.Core.Path.{sym, _∙_, ap}
+use borrow.Author.Needs.{needs}
+use Rattle.model.specs.Layout.{tableOf}
+use Rattle.senders.proofs.Alone.{marks-shared}
+use Rattle.senders.specs.Seen.{noneTwice}
+use Rattle.refusals.specs.Rows.{sendersIn}
+use Rattle.refusals.proofs.senders_ok.Statement.{statement}
+use Rattle.refusals.proofs.senders_ok.Tie as tie
+
+rows-ok-requires : tie.Need-rows-ok-requires
+rows-ok-requires c κs = search needs
+
+marks-at-requires : tie.Need-marks-at-requires
+marks-at-requires c κs = search needs
+
+slice-aggregate-none-twice : tie.Need-slice-aggregate-none-twice
+slice-aggregate-none-twice c = search needs
+
+none-twice-requires : tie.Need-none-twice-requires
+none-twice-requires c κs = search needs
+
+returns : tie.Need-returns
+returns c b sees =
+    let m = c .before .before in
+    let q = m .before .before in
+    let a = q .before .before .before .before .args in
+    rw (sym (q .rows-ok .ensures b sees) ∙ m .before .if1 .taken)
+    (c .none-twice .ensures ∙ ap noneTwice (m .marks-at .ensures)
+    ∙ marks-shared (tableOf (a .table .now)) (sendersIn (a .s .now)))
+
+returns-2 : tie.Need-returns-2
+returns-2 c b sees = rw (sym (c .before .rows-ok .ensures b sees) ∙ c .if1 .left)
+
+pub senders-ok-spec : {M : Type 1} → statement M
+senders-ok-spec =
+    tie.close
+    (tie.spec
+    rows-ok-requires
+    marks-at-requires
+    slice-aggregate-none-twice
+    none-twice-requires
+    returns
+    returns-2)

@@ -1,0 +1,132 @@
+-- `refusals::state_ok` meets its contract: a state at a time; the job is that of the decoded sender.
+use mathlib.Core.List.{List}
+use mathlib.Core.Logic.{_≢_}
+use mathlib.Core.Path.{_≡_, sym, _∙_, ap}
+use Prim.Native.Nat.{ℕ, _≤_}
+use borrow.Author.Needs.{needs}
+use lib.ListN.{getD}
+use native.Mathlib.Omega.{arith}
+use Rattle.model.specs.Layout.{tableOf}
+use Rattle.rows.proofs.WalkLaws.{span, part-at, part-first}
+use Rattle.rows.proofs.SenderLaws.{sender-fits}
+use Rattle.rows.proofs.Encoded.{sender-back}
+use Rattle.rows.specs.Decoded.{senderFrom}
+use Rattle.refusals.specs.Rows.{row}
+use Rattle.refusals.proofs.RowLaws.{idle-ok, ownless, blocked-ok, working-ok, row-len}
+use Rattle.refusals.proofs.state_ok.Statement.{statement}
+use Rattle.refusals.proofs.state_ok.Tie as tie
+
+-- where the function starts
+abbrev start : tie.Else1 → tie.Start
+start c = c .before .before .before .before .before
+
+-- the sender's numbers
+abbrev numbers : tie.Start → List ℕ
+numbers s = row (s .args .s .now) (s .args .at)
+
+-- no state but working is left
+only-one : (n : ℕ) → n ≢ 0 → n ≢ 2 → n ≤ 2 → n ≡ 1
+only-one n p q h = omega arith
+
+-- its state's number, and its own message
+busy : (c : tie.Else1) → getD (numbers (start c)) 0 0 ≢ 0
+busy c e =
+    let a = start c .args in
+    c .if1 .left (sym (part-first (a .s .now) (a .at)) ∙ e)
+
+owned : (c : tie.Else2) → getD (numbers (start (c .before .before))) 2 0 ≢ 0
+owned c e =
+    let a = start (c .before .before) .args in
+    c .if2 .left (sym (part-at (a .s .now) (a .at) 2 (omega arith)) ∙ e)
+
+mul-state : tie.Need-mul-state
+mul-state c = search needs
+
+shared-slice-read-state : tie.Need-shared-slice-read-state
+shared-slice-read-state c = search needs
+
+returns : tie.Need-returns
+returns c b sees =
+    let a = c .before .before .before .before .before .args in
+    sym (idle-ok (tableOf (a .table .now)) b (row (a .s .now) (a .at)) (part-first (a .s .now) (a .at) ∙ c .if1 .taken))
+
+add-if2 : tie.Need-add-if2
+add-if2 c = search needs
+
+mul-if2 : tie.Need-mul-if2
+mul-if2 c = search needs
+
+shared-slice-read-if2 : tie.Need-shared-slice-read-if2
+shared-slice-read-if2 c = search needs
+
+returns-2 : tie.Need-returns-2
+returns-2 c b sees =
+    let e = c .before .before in
+    let a = start e .args in
+    sym (ownless (tableOf (a .table .now)) b (row (a .s .now) (a .at)) (busy e)
+    (part-at (a .s .now) (a .at) 2 (omega arith) ∙ c .if2 .taken))
+
+returns-3 : tie.Need-returns-3
+returns-3 c b sees =
+    let o = c .before in
+    let a = start (o .before .before) .args in
+    sym (blocked-ok (tableOf (a .table .now)) b (row (a .s .now) (a .at)) (owned o)
+    (part-first (a .s .now) (a .at) ∙ c .if3 .taken))
+
+add-sender-of : tie.Need-add-sender-of
+add-sender-of c = search needs
+
+mul-sender-of : tie.Need-mul-sender-of
+mul-sender-of c = search needs
+
+sub-sender-of : tie.Need-sub-sender-of
+sub-sender-of c = search needs
+
+part-sender-of-start : tie.Need-part-sender-of-start
+part-sender-of-start c = search needs
+
+part-sender-of-end : tie.Need-part-sender-of-end
+part-sender-of-end c = search needs
+
+sender-of-requires : tie.Need-sender-of-requires
+sender-of-requires c κs =
+    let s = start (c .before .before .before .before) in
+    rw (span (s .args .at)) (row-len (s .args .s .now) (s .args .at) (s .pre .1 .0), s .pre .1 .1)
+
+job-ok-requires : tie.Need-job-ok-requires
+job-ok-requires c κs = search needs
+
+returns-4 : tie.Need-returns-4
+returns-4 c b sees =
+    let d = c .before in
+    let w = d .before .before in
+    let o = w .before in
+    let s = start (o .before .before) in
+    let a = s .args in
+    let f = part-first (a .s .now) (a .at) in
+    let g = sender-fits (numbers s) (s .pre .1 .1) .state in
+    let one : getD (numbers s) 0 0 ≡ 1 = only-one _ (busy (o .before .before)) (λ e. w .if3 .left (sym f ∙ e)) g in
+    let e : d .sender-of .result ≡ senderFrom (numbers s)
+    = sym (sender-back (d .sender-of .result)) ∙ ap senderFrom (rw (span (a .at)) at (d .sender-of .ensures .0)) in
+    rw e at (c .job-ok .ensures b sees) ∙ sym (working-ok (tableOf (a .table .now)) b (numbers s) (owned o) one)
+
+pub state-ok-spec : {M : Type 1} → statement M
+state-ok-spec =
+    tie.close
+    (tie.spec
+    mul-state
+    shared-slice-read-state
+    returns
+    add-if2
+    mul-if2
+    shared-slice-read-if2
+    returns-2
+    returns-3
+    add-sender-of
+    mul-sender-of
+    sub-sender-of
+    part-sender-of-start
+    part-sender-of-end
+    sender-of-requires
+    job-ok-requires
+    returns-4)

@@ -1,0 +1,52 @@
+-- What a call of the board says and leaves, for any table, board and lent columns.
+use mathlib.Core.Path.{_≡_}
+use mathlib.Core.Logic.{_≢_}
+use mathlib.Core.List.{List}
+use Prim.Native.Nat.{ℕ, zero, suc, _*_, _≤_}
+use lib.ListN.{drop}
+use Rattle.model.specs.Layout.{tableOf}
+use Rattle.model.specs.Boards.{Board}
+use Rattle.model.specs.Effects.{Said, Refused, numberOf}
+use Rattle.model.specs.Pools.{Call, answerTo}
+use Rattle.boards.specs.Calls.{Held, heldIn}
+use Rattle.refusals.specs.Judged.{boardRefusal}
+
+-- the model's board, by the table's bytes
+abbrev pub boardOf : List ℕ → Held → Board
+boardOf s h = heldIn (tableOf s) h
+
+-- the number that every board call gives first; 0 for none
+abbrev pub refusalOf : List ℕ → Held → ℕ
+refusalOf s h = boardRefusal s (h .board) (h .columns) (h .matches)
+
+-- that number, or what the model answers
+abbrev pub saidAfter : ℕ → Said → Said
+saidAfter zero w = w
+saidAfter (suc f) w = Refused (suc f)
+
+-- two lists agree from number n on
+abbrev pub SameFrom : {A : Type 0} → ℕ → List A → List A → Type 0
+SameFrom n xs ys = drop n xs ≡ drop n ys
+
+-- records past the counts stay as they were
+pub record Beyond (h h′ : Held) : Type 0 where
+  pub messages-grow : h .board .messages ≤ h′ .board .messages
+  pub matches-grow : h .board .matches ≤ h′ .board .matches
+  pub channels : SameFrom (h′ .board .messages) (h′ .columns .channels) (h .columns .channels)
+  pub properties : SameFrom (h′ .board .messages) (h′ .columns .properties) (h .columns .properties)
+  pub cents : SameFrom (h′ .board .messages) (h′ .columns .cents) (h .columns .cents)
+  pub statuses : SameFrom (h′ .board .messages) (h′ .columns .statuses) (h .columns .statuses)
+  pub matched : SameFrom (h′ .board .messages) (h′ .columns .matched) (h .columns .matched)
+  pub wakers : SameFrom (h′ .board .messages) (h′ .columns .wakers) (h .columns .wakers)
+  pub chords : SameFrom (h′ .board .matches) (h′ .matches .chords) (h .matches .chords)
+  pub messages : SameFrom (8 * h′ .board .matches) (h′ .matches .messages) (h .matches .messages)
+
+-- call k on h says w and leaves h′
+pub record Plays (s : List ℕ) (h : Held) (k : Call) (w : Said) (h′ : Held) : Type 0 where
+  pub says : w ≡ saidAfter (refusalOf s h) (answerTo (tableOf s) (boardOf s h) k .said)
+  pub leaves : refusalOf s h ≡ 0 → boardOf s h′ ≡ answerTo (tableOf s) (boardOf s h) k .board
+  -- "a refusal returns the number only and leaves all as found"
+  pub keeps : numberOf w ≢ 0 → h′ ≡ h
+  -- no later call is refused for its board
+  pub accepted : refusalOf s h ≡ 0 → refusalOf s h′ ≡ 0
+  pub beyond : Beyond h h′

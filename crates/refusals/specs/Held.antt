@@ -1,0 +1,28 @@
+-- What the lent lists hold: the board that the numbers are, with its columns. Lists of another length, and numbers that
+-- are no board's, hold nothing: columns that are empty, which every board call refuses 30.
+use mathlib.Core.Path.{_≡_}
+use mathlib.Core.Bool.{true, _&&_}
+use mathlib.Core.List.{List, []}
+use Prim.Native.Nat.{ℕ}
+use Rattle.model.specs.Basics.{pick}
+use Rattle.boards.specs.Calls.{Held, held, heldBy}
+use Rattle.boards.specs.Layout.{Lists, columnsIn, matchesIn, listsOk, Sized}
+use Rattle.rows.specs.Flat.{flatOk}
+use Rattle.rows.specs.Decoded.{boardFrom}
+use Rattle.refusals.specs.Judged.{boardRefusal}
+
+abbrev pub nothing : Held
+nothing = heldBy (record { messages = 0; matches = 0; senders = [] }) [] [] [] [] [] [] [] []
+
+-- what lists of their lengths hold
+abbrev pub heldOf : Lists → Held
+heldOf l = held (boardFrom (l .board)) (columnsIn l) (matchesIn l)
+
+unfoldable pub heldIn : Lists → Held
+heldIn l = pick (listsOk l && flatOk (l .board)) (heldOf l) nothing
+
+-- lists that the first tests accept
+pub record Accepted (s : List ℕ) (l : Lists) : Type 0 where
+  pub numbers : flatOk (l .board) ≡ true
+  pub sized : Sized l
+  pub accepted : boardRefusal s (boardFrom (l .board)) (columnsIn l) (matchesIn l) ≡ 0

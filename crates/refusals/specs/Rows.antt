@@ -1,0 +1,44 @@
+-- The tests of a sender by its 21 numbers.
+use mathlib.Core.Bool.{Bool, true, _&&_}
+use mathlib.Core.List.{List, [], _∷_}
+use Prim.Native.Nat.{ℕ, zero, suc}
+use lib.Dec.{leb}
+use lib.ListN.{getD, drop, take}
+use Rattle.model.specs.Tables.{Table}
+use Rattle.model.specs.Boards.{Board, Sender}
+use Rattle.model.specs.Sound as Sound
+use Rattle.soundness.specs.Tests.{eachBelow}
+use Rattle.state.specs.declared.Sender as DD
+use Rattle.state.specs.Views.{senderIn}
+use Rattle.rows.specs.Flat.{senderOk}
+use Rattle.rows.specs.Decoded.{senderFrom, sendersFrom}
+
+-- the 21 numbers from a place on
+abbrev pub row : List ℕ → ℕ → List ℕ
+row s at = take 21 (drop at s)
+
+-- each of the first 16 is at most its limit
+unfoldable pub within : List ℕ → List ℕ → Bool
+within most a = eachBelow 16 (λ i. leb (getD a i 0) (getD most i 0))
+
+-- the limits on a board of n messages and k matches; 65,535 is none
+abbrev pub limits : ℕ → ℕ → List ℕ
+limits n k =
+    2 ∷ 1 ∷ n ∷ n ∷ k ∷ k ∷ 65535 ∷ 255 ∷ 9 ∷ 255 ∷ 65535 ∷ 1 ∷ 255 ∷ 65535 ∷ 65535 ∷ 65535 ∷ []
+
+-- the sender of 21 numbers, as the model's
+abbrev pub senderAt : Table → List ℕ → Sender
+senderAt t a = senderIn t (senderFrom a)
+
+-- 21 numbers are those of a sender that is sound on the board
+unfoldable pub rowOk : Table → Board → List ℕ → Bool
+rowOk t b a = senderOk a && Sound.senderOk t b (senderAt t a)
+
+-- n senders, one after another
+unfoldable pub rowsOk : Table → Board → ℕ → List ℕ → Bool
+rowsOk t b zero s = true
+rowsOk t b (suc n) s = rowOk t b (take 21 s) && rowsOk t b n (drop 21 s)
+
+-- the 32 senders of a board's numbers
+abbrev pub sendersIn : List ℕ → List DD.Sender
+sendersIn s = sendersFrom 32 (drop 2 s)

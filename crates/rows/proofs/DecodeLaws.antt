@@ -1,0 +1,93 @@
+-- The board that numbers are has these numbers, and its senders are those of their parts.
+use mathlib.Core.Path.{_≡_, refl}
+use mathlib.Core.Bool.{true, false}
+use mathlib.Core.List.{List, [], _∷_}
+use Prim.Native.Nat.{ℕ, zero, suc, _+_, _*_, _<_, _≤_}
+use borrow.Author.Tests.{eqb-false}
+use lib.Dec.{eqb}
+use lib.ListN.{length, getD, take, drop, length-drop, take-append-drop}
+use lib.Seq.{drop-drop, length-take-le}
+use native.Mathlib.Omega.{arith}
+use Rattle.model.proofs.Tests.{both}
+use Rattle.state.specs.declared.Sender as DD
+use Rattle.rows.specs.Flat.{stateNumber, phaseNumbers, senderNumbers, sendersNumbers, boardNumbers}
+use Rattle.rows.specs.Flat.{placeless, phaseOk, senderOk, sendersOk, flatOk}
+use Rattle.rows.specs.Decoded.{stateFrom, phaseFrom, senderFrom, sendersFrom, boardFrom}
+use Rattle.rows.specs.Fits.{SenderFits, SendersFit, BoardFits}
+use Rattle.rows.proofs.PhaseLaws.{three-are, kind-fits, no-place, no-second, flag-one}
+use Rattle.rows.proofs.SenderLaws.{sender-fits, sender-is}
+use Rattle.rows.proofs.WalkLaws.{counts-read, all-numbers}
+
+state-from : (n : ℕ) → n ≤ 2 → stateNumber (stateFrom n) ≡ n
+state-from zero h = refl
+state-from (suc zero) h = refl
+state-from (suc (suc zero)) h = refl
+state-from (suc (suc (suc n))) h = absurd (omega arith)
+
+-- a phase with no second number, and one with no place either
+module _ (n k s : ℕ) (e : phaseOk n k s ≡ true) (p : eqb n 3 ≡ false) (q : eqb n 2 ≡ false) where
+  none : 0 ≡ s
+  none = no-second n k s e (eqb-false n 3 p) (eqb-false n 2 q)
+
+  placed : n ∷ k ∷ 0 ∷ [] ≡ n ∷ k ∷ s ∷ []
+  placed = three-are refl refl none
+
+  bare : placeless n ≡ true → n ∷ 0 ∷ 0 ∷ [] ≡ n ∷ k ∷ s ∷ []
+  bare z = three-are refl (no-place n k s e z) none
+
+phase-from : (n k s : ℕ) → phaseOk n k s ≡ true → phaseNumbers (phaseFrom n k s) ≡ n ∷ k ∷ s ∷ []
+phase-from zero k s e = placed 0 k s e refl refl
+phase-from (suc zero) k s e = placed 1 k s e refl refl
+phase-from (suc (suc zero)) k s e = refl
+phase-from (suc (suc (suc zero))) k s e = refl
+phase-from (suc (suc (suc (suc zero)))) k s e = placed 4 k s e refl refl
+phase-from (suc (suc (suc (suc (suc zero))))) k s e = bare 5 k s e refl refl refl
+phase-from (suc (suc (suc (suc (suc (suc zero)))))) k s e = placed 6 k s e refl refl
+phase-from (suc (suc (suc (suc (suc (suc (suc zero))))))) k s e = bare 7 k s e refl refl refl
+phase-from (suc (suc (suc (suc (suc (suc (suc (suc zero)))))))) k s e = bare 8 k s e refl refl refl
+phase-from (suc (suc (suc (suc (suc (suc (suc (suc (suc zero))))))))) k s e = placed 9 k s e refl refl
+phase-from (suc (suc (suc (suc (suc (suc (suc (suc (suc (suc n)))))))))) k s e =
+    absurd (omega (arith, kind-fits _ k s e))
+
+-- 21 numbers that pass are those of their sender, which fits its types
+pub sender-from-back : (a : List ℕ) → length a ≡ 21 → senderOk a ≡ true
+    → (senderNumbers (senderFrom a) ≡ a) × SenderFits (senderFrom a)
+sender-from-back a l ok =
+    let f = sender-fits a ok in
+    sender-is a l ok (senderFrom a) (state-from (getD a 0 0) (f .state)) (flag-one (getD a 1 0) (f .signalled)) refl
+    refl refl refl refl refl (phase-from (getD a 8 0) (getD a 9 0) (getD a 10 0) (f .phase))
+    (flag-one (getD a 11 0) (f .retry)) refl refl
+
+senders-from-back : (n : ℕ) (s : List ℕ) → length s ≡ 21 * n → sendersOk n s ≡ true
+    → (sendersNumbers (sendersFrom n s) ≡ s) × SendersFit (sendersFrom n s) × (length (sendersFrom n s) ≡ n)
+unfolding sendersNumbers sendersFrom sendersOk
+senders-from-back zero [] l ok = (refl, tt, refl)
+senders-from-back zero (x ∷ s) l ok = absurd (omega (arith, l))
+senders-from-back (suc n) s l ok =
+    let p = both {t = senderOk (take 21 s)} ok in
+    let d = sender-from-back (take 21 s) (length-take-le 21 s (omega (arith, l))) (p .0) in
+    let r = senders-from-back n (drop 21 s) (omega (arith, l, length-drop 21 s)) (p .1) in
+    (rw (d .0, r .0) (take-append-drop 21 s), (d .1, r .1), omega (arith, r .2))
+
+-- numbers that pass are those of their board, which fits its types
+pub from-back : (s : List ℕ) → flatOk s ≡ true → (boardNumbers (boardFrom s) ≡ s) × BoardFits (boardFrom s)
+unfolding boardNumbers boardFrom
+from-back s ok =
+    let p = all-numbers s ok in
+    let r = senders-from-back 32 (drop 2 s) (omega (arith, p .0, length-drop 2 s)) (p .1) in
+    (rw (r .0) (counts-read s (omega (arith, p .0))), record { all = r .2; each = r .1 })
+
+senders-from : (n i : ℕ) (s : List ℕ) (z : DD.Sender) → i < n
+    → getD (sendersFrom n s) i z ≡ senderFrom (take 21 (drop (21 * i) s))
+unfolding sendersFrom
+senders-from zero i s z h = absurd (omega arith)
+senders-from (suc n) zero s z h = refl
+senders-from (suc n) (suc i) s z h =
+    let e : 21 * suc i ≡ 21 + 21 * i = omega arith in
+    rw (e, ← drop-drop (21 * i) 21 s) (senders-from n i (drop 21 s) z (omega arith))
+
+-- the sender at a place
+pub sender-from : (s : List ℕ) (i : ℕ) (z : DD.Sender) → i < 32
+    → getD (boardFrom s .senders) i z ≡ senderFrom (take 21 (drop (2 + 21 * i) s))
+unfolding boardFrom
+sender-from s i z h = rw (← drop-drop (21 * i) 2 s) (senders-from 32 i (drop 2 s) z h)

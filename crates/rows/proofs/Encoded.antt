@@ -1,0 +1,134 @@
+-- A board's numbers pass, and are no other board's: what is decoded is the one board that they encode.
+use mathlib.Core.Path.{_≡_, refl, sym, _∙_, ap}
+use mathlib.Core.Bool.{Bool, true, false, _||_}
+use mathlib.Core.List.{List, [], _∷_}
+use Prim.Native.Nat.{_*_}
+use borrow.Author.Tests.{le-leb, eq-eqb}
+use lib.Dec.{eqb, leb}
+use lib.ListN.{length, length-append}
+use lib.Seq.{take-at, drop-at}
+use native.Mathlib.Omega.{arith}
+use Rattle.model.specs.Layout.{flag}
+use Rattle.model.proofs.Tests.{and}
+use Rattle.state.specs.declared.Phase as DP
+use Rattle.state.specs.declared.Phase.the-variants as P
+use Rattle.state.specs.declared.State as DS
+use Rattle.state.specs.declared.State.the-variants as S
+use Rattle.state.specs.declared.Sender as DD
+use Rattle.boards.specs.declared.Board as DB
+use Rattle.rows.specs.Flat.{stateNumber, kind, place, second, senderNumbers, sendersNumbers, boardNumbers}
+use Rattle.rows.specs.Flat.{phaseOk, senderOk, sendersOk, flatOk}
+use Rattle.rows.specs.Decoded.{stateFrom, phaseFrom, senderFrom, sendersFrom, boardFrom}
+use Rattle.rows.specs.Fits.{PhaseFits, SenderFits, SendersFit, BoardFits}
+use Rattle.rows.proofs.SenderLaws.{numbers-listed, sender-long}
+
+phase-passes : (p : DP.Phase) → PhaseFits p → phaseOk (kind p) (place p) (second p) ≡ true
+unfolding phaseOk
+phase-passes (P.Look k) h = rw (le-leb k 255 h)
+phase-passes (P.Claim k) h = rw (le-leb k 255 h)
+phase-passes (P.Revert k claims) h = rw (le-leb k 255 (h .0), le-leb claims 255 (h .1)) (either-way (eqb claims 0))
+  where
+    either-way : (t : Bool) → (t || true) ≡ true
+    either-way true = refl
+    either-way false = refl
+phase-passes (P.Consume k match) h = rw (le-leb k 255 h)
+phase-passes (P.Tell k) h = rw (le-leb k 255 h)
+phase-passes P.Wake h = refl
+phase-passes (P.Free k) h = rw (le-leb k 255 h)
+phase-passes P.Signal h = refl
+phase-passes P.PassEnd h = refl
+phase-passes (P.Backoff k) h = rw (le-leb k 255 h)
+
+state-passes : (s : DS.State) → leb (stateNumber s) 2 ≡ true
+state-passes S.Idle = refl
+state-passes S.Working = refl
+state-passes S.Blocked = refl
+
+flag-passes : (b : Bool) → leb (flag b) 1 ≡ true
+flag-passes true = refl
+flag-passes false = refl
+
+sender-passes : (d : DD.Sender) → SenderFits d → senderOk (senderNumbers d) ≡ true
+unfolding senderOk
+sender-passes d f =
+    rw (numbers-listed d)
+    (and (state-passes (d .state)) (and (flag-passes (d .signalled)) (and (le-leb (d .job .chord) 255 (f .chord))
+    (and (phase-passes (d .job .phase) (f .phase)) (and (flag-passes (d .job .retry))
+    (le-leb (d .job .retries) 255 (f .retries)))))))
+
+senders-long : (ds : List DD.Sender) → SendersFit ds → length (sendersNumbers ds) ≡ 21 * length ds
+unfolding sendersNumbers
+senders-long [] f = refl
+senders-long (d ∷ ds) f =
+    let a = length-append (senderNumbers d) (sendersNumbers ds) in
+    let b = sender-long d (f .0) in
+    let e = senders-long ds (f .1) in
+    omega (arith, a, b, e)
+
+senders-pass : (ds : List DD.Sender) → SendersFit ds → sendersOk (length ds) (sendersNumbers ds) ≡ true
+unfolding sendersNumbers sendersOk
+senders-pass [] f = refl
+senders-pass (d ∷ ds) f =
+    let l = sender-long d (f .0) in
+    rw (take-at (senderNumbers d) (sendersNumbers ds) 21 l, drop-at (senderNumbers d) (sendersNumbers ds) 21 l)
+    (and (sender-passes d (f .0)) (senders-pass ds (f .1)))
+
+-- the numbers of every board that the types can hold pass
+pub encoded-ok : (b : DB.Board) → BoardFits b → flatOk (boardNumbers b) ≡ true
+unfolding flatOk boardNumbers
+encoded-ok b f =
+    let l = senders-long (b .senders) (f .each) in
+    let n : length (b .messages ∷ b .matches ∷ sendersNumbers (b .senders)) ≡ 674 = omega (arith, l, f .all) in
+    and (eq-eqb _ 674 n)
+    (rw (f .all) at (senders-pass (b .senders) (f .each)))
+
+state-back : (s : DS.State) → stateFrom (stateNumber s) ≡ s
+state-back S.Idle = refl
+state-back S.Working = refl
+state-back S.Blocked = refl
+
+flag-back : (b : Bool) → eqb (flag b) 1 ≡ b
+flag-back true = refl
+flag-back false = refl
+
+phase-back : (p : DP.Phase) → phaseFrom (kind p) (place p) (second p) ≡ p
+phase-back (P.Look k) = refl
+phase-back (P.Claim k) = refl
+phase-back (P.Revert k claims) = refl
+phase-back (P.Consume k match) = refl
+phase-back (P.Tell k) = refl
+phase-back P.Wake = refl
+phase-back (P.Free k) = refl
+phase-back P.Signal = refl
+phase-back P.PassEnd = refl
+phase-back (P.Backoff k) = refl
+
+pub sender-back : (d : DD.Sender) → senderFrom (senderNumbers d) ≡ d
+sender-back d =
+    rw (
+      numbers-listed d,
+      state-back (d .state),
+      flag-back (d .signalled),
+      phase-back (d .job .phase),
+      flag-back (d .job .retry),
+    )
+
+senders-back : (ds : List DD.Sender) → SendersFit ds → sendersFrom (length ds) (sendersNumbers ds) ≡ ds
+unfolding sendersNumbers sendersFrom
+senders-back [] f = refl
+senders-back (d ∷ ds) f =
+    let l = sender-long d (f .0) in
+    rw (
+      take-at (senderNumbers d) (sendersNumbers ds) 21 l,
+      drop-at (senderNumbers d) (sendersNumbers ds) 21 l,
+      sender-back d,
+      senders-back ds (f .1),
+    )
+
+pub board-back : (b : DB.Board) → BoardFits b → boardFrom (boardNumbers b) ≡ b
+unfolding boardNumbers boardFrom
+board-back b f = rw (rw (f .all) at (senders-back (b .senders) (f .each)))
+
+-- no two boards have the same numbers
+pub one-board : (b b′ : DB.Board) → BoardFits b → BoardFits b′ → boardNumbers b ≡ boardNumbers b′ → b ≡ b′
+one-board b b′ f f′ e = sym (board-back b f) ∙ ap boardFrom e ∙ board-back b′ f′

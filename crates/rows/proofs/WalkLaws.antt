@@ -1,0 +1,112 @@
+-- Laws of the senders' numbers, read and written one sender after another.
+use mathlib.Core.Path.{_≡_, refl, sym, _∙_}
+use mathlib.Core.Bool.{true}
+use mathlib.Core.List.{List, [], _∷_, _++_, append-assoc, append-nil}
+use Prim.Native.Nat.{ℕ, zero, suc, _+_, _*_, _-_, _<_, _≤_}
+use borrow.Author.Tests.{eqb-true}
+use lib.Dec.{eqb}
+use lib.ListN.{length, getD, take, drop, set, length-drop}
+use lib.Seq.{length-take-le, drop-drop, getD-take, getD-drop, take-all, take-suc, paste, take-paste}
+use native.Mathlib.Numerals.{add-one}
+use native.Mathlib.Omega.{arith}
+use Rattle.model.proofs.Tests.{both}
+use Rattle.state.specs.declared.Sender as DD
+use Rattle.rows.specs.Fits.{SenderFits, SendersFit}
+use Rattle.rows.specs.Flat.{senderNumbers, sendersNumbers, senderOk, sendersOk, flatOk}
+
+-- a sender's part of the numbers
+pub span : (at : ℕ) → at + 21 - at ≡ 21
+span at = omega arith
+
+pub part-len : (s : List ℕ) (i : ℕ) → length s ≡ 674 → i < 32 → length (take 21 (drop (2 + 21 * i) s)) ≡ 21
+part-len s i l h =
+    length-take-le 21 (drop (2 + 21 * i) s) (omega (arith, length-drop (2 + 21 * i) s))
+
+pub part-at : (s : List ℕ) (at i : ℕ) → i < 21 → getD (take 21 (drop at s)) i 0 ≡ getD s (at + i) 0
+part-at s at i h = getD-take 21 (drop at s) i 0 h ∙ getD-drop at s i 0
+
+pub part-first : (s : List ℕ) (at : ℕ) → getD (take 21 (drop at s)) 0 0 ≡ getD s at 0
+part-first s at = let z : at + 0 ≡ at = omega arith in rw z at (part-at s at 0 (omega arith))
+
+-- each sender of those that pass
+each-ok : (n i : ℕ) (s : List ℕ) → sendersOk n s ≡ true → i < n → senderOk (take 21 (drop (21 * i) s)) ≡ true
+unfolding sendersOk
+each-ok zero i s e h = absurd (omega arith)
+each-ok (suc n) zero s e h = both {t = senderOk (take 21 s)} e .0
+each-ok (suc n) (suc i) s e h =
+    let z : 21 * suc i ≡ 21 + 21 * i = omega arith in
+    rw (z, ← drop-drop (21 * i) 21 s)
+    (each-ok n i (drop 21 s) (both {t = senderOk (take 21 s)} e .1) (omega arith))
+
+pub part-ok : (i : ℕ) (s : List ℕ) → sendersOk 32 (drop 2 s) ≡ true → i < 32
+    → senderOk (take 21 (drop (2 + 21 * i) s)) ≡ true
+part-ok i s e h = rw (← drop-drop (21 * i) 2 s) (each-ok 32 i (drop 2 s) e h)
+
+-- the numbers of one sender more
+numbers-more : (ds : List DD.Sender) (d : DD.Sender)
+    → sendersNumbers (ds ++ (d ∷ [])) ≡ sendersNumbers ds ++ senderNumbers d
+unfolding sendersNumbers
+numbers-more [] d = append-nil (senderNumbers d)
+numbers-more (x ∷ xs) d =
+    rw (numbers-more xs d) (sym (append-assoc (senderNumbers x) (sendersNumbers xs) (senderNumbers d)))
+
+-- one sender more that fits
+fit-more : (ds : List DD.Sender) (d : DD.Sender) → SendersFit ds → SenderFits d → SendersFit (ds ++ (d ∷ []))
+fit-more [] d f g = (g, tt)
+fit-more (x ∷ xs) d f g = (f .0, fit-more xs d (f .1) g)
+
+module _ (ds : List DD.Sender) (i : ℕ) (h : i < length ds) (f : SendersFit (take i ds)) where
+  pub fit-written : (z : DD.Sender) → SenderFits (getD ds i z) → SendersFit (take (i + 1) ds)
+  fit-written z g = rw (add-one i, take-suc ds i z h) (fit-more (take i ds) (getD ds i z) f g)
+
+pub fit-end : (ds : List DD.Sender) (i : ℕ) → length ds ≡ 32 → 32 ≤ i → SendersFit (take i ds) → SendersFit ds
+fit-end ds i l h f = rw (take-all i ds (omega arith)) at f
+
+-- no sender is written yet
+pub none-written : (front : List ℕ) → front ≡ front ++ sendersNumbers []
+unfolding sendersNumbers
+none-written front = sym (append-nil front)
+
+-- one sender more is written
+pub write-next : (ds : List DD.Sender) (z : DD.Sender) (s s′ front : List ℕ) (i : ℕ) → i < length ds
+    → 2 + 21 * i + 21 ≤ length s → length (senderNumbers (getD ds i z)) ≡ 21
+    → s′ ≡ paste s (2 + 21 * i) (senderNumbers (getD ds i z)) 21
+    → take (2 + 21 * i) s ≡ front ++ sendersNumbers (take i ds)
+    → take (2 + 21 * (i + 1)) s′ ≡ front ++ sendersNumbers (take (i + 1) ds)
+write-next ds z s s′ front i h r l p e =
+    let d = getD ds i z in
+    let n : 2 + 21 * (i + 1) ≡ 2 + 21 * i + 21 = omega arith in
+    rw (
+      n,
+      p,
+      take-paste s (2 + 21 * i) (senderNumbers d) 21 (omega arith) (omega arith),
+      take-all 21 (senderNumbers d) (omega arith),
+      e,
+      add-one i,
+      take-suc ds i z h,
+      numbers-more (take i ds) d,
+    )
+    (append-assoc front (sendersNumbers (take i ds)) (senderNumbers d))
+
+pub write-end : (ds : List DD.Sender) (s front : List ℕ) (i : ℕ) → length ds ≡ 32 → length s ≡ 674 → 32 ≤ i
+    → take (2 + 21 * i) s ≡ front ++ sendersNumbers (take i ds) → s ≡ front ++ sendersNumbers ds
+write-end ds s front i l m h e =
+    sym (take-all (2 + 21 * i) s (omega arith)) ∙ e ∙ rw (take-all i ds (omega arith))
+
+-- the two counts, written
+pub counts-set : (s xs : List ℕ) (m k : ℕ) → 2 ≤ length s → set (set (take 2 s ++ xs) 0 m) 1 k ≡ m ∷ k ∷ xs
+counts-set [] xs m k h = absurd (omega arith)
+counts-set (x ∷ []) xs m k h = absurd (omega arith)
+counts-set (x ∷ y ∷ s) xs m k h = refl
+
+-- the two counts, read
+pub counts-read : (s : List ℕ) → 2 ≤ length s → getD s 0 0 ∷ getD s 1 0 ∷ drop 2 s ≡ s
+counts-read [] h = absurd (omega arith)
+counts-read (x ∷ []) h = absurd (omega arith)
+counts-read (x ∷ y ∷ s) h = refl
+
+-- numbers that pass are 674, and their senders pass
+pub all-numbers : (s : List ℕ) → flatOk s ≡ true → (length s ≡ 674) × (sendersOk 32 (drop 2 s) ≡ true)
+unfolding flatOk
+all-numbers s e =
+    let p = both {t = eqb (length s) 674} e in (eqb-true (length s) 674 (p .0), p .1)

@@ -1,0 +1,253 @@
+// The board as plain numbers, which a host in another language can hold: read from a lent slice, and written to one.
+ghost use mathlib.Core.Path.{_≡_};
+ghost use mathlib.Core.Bool.{true};
+ghost use mathlib.Core.List.{[], _∷_, _++_};
+ghost use Prim.Native.Nat.{_+_, _≤_};
+ghost use lib.Dec.{eqb};
+ghost use lib.ListN.{length, take, drop};
+ghost use lib.Seq.{paste};
+ghost use Rattle.model.specs.Layout.{flag};
+ghost use Rattle.state.specs.Views.{stepsIn};
+ghost use Rattle.rows.specs.Decoded.{stateFrom};
+ghost use Rattle.rows.specs.Flat.{stateNumber, phaseNumbers, kind, place, second};
+ghost use Rattle.rows.specs.Flat.{senderNumbers, sendersNumbers, boardNumbers};
+ghost use Rattle.rows.specs.Fits.{PhaseFits, SenderFits, SendersFit, BoardFits};
+ghost use Rattle.rows.specs.Flat.{phaseOk, senderOk};
+use boards::Board;
+use state::Job;
+use state::Phase;
+use state::Sender;
+use state::State;
+
+// A sender's state by its number.
+fn state_of(n: u16) -> State
+    requires { ⌜ n ≤ 2 ⌝ }
+    ensures { λ r. ⌜ stateNumber r ≡ n ⌝ }
+{
+    if n == 0 {
+        return State::Idle;
+    }
+    if n == 1 {
+        return State::Working;
+    }
+    State::Blocked
+}
+
+// The number of a sender's state.
+fn state_number(s: State) -> u16
+    ensures { λ r. ⌜ r ≡ stateNumber s ⌝ }
+{
+    match s {
+        State::Idle => 0,
+        State::Working => 1,
+        State::Blocked => 2,
+    }
+}
+
+// Whether a sender may step, by the numbers of its state and signal.
+pub fn steps_at(state: u16, signalled: u16) -> bool
+    ensures { λ r. ⌜ r ≡ stepsIn (stateFrom state) (eqb signalled 1) ⌝ }
+{
+    (state == 1) | ((state >= 2) & (signalled == 1))
+}
+
+// A yes or no by its number.
+fn flag_of(n: u16) -> bool
+    requires { ⌜ n ≤ 1 ⌝ }
+    ensures { λ r. ⌜ flag r ≡ n ⌝ }
+{
+    n == 1
+}
+
+// The number of a yes or no.
+fn flag_number(b: bool) -> u16
+    ensures { λ r. ⌜ r ≡ flag b ⌝ }
+{
+    b as u16
+}
+
+// A number that fits a byte.
+fn byte_of(n: u16) -> u8
+    requires { ⌜ n ≤ 255 ⌝ }
+    ensures { λ r. ⌜ r ≡ n ⌝ }
+{
+    n as u8
+}
+
+// The phase by its three numbers.
+fn phase_of(phase: u16, place: u16, second: u16) -> Phase
+    requires { ⌜ phaseOk phase place second ≡ true ⌝ }
+    ensures { λ r. ⌜ phaseNumbers r ≡ phase ∷ place ∷ second ∷ [] ⌝ }
+{
+    let k = byte_of(place);
+    if phase == 0 {
+        return Phase::Look(k);
+    }
+    if phase == 1 {
+        return Phase::Claim(k);
+    }
+    if phase == 2 {
+        return Phase::Revert(k, byte_of(second));
+    }
+    if phase == 3 {
+        return Phase::Consume(k, second);
+    }
+    if phase == 4 {
+        return Phase::Tell(k);
+    }
+    if phase == 5 {
+        return Phase::Wake;
+    }
+    if phase == 6 {
+        return Phase::Free(k);
+    }
+    if phase == 7 {
+        return Phase::Signal;
+    }
+    if phase == 8 {
+        return Phase::PassEnd;
+    }
+    Phase::Backoff(k)
+}
+
+// Which phase it is.
+fn phase_kind(p: Phase) -> u16
+    ensures { λ r. ⌜ r ≡ kind p ⌝ }
+{
+    match p {
+        Phase::Look(_) => 0,
+        Phase::Claim(_) => 1,
+        Phase::Revert(_, _) => 2,
+        Phase::Consume(_, _) => 3,
+        Phase::Tell(_) => 4,
+        Phase::Wake => 5,
+        Phase::Free(_) => 6,
+        Phase::Signal => 7,
+        Phase::PassEnd => 8,
+        Phase::Backoff(_) => 9,
+    }
+}
+
+// The place of a phase; 0 for one that has none.
+fn phase_place(p: Phase) -> u16
+    ensures { λ r. ⌜ (r ≡ place p) × PhaseFits p ⌝ }
+{
+    match p {
+        Phase::Look(k) => k as u16,
+        Phase::Claim(k) => k as u16,
+        Phase::Revert(k, _) => k as u16,
+        Phase::Consume(k, _) => k as u16,
+        Phase::Tell(k) => k as u16,
+        Phase::Wake => 0,
+        Phase::Free(k) => k as u16,
+        Phase::Signal => 0,
+        Phase::PassEnd => 0,
+        Phase::Backoff(k) => k as u16,
+    }
+}
+
+// The second number of a phase; 0 for one that has none.
+fn phase_second(p: Phase) -> u16
+    ensures { λ r. ⌜ r ≡ second p ⌝ }
+{
+    match p {
+        Phase::Look(_) => 0,
+        Phase::Claim(_) => 0,
+        Phase::Revert(_, claims) => claims as u16,
+        Phase::Consume(_, m) => m,
+        Phase::Tell(_) => 0,
+        Phase::Wake => 0,
+        Phase::Free(_) => 0,
+        Phase::Signal => 0,
+        Phase::PassEnd => 0,
+        Phase::Backoff(_) => 0,
+    }
+}
+
+// The eight messages that a sender has chosen.
+fn chosen_of(a: &[u16]) -> [u16; 8]
+    requires { ⌜ length (now a) ≡ 21 ⌝ }
+    ensures { λ r. ⌜ r ≡ drop 13 (now (a .entry)) ⌝ }
+{
+    let mut chosen = [0; 8];
+    let mut i = 0;
+    while i < 8 {
+        chosen[i] = a[13 + i];
+        i += 1;
+    }
+    chosen
+}
+
+// The sender by its 21 numbers.
+pub fn sender_of(a: &[u16]) -> Sender
+    requires { ⌜ (length (now a) ≡ 21) × (senderOk (now a) ≡ true) ⌝ }
+    ensures { λ r. ⌜ (senderNumbers r ≡ now (a .entry)) × SenderFits r ⌝ }
+{
+    let job = Job {
+        subject: a[6],
+        chord: byte_of(a[7]),
+        phase: phase_of(a[8], a[9], a[10]),
+        chosen: chosen_of(a),
+        retry: flag_of(a[11]),
+        retries: byte_of(a[12]),
+    };
+    Sender {
+        state: state_of(a[0]),
+        signalled: flag_of(a[1]),
+        own: a[2],
+        waker: a[3],
+        reply: a[4],
+        matched: a[5],
+        job: job,
+    }
+}
+
+// A sender's numbers from a place on.
+pub fn put_sender(d: Sender, s: &mut [u16], at: usize)
+    requires { ⌜ at + 21 ≤ length (now s) ⌝ }
+    ensures { λ _. ⌜ (now (s .exit) ≡ paste (now (s .entry)) at (senderNumbers d) 21)
+        × SenderFits d ⌝ }
+{
+    let state = d.state;
+    let job = d.job;
+    let phase = job.phase;
+    let chosen = job.chosen;
+    s[at] = state_number(state);
+    s[at + 1] = flag_number(d.signalled);
+    s[at + 2] = d.own;
+    s[at + 3] = d.waker;
+    s[at + 4] = d.reply;
+    s[at + 5] = d.matched;
+    s[at + 6] = job.subject;
+    s[at + 7] = job.chord as u16;
+    s[at + 8] = phase_kind(phase);
+    s[at + 9] = phase_place(phase);
+    s[at + 10] = phase_second(phase);
+    s[at + 11] = flag_number(job.retry);
+    s[at + 12] = job.retries as u16;
+    applies::put_chosen(s, at + 13, chosen);
+}
+
+// The senders' numbers, one after another.
+fn put_senders(senders: [Sender; 32], s: &mut [u16])
+    requires { ⌜ length (now s) ≡ 674 ⌝ }
+    ensures { λ _. ⌜ (now (s .exit) ≡ take 2 (now (s .entry)) ++ sendersNumbers senders) × SendersFit senders ⌝ }
+{
+    let mut i: usize = 0;
+    while i < 32 {
+        let d = senders[i];
+        put_sender(d, s, 2 + 21 * i);
+        i += 1;
+    }
+}
+
+// The board's numbers.
+pub fn put_board(b: Board, s: &mut [u16])
+    requires { ⌜ length (now s) ≡ 674 ⌝ }
+    ensures { λ _. ⌜ (now (s .exit) ≡ boardNumbers b) × BoardFits b ⌝ }
+{
+    let senders = b.senders;
+    put_senders(senders, s);
+    s[0] = b.messages;
+    s[1] = b.matches;
+}
