@@ -1,0 +1,2 @@
+-- A move, and what it leaves.
+pub mod Moves

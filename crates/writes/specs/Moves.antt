@@ -1,0 +1,51 @@
+-- A move: what a call that is not refused does to the board.
+use mathlib.Core.Path.{_≡_}
+use mathlib.Core.Bool.{Bool, true, false}
+use mathlib.Core.List.{List}
+use Prim.Native.Nat.{ℕ, _+_, _<_, _≤_}
+use lib.ListN.{set}
+use Rattle.columns.specs.Columns.{columnsOf}
+use Rattle.columns.specs.MatchColumns.{matchesOf}
+use Rattle.boards.specs.declared.Board as DB
+use Rattle.boards.specs.Calls.{Held, held}
+use Rattle.applies.specs.Writes.{Sure, sendersBy, matchesBy}
+use Rattle.applies.specs.Writes.{statusesBy, matchedBy, wakersBy, chordsBy, matchMessagesBy}
+use Rattle.writes.specs.declared.Move as DM
+
+-- a column with a at place n, where a message is added
+abbrev pub putIf : {A : Type 0} → Bool → List A → ℕ → A → List A
+putIf true xs n a = set xs n a
+putIf false xs n a = xs
+
+abbrev pub messagesBy : Bool → ℕ → ℕ
+messagesBy true n = n + 1
+messagesBy false n = n
+
+-- the board after a move of the sender at place i
+abbrev pub movedBoard : DB.Board → ℕ → DM.Move → DB.Board
+movedBoard b i m = record {
+  messages = messagesBy (m .adds) (b .messages);
+  matches = matchesBy (m .change) (b .matches);
+  senders = sendersBy (m .change) (set (b .senders) i (m .sender));
+}
+
+-- what is held after it
+abbrev pub movedHeld : Held → ℕ → DM.Move → Held
+movedHeld h i m =
+    let n = h .board .messages in
+    let k = h .board .matches in
+    held (movedBoard (h .board) i m)
+    (columnsOf (putIf (m .adds) (h .columns .channels) n (m .sent .channel))
+    (putIf (m .adds) (h .columns .properties) n (m .sent .property))
+    (putIf (m .adds) (h .columns .cents) n (m .sent .cents))
+    (statusesBy (m .change) (putIf (m .adds) (h .columns .statuses) n 0))
+    (matchedBy (m .change) (putIf (m .adds) (h .columns .matched) n 0))
+    (wakersBy (m .change) (putIf (m .adds) (h .columns .wakers) n 0)))
+    (matchesOf (chordsBy (m .change) k (m .sender .job .chord) (h .matches .chords))
+    (matchMessagesBy (m .change) k (m .sender .job .chosen) (h .matches .messages)))
+
+-- the numbers of a move are in range, on a board of n messages and k matches
+pub record Fits (n k : ℕ) (m : DM.Move) : Type 0 where
+  pub room : m .adds ≡ true → n < 1024
+  pub low : m .adds ≡ true → m .sent .channel ≤ 255
+  pub sure : Sure n k (m .change)
