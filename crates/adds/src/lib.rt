@@ -6,8 +6,9 @@ ghost use lib.ListN.{length, getD, set};
 ghost use Rattle.model.specs.Boards as MB;
 ghost use Rattle.model.specs.Layout.{tableRefusal, tableOf};
 ghost use Rattle.model.specs.Adds.{centsOk, newSender};
-ghost use Rattle.state.specs.Views.{senderIn, idleIs};
+ghost use Rattle.state.specs.Views.{senderIn};
 ghost use Rattle.adds.specs.Sends.{refusalBy};
+use boards::Sent;
 use state::Sender;
 use state::State;
 
@@ -18,21 +19,21 @@ fn amount_ok(x: i64) -> bool
     (-999999999999 <= x) & (x <= 999999999999)
 }
 
-// The first refusal of an add by sender i in a state, to a board of n messages, in the order checked; 0 for none.
-pub fn add_refusal(table: &[u8], i: u16, s: State, channel: u16, cents: i64, n: u16) -> u8
+// The first refusal of an add of x by sender i, idle or not, to a board of n messages, in the order checked; 0 for none.
+pub fn add_refusal(table: &[u8], i: u16, idle: bool, x: Sent, n: u16) -> u8
     requires { ⌜ tableRefusal (now table) ≡ 0 ⌝ }
-    ensures { λ r. ⌜ r ≡ refusalBy (tableOf (now (table .entry))) i (idleIs s) channel cents n ⌝ }
+    ensures { λ r. ⌜ r ≡ refusalBy (tableOf (now (table .entry))) i idle (x .channel) (x .cents) n ⌝ }
 {
     if i >= 32 {
         return 8;
     }
-    if !state::is_idle(s) {
+    if !idle {
         return 9;
     }
-    if channel >= (table::channels_len(table) as u16) {
+    if x.channel >= (table::channels_len(table) as u16) {
         return 10;
     }
-    if !amount_ok(cents) {
+    if !amount_ok(x.cents) {
         return 11;
     }
     if n >= 1024 {

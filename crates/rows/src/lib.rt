@@ -2,17 +2,18 @@
 ghost use mathlib.Core.Path.{_≡_};
 ghost use mathlib.Core.Bool.{true};
 ghost use mathlib.Core.List.{[], _∷_, _++_};
-ghost use Prim.Native.Nat.{_+_, _≤_};
+ghost use Prim.Native.Nat.{_+_, _<_, _≤_};
 ghost use lib.Dec.{eqb};
-ghost use lib.ListN.{length, take, drop};
+ghost use lib.ListN.{length, getD, take, drop};
 ghost use lib.Seq.{paste};
 ghost use Rattle.model.specs.Layout.{flag};
-ghost use Rattle.state.specs.Views.{stepsIn};
-ghost use Rattle.rows.specs.Decoded.{stateFrom};
+ghost use Rattle.state.specs.Views.{stepsIn, canStep, idleIs};
+ghost use Rattle.boards.specs.Boards.{zeroSender};
+ghost use Rattle.rows.specs.Decoded.{stateFrom, boardFrom};
 ghost use Rattle.rows.specs.Flat.{stateNumber, phaseNumbers, kind, place, second};
 ghost use Rattle.rows.specs.Flat.{senderNumbers, sendersNumbers, boardNumbers};
 ghost use Rattle.rows.specs.Fits.{PhaseFits, SenderFits, SendersFit, BoardFits};
-ghost use Rattle.rows.specs.Flat.{phaseOk, senderOk};
+ghost use Rattle.rows.specs.Flat.{phaseOk, senderOk, flatOk};
 use boards::Board;
 use state::Job;
 use state::Phase;
@@ -200,6 +201,33 @@ pub fn sender_of(a: &[u16]) -> Sender
         matched: a[5],
         job: job,
     }
+}
+
+// The sender at a place.
+pub fn sender_at(s: &[u16], i: u8) -> Sender
+    requires { ⌜ (flatOk (now s) ≡ true) × (i < 32) ⌝ }
+    ensures { λ r. ⌜ r ≡ getD (boardFrom (now (s .entry)) .senders) i zeroSender ⌝ }
+{
+    let at = 2 + 21 * (i as usize);
+    sender_of(&s[at..at + 21])
+}
+
+// Whether the sender at a place may step.
+pub fn may_step(s: &[u16], i: u8) -> bool
+    requires { ⌜ (flatOk (now s) ≡ true) × (i < 32) ⌝ }
+    ensures { λ r. ⌜ r ≡ canStep (getD (boardFrom (now (s .entry)) .senders) i zeroSender) ⌝ }
+{
+    let at = 2 + 21 * (i as usize);
+    steps_at(s[at], s[at + 1])
+}
+
+// Whether the sender at a place is idle.
+pub fn is_idle(s: &[u16], i: u8) -> bool
+    requires { ⌜ (flatOk (now s) ≡ true) × (i < 32) ⌝ }
+    ensures { λ r. ⌜ r ≡ idleIs (getD (boardFrom (now (s .entry)) .senders) i zeroSender .state) ⌝ }
+{
+    let at = 2 + 21 * (i as usize);
+    s[at] == 0
 }
 
 // A sender's numbers from a place on.

@@ -22,6 +22,7 @@ ghost use Rattle.valued.specs.Moves.{Fits, reads, Stands, PlaysMoved, tu
 use boards::Answer;
 use boards::Board;
 use boards::Call;
+use boards::Sent;
 use state::Change;
 use state::Said;
 use state::Sender;
@@ -89,7 +90,12 @@ pub fn add_move(
     ensures { λ r. ⌜ r .change ≡ G.None ⌝ }
 {
     let s = d.state;
-    let number = adds::add_refusal(table, i, s, channel, amount, n);
+    let x = Sent {
+        channel: channel,
+        property: property,
+        cents: amount,
+    };
+    let number = adds::add_refusal(table, i, state::is_idle(s), x, n);
     if number != 0 {
         return refuses(d, number);
     }

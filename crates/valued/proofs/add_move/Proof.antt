@@ -20,7 +20,7 @@ use Rattle.valued.proofs.add_move.Tie as tie
 
 -- where the function starts, and what is sent
 abbrev begun : tie.After-add-refusal → tie.Start
-begun q = q .before .before
+begun q = q .before .before .before
 
 abbrev new : tie.After-add-refusal → Sent
 new q = let a = begun q .args in sent (a .channel) (a .property) (a .amount)
@@ -33,7 +33,7 @@ refused-by : (q : tie.After-add-refusal)
     → let a = begun q .args in
     q .add-refusal .result
     ≡ refusalBy (tableOf (a .table .now)) (a .i) (idleIs (a .d .state)) (a .channel) (a .amount) (a .n)
-refused-by q = rw (cents-back q) at (q .add-refusal .ensures)
+refused-by q = rw (q .before .is-idle .ensures, cents-back q) at (q .add-refusal .ensures)
 
 -- what a new message has
 passed : (y : tie.Else1)
@@ -43,6 +43,9 @@ passed y =
     let a = begun (y .before) .args in
     unrefused (tableOf (a .table .now)) _ (idleIs (a .d .state)) _ (a .amount) _
     (sym (refused-by (y .before)) ∙ y .if1 .left)
+
+is-idle-requires : tie.Need-is-idle-requires
+is-idle-requires c κs = search needs
 
 add-refusal-requires : tie.Need-add-refusal-requires
 add-refusal-requires c κs = search needs
@@ -84,4 +87,4 @@ returns-2 c =
 pub add-move-spec : {M : Type 1} → statement M
 add-move-spec =
     tie.close
-    (tie.spec add-refusal-requires refuses-requires returns cast-low new-sender-requires returns-2)
+    (tie.spec is-idle-requires add-refusal-requires refuses-requires returns cast-low new-sender-requires returns-2)

@@ -1,0 +1,95 @@
+-- An add's move: refused by the model, or one message more.
+use mathlib.Core.Path.{_≡_, refl, sym}
+use mathlib.Core.Logic.{_≢_}
+use mathlib.Core.List.{List}
+use Prim.Native.Nat.{ℕ, zero, suc, _+_}
+use native.Mathlib.Omega.{arith}
+use native.Mathlib.Numerals.{add-one}
+use lib.ListN.{length, drop, set, length-set}
+use lib.Seq.{drop-set-lt}
+use Rattle.model.specs.Boards.{Sent}
+use Rattle.model.specs.Effects.{Refused, Item}
+use Rattle.model.specs.Layout.{tableOf}
+use Rattle.model.specs.Adds.{addRefusal, added}
+use Rattle.model.specs.Pools.{adds}
+use Rattle.columns.specs.Columns.{Columns}
+use Rattle.columns.proofs.Messages.{length-messages}
+use Rattle.boards.specs.declared.Board as DB
+use Rattle.boards.specs.Boards.{boardIn}
+use Rattle.boards.specs.Calls.{Held, held}
+use Rattle.refusals.specs.Judged.{Lengths}
+use Rattle.refusals.specs.Calls.{boardOf, refusalOf, Beyond, Plays}
+use Rattle.refusals.proofs.Refusals.{lent-whole, statuses-known}
+use Rattle.refusals.proofs.CallLaws.{status-added, plays-nothing, plays-it}
+
+-- a column with record n written: as long as before, and the same past n
+module _ {A : Type 0} (xs ys : List A) (n : ℕ) (a : A) (e : ys ≡ set xs n a) where
+  long : length xs ≡ 1024 → length ys ≡ 1024
+  long l = rw (e, length-set xs n a) l
+
+  past : (k : ℕ) → k ≡ n + 1 → drop k ys ≡ drop k xs
+  past k q = rw e (drop-set-lt k xs n a (omega (arith, q)))
+
+-- what an add writes: record n of each column
+pub record Wrote (c c′ : Columns) (n : ℕ) (x : Sent) : Type 0 where
+  pub channels : c′ .channels ≡ set (c .channels) n (x .channel)
+  pub properties : c′ .properties ≡ set (c .properties) n (x .property)
+  pub cents : c′ .cents ≡ set (c .cents) n (x .cents)
+  pub statuses : c′ .statuses ≡ set (c .statuses) n 0
+  pub matched : c′ .matched ≡ set (c .matched) n 0
+  pub wakers : c′ .wakers ≡ set (c .wakers) n 0
+
+module _ (s : List ℕ) (h : Held) (i : ℕ) (x : Sent) (z : refusalOf s h ≡ 0) where
+  pub add-refused : (f : ℕ) → f ≡ addRefusal (tableOf s) (boardOf s h) i x → f ≢ 0
+      → Plays s h (adds i x) (Refused f) h
+  add-refused zero e n = absurd (n refl)
+  add-refused (suc f) e n =
+      let q = sym e in
+      plays-nothing s h (adds i x) z (Refused (suc f)) (rw q) (rw q)
+
+  module _ (b′ : DB.Board) (c′ : Columns) (w : Wrote (h .columns) c′ (h .board .messages) x)
+      (q : b′ .messages ≡ h .board .messages + 1) (k : b′ .matches ≡ h .board .matches) where
+    abbrev n : ℕ
+    n = h .board .messages
+
+    abbrev o : Columns
+    o = h .columns
+
+    abbrev h′ : Held
+    h′ = held b′ c′ (h .matches)
+
+    lengths : Lengths c′ (h .matches)
+    lengths =
+        let l = lent-whole s _ _ _ z in
+        record {
+          channels-len = long (o .channels) _ n (x .channel) (w .channels) (l .channels-len);
+          properties-len = long (o .properties) _ n (x .property) (w .properties) (l .properties-len);
+          cents-len = long (o .cents) _ n (x .cents) (w .cents) (l .cents-len);
+          statuses-len = long (o .statuses) _ n 0 (w .statuses) (l .statuses-len);
+          matched-len = long (o .matched) _ n 0 (w .matched) (l .matched-len);
+          wakers-len = long (o .wakers) _ n 0 (w .wakers) (l .wakers-len);
+          chords-len = l .chords-len;
+          messages-len = l .messages-len;
+        }
+
+    beyond : Beyond h h′
+    beyond = record {
+      messages-grow = omega (arith, q);
+      matches-grow = omega (arith, k);
+      channels = past (o .channels) _ n (x .channel) (w .channels) (b′ .messages) q;
+      properties = past (o .properties) _ n (x .property) (w .properties) (b′ .messages) q;
+      cents = past (o .cents) _ n (x .cents) (w .cents) (b′ .messages) q;
+      statuses = past (o .statuses) _ n 0 (w .statuses) (b′ .messages) q;
+      matched = past (o .matched) _ n 0 (w .matched) (b′ .messages) q;
+      wakers = past (o .wakers) _ n 0 (w .wakers) (b′ .messages) q;
+      chords = refl;
+      messages = refl;
+    }
+
+    pub add-plays : addRefusal (tableOf s) (boardOf s h) i x ≡ 0
+        → boardIn (tableOf s) b′ c′ (h .matches) ≡ added (tableOf s) (boardOf s h) i x
+        → Plays s h (adds i x) (Item n) h′
+    add-plays e d =
+        let u = status-added n (h .columns .statuses) 0 (statuses-known s _ _ _ z) (omega arith) in
+        plays-it s h (adds i x) z (Item n) h′ (rw (e, length-messages (h .columns) 0 n)) refl (rw e d) lengths
+        (rw (q, add-one n, w .statuses) u) beyond

@@ -1,0 +1,86 @@
+-- `moves::call_refusal` meets its contract: each kind of call by its own test.
+use mathlib.Core.Path.{_≡_, refl, sym, subst, ap, _∙_}
+use native.Mathlib.Omega.{arith}
+use borrow.Author.Needs.{needs}
+use lib.ListN.{getD}
+use Rattle.model.specs.Layout.{tableOf}
+use Rattle.state.specs.Views.{idleIs}
+use Rattle.boards.specs.declared.Call as DC
+use Rattle.boards.specs.Boards.{zeroSender}
+use Rattle.boards.specs.Calls.{sentIn, callIn}
+use Rattle.rows.specs.Decoded.{boardFrom}
+use Rattle.rows.proofs.WalkLaws.{all-numbers}
+use Rattle.moves.specs.Refused.{placeOf, callRefusal}
+use Rattle.moves.proofs.RefusedLaws.{add-by}
+use Rattle.moves.proofs.call_refusal.Statement.{statement}
+use Rattle.moves.proofs.call_refusal.Tie as tie
+
+-- where the function starts, for an add
+abbrev start : tie.After-is-idle → tie.Start
+start c = c .before .before .before .before .before .before .before
+
+idle-is : (c : tie.After-is-idle)
+    → let b = boardFrom (start c .args .board .now) in
+    c .is-idle .result ≡ idleIs (getD (b .senders) (placeOf (c .before .before .before .call .given .0 .0)) zeroSender .state)
+idle-is c =
+    let b = boardFrom (start c .args .board .now) in
+    c .is-idle .ensures ∙ ap (λ j. idleIs (getD (b .senders) j zeroSender .state)) (c .before .place-of .ensures .0)
+
+enum-known-call : tie.Need-enum-known-call
+enum-known-call c = search needs
+
+place-of-requires : tie.Need-place-of-requires
+place-of-requires c κs = search needs
+
+is-idle-requires : tie.Need-is-idle-requires
+is-idle-requires c κs = search needs
+
+shared-slice-read-add-refusal : tie.Need-shared-slice-read-add-refusal
+shared-slice-read-add-refusal c =
+    let s = start (c .before) in
+    omega (arith, all-numbers (s .args .board .now) (s .pre .1) .0)
+
+add-refusal-requires : tie.Need-add-refusal-requires
+add-refusal-requires c κs = search needs
+
+enum-known-call-2 : tie.Need-enum-known-call-2
+enum-known-call-2 c = search needs
+
+step-refusal-requires : tie.Need-step-refusal-requires
+step-refusal-requires c κs = search needs
+
+returns : tie.Need-returns
+unfolding boardFrom
+returns c =
+    let d = c .before .before in
+    let k = d .before .before .before in
+    let s = start d in
+    let a = s .args in
+    let t = tableOf (a .table .now) in
+    let b = boardFrom (a .board .now) in
+    let g = k .call .given in
+    subst (λ (x : DC.Call). c .add-refusal .result ≡ callRefusal t b (callIn x)) (sym (g .1))
+    (c .add-refusal .ensures ∙ add-by t b (g .0 .0) (sentIn (g .0 .1 .0)) _ _ (idle-is d) refl)
+
+returns-2 : tie.Need-returns-2
+returns-2 c =
+    let k = c .before .before in
+    let a = k .before .before .before .before .args in
+    let t = tableOf (a .table .now) in
+    let b = boardFrom (a .board .now) in
+    subst (λ (x : DC.Call). c .step-refusal .result ≡ callRefusal t b (callIn x)) (sym (k .call2 .given .1))
+    (c .step-refusal .ensures t)
+
+pub call-refusal-spec : {M : Type 1} → statement M
+call-refusal-spec =
+    tie.close
+    (tie.spec
+    enum-known-call
+    place-of-requires
+    is-idle-requires
+    shared-slice-read-add-refusal
+    add-refusal-requires
+    enum-known-call-2
+    step-refusal-requires
+    returns
+    returns-2)

@@ -1,0 +1,2 @@
+-- What refuses a call by itself.
+pub mod Refused
