@@ -53,7 +53,7 @@ module _ (n : ℕ) (s : List ℕ) (x : ℕ) (e : statusesOk n s ≡ true) (l : x
 
 -- Boards that are accepted
 
-lengths-ok : (c : Columns) (m : MatchColumns) → Lengths c m → lentOk c m ≡ true
+pub lengths-ok : (c : Columns) (m : MatchColumns) → Lengths c m → lentOk c m ≡ true
 unfolding lentOk
 lengths-ok c m l =
     rw (

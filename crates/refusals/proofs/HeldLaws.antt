@@ -4,15 +4,16 @@ use mathlib.Core.Bool.{Bool, true, false, _&&_}
 use mathlib.Core.List.{List}
 use Prim.Native.Nat.{ℕ, zero, suc}
 use native.Mathlib.Omega.{arith}
-use Rattle.model.specs.Basics.{firstOf, pick}
+use Rattle.model.specs.Basics.{firstOf, unless, pick}
 use Rattle.model.specs.Layout.{tableRefusal}
 use Rattle.boards.specs.Layout.{Lists, listsOk, Sized, columnsIn, matchesIn}
 use Rattle.boards.proofs.PartLaws.{length-part}
 use Rattle.boards.proofs.LayoutLaws.{sized-by, sized-ok}
 use Rattle.rows.specs.Flat.{flatOk}
 use Rattle.refusals.specs.Judged.{boardRefusal, lentOk, Lengths}
-use Rattle.refusals.specs.Held.{heldOf, heldIn, nothing, Accepted}
+use Rattle.refusals.specs.Held.{heldOf, heldIn, nothing, soundIn, Accepted}
 use Rattle.refusals.specs.Calls.{refusalOf}
+use Rattle.refusals.proofs.CallLaws.{lengths-ok}
 
 pub held-is : (l : Lists) → flatOk (l .board) ≡ true → Sized l → heldIn l ≡ heldOf l
 unfolding heldIn
@@ -30,6 +31,24 @@ columns-sized l n = record {
   chords-len = length-part 2048 1024 (l .bytes) (omega (arith, n .bytes-len));
   messages-len = length-part 2048 8192 (l .links) (omega (arith, n .links-len));
 }
+
+-- lists that hold nothing are refused
+refusal-none : (s : List ℕ) → refusalOf s nothing ≡ firstOf (tableRefusal s) 30
+unfolding boardRefusal lentOk
+refusal-none s = refl
+
+-- the refusal in the order of the code
+pub refusal-is : (s : List ℕ) (l : Lists)
+    → refusalOf s (heldIn l) ≡ firstOf (tableRefusal s) (unless (listsOk l) 30 (unless (soundIn s l) 30 0))
+unfolding heldIn boardRefusal
+refusal-is s l = go (listsOk l) (flatOk (l .board)) refl refl
+  where
+    go : (x y : Bool) → listsOk l ≡ x → flatOk (l .board) ≡ y
+        → refusalOf s (pick (x && y) (heldOf l) nothing)
+        ≡ firstOf (tableRefusal s) (unless x 30 (unless (soundIn s l) 30 0))
+    go false y e f = refusal-none s
+    go true false e f = rw f (refusal-none s)
+    go true true e f = rw (f, lengths-ok (columnsIn l) (matchesIn l) (columns-sized l (sized-by l e)))
 
 some-refusal : (x : ℕ) {A : Type 0} → firstOf x 30 ≡ 0 → A
 some-refusal zero e = absurd (omega arith)

@@ -1,15 +1,18 @@
 -- What the lent lists hold: the board that the numbers are, with its columns. Lists of another length, and numbers that
 -- are no board's, hold nothing: columns that are empty, which every board call refuses 30.
 use mathlib.Core.Path.{_≡_}
-use mathlib.Core.Bool.{true, _&&_}
+use mathlib.Core.Bool.{Bool, true, _&&_}
 use mathlib.Core.List.{List, []}
 use Prim.Native.Nat.{ℕ}
 use Rattle.model.specs.Basics.{pick}
+use Rattle.model.specs.Layout.{tableOf}
+use Rattle.model.specs.Sound.{sound}
+use Rattle.boards.specs.Boards.{boardIn}
 use Rattle.boards.specs.Calls.{Held, held, heldBy}
 use Rattle.boards.specs.Layout.{Lists, columnsIn, matchesIn, listsOk, Sized}
 use Rattle.rows.specs.Flat.{flatOk}
 use Rattle.rows.specs.Decoded.{boardFrom}
-use Rattle.refusals.specs.Judged.{boardRefusal}
+use Rattle.refusals.specs.Judged.{statusesOk, boardRefusal}
 
 abbrev pub nothing : Held
 nothing = heldBy (record { messages = 0; matches = 0; senders = [] }) [] [] [] [] [] [] [] []
@@ -20,6 +23,12 @@ heldOf l = held (boardFrom (l .board)) (columnsIn l) (matchesIn l)
 
 unfoldable pub heldIn : Lists → Held
 heldIn l = pick (listsOk l && flatOk (l .board)) (heldOf l) nothing
+
+-- the numbers of lists of their lengths are those of a sound board
+abbrev pub soundIn : List ℕ → Lists → Bool
+soundIn s l =
+    flatOk (l .board) && (statusesOk (boardFrom (l .board) .messages) (columnsIn l .statuses)
+    && sound (tableOf s) (boardIn (tableOf s) (boardFrom (l .board)) (columnsIn l) (matchesIn l)))
 
 -- lists that the first tests accept
 pub record Accepted (s : List ℕ) (l : Lists) : Type 0 where

@@ -2,16 +2,19 @@
 ghost use mathlib.Core.Path.{_≡_};
 ghost use mathlib.Core.Bool.{true, _&&_};
 ghost use mathlib.Core.List.{List, map};
-ghost use Prim.Native.Nat.{_+_, _≤_};
+ghost use Prim.Native.Nat.{ℕ, _+_, _≤_};
 ghost use lib.ListN.{length, drop};
 ghost use Rattle.model.specs.Boards as MB;
 ghost use Rattle.model.specs.Layout.{tableRefusal, tableOf};
 ghost use Rattle.model.specs.Sound.{stateOk, noneShared};
 ghost use Rattle.state.specs.Views.{senderIn};
+ghost use Rattle.boards.specs.Layout.{boardLen, bytesLen, linksLen, centsLen, lists, listsOk};
 ghost use Rattle.senders.specs.Seen.{Seen, Known, markBy};
 ghost use Rattle.rows.specs.Flat.{phaseOk, senderOk};
 ghost use Rattle.rows.specs.Decoded.{senderFrom};
 ghost use Rattle.refusals.specs.Rows.{row, within, limits, senderAt, rowOk, rowsOk, sendersIn};
+ghost use Rattle.refusals.specs.Held.{heldIn, soundIn};
+ghost use Rattle.refusals.specs.Calls.{refusalOf};
 
 // The largest place of each phase.
 const PLACES: [u16; 10] = [255, 255, 255, 255, 255, 0, 255, 0, 0, 255];
@@ -169,4 +172,68 @@ pub fn senders_ok(table: &[u8], s: &[u16], n: u16, k: u16, channels: &[u8]) -> b
         return senders::none_twice(&marks);
     }
     false
+}
+
+// Whether the lists that hold messages and matches are of their lengths.
+fn lists_ok(bytes: &[u8], links: &[u16], keys: &[u32], cents: &[i64]) -> bool
+    ensures { λ r. ⌜ ((board : List ℕ) → r ≡ listsOk (lists board (now (bytes .entry)) (now (links .entry))
+        (now (keys .entry)) (now (cents .entry)))) ⌝ }
+{
+    (bytes.len() == boards::BYTES_LEN)
+        & ((links.len() == boards::LINKS_LEN)
+            & ((keys.len() == boards::KEYS_LEN) & (cents.len() == boards::CENTS_LEN)))
+}
+
+// Whether the numbers are those of a sound board: the counts, the messages and matches by their columns, and then the
+// senders.
+fn is_sound(table: &[u8], board: &[u16], bytes: &[u8], links: &[u16], cents: &[i64]) -> bool
+    requires { ⌜ (tableRefusal (now table) ≡ 0) × (length (now board) ≡ boardLen) ⌝ }
+    requires { ⌜ (length (now bytes) ≡ bytesLen) × (length (now links) ≡ linksLen) × (length (now cents) ≡ centsLen) ⌝ }
+    ensures { λ r. ⌜ ((keys : List ℕ) → r ≡ soundIn (now (table .entry))
+        (lists (now (board .entry)) (now (bytes .entry)) (now (links .entry)) keys (now (cents .entry)))) ⌝ }
+{
+    let n = board[0];
+    let k = board[1];
+    if !((n <= 1024) & (k <= 1024)) {
+        return false;
+    }
+    let channels = boards::channels(bytes);
+    let statuses = boards::statuses(bytes);
+    let matched = boards::matched(links);
+    let wakers = boards::wakers(links);
+    if !soundness::messages_ok(table, channels, cents, statuses, matched, wakers, n, k) {
+        return false;
+    }
+    if !soundness::matches_ok(table, boards::chords(bytes), boards::members(links), k, n) {
+        return false;
+    }
+    senders_ok(table, board, n, k, channels)
+}
+
+// The first refusal that every board call has: the table's, then 30; 0 for none.
+pub fn board_refusal(
+    table: &[u8],
+    board: &[u16],
+    bytes: &[u8],
+    links: &[u16],
+    keys: &[u32],
+    cents: &[i64],
+) -> u8
+    ensures { λ r. ⌜ r ≡ refusalOf (now (table .entry)) (heldIn (lists (now (board .entry)) (now (bytes .entry))
+        (now (links .entry)) (now (keys .entry)) (now (cents .entry)))) ⌝ }
+{
+    let number = table::table_refusal(table);
+    if number != 0 {
+        return number;
+    }
+    if !lists_ok(bytes, links, keys, cents) {
+        return 30;
+    }
+    if board.len() != boards::BOARD_LEN {
+        return 30;
+    }
+    if !is_sound(table, board, bytes, links, cents) {
+        return 30;
+    }
+    0
 }
