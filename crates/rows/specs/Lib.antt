@@ -2,3 +2,4 @@
 pub mod Flat
 pub mod Fits
 pub mod Decoded
+pub mod Fresh

@@ -1,0 +1,3 @@
+-- The public calls.
+pub mod Reads
+pub mod Opens

@@ -1,0 +1,23 @@
+-- The numbers of an empty board: no messages, no matches, every sender idle; the other lists may hold anything.
+use mathlib.Core.Bool.{false}
+use mathlib.Core.List.{List}
+use Prim.Native.Nat.{ℕ}
+use lib.Dec.{eqb}
+use lib.ListN.{length, replicate}
+use Rattle.model.specs.Basics.{unless, firstOf}
+use Rattle.model.specs.Layout.{tableRefusal}
+use Rattle.boards.specs.declared.Board as DB
+use Rattle.boards.specs.Layout.{boardLen}
+use Rattle.rows.specs.Flat.{boardNumbers}
+use Rattle.rows.specs.Fresh.{freshSender}
+use Rattle.calls.specs.Reads.{answered}
+
+abbrev pub freshBoard : DB.Board
+freshBoard = record { messages = 0; matches = 0; senders = replicate 32 freshSender }
+
+-- the table's refusal, then 30 for numbers of another length than a board's
+unfoldable pub openNumber : List ℕ → List ℕ → ℕ
+openNumber s board = firstOf (tableRefusal s) (unless (eqb (length board) boardLen) 30 0)
+
+unfoldable pub openedNumbers : List ℕ → List ℕ → List ℕ
+openedNumbers s board = answered (openNumber s board) (boardNumbers freshBoard) board

@@ -1,0 +1,17 @@
+-- An idle sender as it is opened; its job is not read.
+use mathlib.Core.Bool.{false}
+use lib.ListN.{replicate}
+use Rattle.state.specs.declared.Phase.the-variants as P
+use Rattle.state.specs.declared.State.the-variants as S
+use Rattle.state.specs.declared.Sender as DD
+
+abbrev pub freshSender : DD.Sender
+freshSender = record {
+  state = S.Idle;
+  signalled = false;
+  own = 0;
+  waker = 0;
+  reply = 0;
+  matched = 0;
+  job = record { subject = 0; chord = 0; phase = P.PassEnd; chosen = replicate 8 0; retry = false; retries = 0 };
+}
