@@ -1,0 +1,83 @@
+-- A replay: calls lent in rows, played one after another on a board that is tested once.
+use mathlib.Core.Path.{_≡_}
+use mathlib.Core.Logic.{_≢_}
+use mathlib.Core.Bool.{Bool}
+use mathlib.Core.List.{List, [], _∷_, _++_, map}
+use Prim.Native.Nat.{ℕ, _+_, _*_, _≤_}
+use lib.Dec.{eqb, leb}
+use lib.IntN.{ℤ, pos}
+use lib.ListN.{length, getD, drop}
+use Rattle.model.specs.Basics.{allOf, pick, unless, firstOf}
+use Rattle.model.specs.Layout.{tableOf}
+use Rattle.model.specs.Effects.{Said, wordOf, valueOf, numberOf}
+use Rattle.model.specs.Pools.{Call, adds, steps, Exchange, afterAll, history}
+use Rattle.columns.specs.Columns.{listFrom}
+use Rattle.boards.specs.Calls.{Held}
+use Rattle.refusals.specs.Calls.{boardOf, refusalOf, Beyond}
+
+-- the lent calls, a row each: of `calls` the kind, the sender and the channel, of `numbers` the property number
+pub record CallRows : Type 0 where
+  pub calls : List ℕ
+  pub numbers : List ℕ
+  pub amounts : List ℤ
+
+abbrev pub callRows : List ℕ → List ℕ → List ℤ → CallRows
+callRows calls numbers amounts = record { calls = calls; numbers = numbers; amounts = amounts }
+
+abbrev pub callsLen : CallRows → ℕ
+callsLen c = length (c .amounts)
+
+-- kind 0 is a step, any other an add
+unfoldable pub callAt : CallRows → ℕ → Call
+callAt c k =
+    pick (eqb (getD (c .calls) (3 * k) 0) 0) (steps (getD (c .calls) (3 * k + 1) 0))
+    (adds (getD (c .calls) (3 * k + 1) 0)
+    (record {
+      channel = getD (c .calls) (3 * k + 2) 0;
+      property = getD (c .numbers) k 0;
+      cents = getD (c .amounts) k (pos 0);
+    }))
+
+abbrev pub callsOf : CallRows → List Call
+callsOf c = listFrom (callAt c) 0 (callsLen c)
+
+-- the three lists have as many rows
+unfoldable pub rowsFit : CallRows → Bool
+rowsFit c = allOf (eqb (length (c .calls)) (3 * callsLen c) ∷ eqb (length (c .numbers)) (callsLen c) ∷ [])
+
+-- an answer as one number: the word, and beside it the value or the refusal's number, of which one is 0
+unfoldable pub answerNumber : Said → ℕ
+answerNumber w = wordOf w * 65536 + (valueOf w + numberOf w)
+
+abbrev pub answerNumbers : List Exchange → List ℕ
+answerNumbers es = map (λ e. answerNumber (e .said)) es
+
+-- the refusal of the board, then 30 for rows that do not fit, then 31 for no room for the answers
+abbrev pub refusalAfter : ℕ → CallRows → ℕ → ℕ
+refusalAfter f c room = firstOf f (unless (rowsFit c) 30 (unless (leb (callsLen c) room) 31 0))
+
+abbrev pub replayNumber : List ℕ → Held → CallRows → ℕ → ℕ
+replayNumber s h c room = refusalAfter (refusalOf s h) c room
+
+-- the rows fit, and there is room for the answers
+pub record Fit (c : CallRows) (room : ℕ) : Type 0 where
+  pub calls-len : length (c .calls) ≡ 3 * callsLen c
+  pub numbers-len : length (c .numbers) ≡ callsLen c
+  pub answers-all : callsLen c ≤ room
+
+-- all calls c played on h leave h′, and turn the lent answers from before to after
+pub record Plays-all (s : List ℕ) (h : Held) (c : CallRows) (before after : List ℕ) (h′ : Held) : Type 0 where
+  -- "A schedule hands each call the board that the one before returned"
+  pub leaves : boardOf s h′ ≡ afterAll (tableOf s) (boardOf s h) (callsOf c)
+  pub says : after
+      ≡ answerNumbers (history (tableOf s) (boardOf s h) (callsOf c)) ++ drop (callsLen c) before
+  pub accepted : refusalOf s h′ ≡ 0
+  pub beyond : Beyond h h′
+
+-- a replay of the calls c on h answers f, leaves h′, and turns the lent answers from before to after
+pub record Replays (s : List ℕ) (h : Held) (c : CallRows) (before after : List ℕ) (f : ℕ) (h′ : Held) : Type 0 where
+  pub number : f ≡ replayNumber s h c (length before)
+  -- "a refusal returns the number only and leaves all as found"
+  pub keeps : f ≢ 0 → (h′ ≡ h) × (after ≡ before)
+  pub plays : f ≡ 0 → Plays-all s h c before after h′
+  pub beyond : Beyond h h′
