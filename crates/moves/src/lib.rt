@@ -5,6 +5,7 @@ ghost use Prim.Native.Nat.{ℕ, _<_};
 ghost use lib.ListN.{length, getD};
 ghost use Rattle.model.specs.Tables.{Table};
 ghost use Rattle.model.specs.Layout.{tableRefusal, tableOf};
+ghost use Rattle.model.specs.Effects.{numberOf};
 ghost use Rattle.model.specs.Pools.{adds, steps};
 ghost use Rattle.columns.specs.Columns.{Passed};
 ghost use Rattle.state.specs.Views.{saidIn, canStep};
@@ -77,7 +78,7 @@ fn add_move(table: &[u8], n: u16, x: Sent) -> Move
     ensures { λ r. ⌜ ((h : Held) (i : ℕ) → refusalOf (now (table .entry)) h ≡ 0 → h .board .messages ≡ n
         → callRefusal (tableOf (now (table .entry))) (h .board) (adds i (sentIn x)) ≡ 0
         → Plays (now (table .entry)) h (adds i (sentIn x)) (saidIn (r .said)) (movedHeld h i r)) ⌝ }
-    ensures { λ r. ⌜ ((k : ℕ) → Fits n k r) ⌝ }
+    ensures { λ r. ⌜ ((k : ℕ) → Fits n k r) × (numberOf (saidIn (r .said)) ≡ 0) ⌝ }
 {
     let low = x.channel as u8;
     Move {
@@ -108,7 +109,8 @@ fn step_move(
         (now (cents .entry)))) (steps i) (saidIn (r .said))
         (movedHeld (heldOf (lists (now (board .entry)) (now (bytes .entry)) (now (links .entry)) (now (keys .entry))
         (now (cents .entry)))) i r) ⌝ }
-    ensures { λ r. ⌜ Fits (getD (now (board .entry)) 0 0) (getD (now (board .entry)) 1 0) r ⌝ }
+    ensures { λ r. ⌜ Fits (getD (now (board .entry)) 0 0) (getD (now (board .entry)) 1 0) r
+        × (numberOf (saidIn (r .said)) ≡ 0) ⌝ }
 {
     let d = rows::sender_at(board, i);
     let e = steps::effect_of(
@@ -158,7 +160,8 @@ pub fn move_of(
         (now (cents .entry)))) (callIn call) (saidIn (r .said))
         (movedHeld (heldOf (lists (now (board .entry)) (now (bytes .entry)) (now (links .entry)) (now (keys .entry))
         (now (cents .entry)))) (callerOf (callIn call)) r) ⌝ }
-    ensures { λ r. ⌜ Fits (getD (now (board .entry)) 0 0) (getD (now (board .entry)) 1 0) r ⌝ }
+    ensures { λ r. ⌜ Fits (getD (now (board .entry)) 0 0) (getD (now (board .entry)) 1 0) r
+        × (numberOf (saidIn (r .said)) ≡ 0) ⌝ }
 {
     match call {
         Call::Add(_, x) => add_move(table, board[0], x),

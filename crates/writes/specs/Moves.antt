@@ -6,6 +6,8 @@ use Prim.Native.Nat.{ℕ, _+_, _<_, _≤_}
 use lib.ListN.{set}
 use Rattle.columns.specs.Columns.{columnsOf}
 use Rattle.columns.specs.MatchColumns.{matchesOf}
+use Rattle.state.specs.declared.Change as DG
+use Rattle.state.specs.declared.Change.the-variants as G
 use Rattle.boards.specs.declared.Board as DB
 use Rattle.boards.specs.Calls.{Held, held}
 use Rattle.applies.specs.Writes.{Sure, sendersBy, matchesBy}
@@ -20,6 +22,13 @@ putIf false xs n a = xs
 abbrev pub messagesBy : Bool → ℕ → ℕ
 messagesBy true n = n + 1
 messagesBy false n = n
+
+-- the message that a change turns; start where it turns none
+abbrev pub turnedFrom : DG.Change → ℕ → ℕ
+turnedFrom G.None start = start
+turnedFrom (G.Turn n u) start = n
+turnedFrom (G.Record n) start = n
+turnedFrom (G.Signal n) start = start
 
 -- the board after a move of the sender at place i
 abbrev pub movedBoard : DB.Board → ℕ → DM.Move → DB.Board

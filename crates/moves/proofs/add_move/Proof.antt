@@ -1,4 +1,5 @@
 -- `moves::add_move` meets its contract: a message more, with a job on it for its sender.
+use mathlib.Core.Path.{refl}
 use Prim.Native.Nat.{_<_}
 use native.Mathlib.Omega.{arith}
 use borrow.Author.Needs.{needs}
@@ -24,7 +25,7 @@ returns c =
     let s = start (c .before) in
     let a = s .args in (
       λ h i z e r. add-move (a .table .now) h z (a .n) e i (a .x) _ (s .pre .2) r (c .new-sender .ensures),
-      λ k. record { room = λ _. s .pre .2; low = λ _. omega (arith, low (c .before)); sure = tt },
+      (λ k. record { room = λ _. s .pre .2; low = λ _. omega (arith, low (c .before)); sure = tt }, refl),
     )
 
 pub add-move-spec : {M : Type 1} → statement M

@@ -6,6 +6,7 @@ use native.Mathlib.Omega.{arith}
 use borrow.Author.Needs.{needs}
 use lib.ListN.{length, getD}
 use Rattle.model.specs.Layout.{tableOf}
+use Rattle.model.specs.Effects.{numberOf}
 use Rattle.state.specs.Views.{saidIn, idleIs, canStep}
 use Rattle.boards.specs.declared.Call as DC
 use Rattle.boards.specs.declared.Call.the-variants as G
@@ -92,7 +93,7 @@ step-move-requires c κs =
 abbrev IsMove : tie.Start → DM.Move → DC.Call → Type 0
 IsMove s m x =
     Plays (s .args .table .now) (view s) (callIn x) (saidIn (m .said)) (movedHeld (view s) (callerOf (callIn x)) m)
-    × Fits (getD (s .args .board .now) 0 0) (getD (s .args .board .now) 1 0) m
+    × (Fits (getD (s .args .board .now) 0 0) (getD (s .args .board .now) 1 0) m × (numberOf (saidIn (m .said)) ≡ 0))
 
 returns : tie.Need-returns
 unfolding boardFrom
@@ -101,7 +102,7 @@ returns c =
     let s = added k in
     let e = c .add-move .ensures in
     subst (IsMove s (c .add-move .result)) (sym (k .call .given .1))
-    (e .0 (view s) (k .call .given .0 .0) (s .pre .0 .accepted) refl (add-free k), e .1 _)
+    (e .0 (view s) (k .call .given .0 .0) (s .pre .0 .accepted) refl (add-free k), (e .1 .0 _, e .1 .1))
 
 returns-2 : tie.Need-returns-2
 returns-2 c =

@@ -26,6 +26,7 @@ use Rattle.refusals.proofs.Refusals.{table-accepted, messages-few}
 use Rattle.refusals.proofs.HeldLaws.{columns-sized}
 use Rattle.steps.specs.Ready.{Ready}
 use Rattle.moves.proofs.StepLaws.{SenderIs, others, ready-by, effect-by, is-ready, does-it, is-sure}
+use Rattle.moves.proofs.StepLaws.{effect-accepted}
 use Rattle.moves.proofs.MoveLaws.{sender-is, step-move}
 use Rattle.moves.proofs.step_move.Statement.{statement}
 use Rattle.moves.proofs.step_move.Tie as tie
@@ -160,7 +161,13 @@ returns c =
     let is = does-it t (h .board) (h .columns) (h .matches) z (a .i) d (is-sender f) x (s .pre .1 .0 .0) (by-effect q) in
     let sure = is-sure t (h .board) (h .columns) (h .matches) z (a .i) d (is-sender f) x (s .pre .1 .0 .0)
     (by-effect q) in
-    (step-move t h z (a .i) x none is sure (eight q), record { room = λ e. never e; low = λ e. never e; sure = sure })
+    (
+      step-move t h z (a .i) x none is sure (eight q),
+      (
+        record { room = λ e. never e; low = λ e. never e; sure = sure },
+        effect-accepted (tableOf t) (boardOf t h) (a .i) _ is,
+      ),
+    )
 
 pub step-move-spec : {M : Type 1} → statement M
 step-move-spec =

@@ -1,0 +1,3 @@
+-- A call, and calls played one after another.
+pub mod PlayLaws
+pub mod ScheduleLaws

@@ -1,0 +1,44 @@
+-- A call by its move, or refused, on lists that the first tests accept.
+use mathlib.Core.Path.{_≡_, refl, sym, subst, _∙_}
+use mathlib.Core.Logic.{_≢_}
+use mathlib.Core.Bool.{true}
+use mathlib.Core.List.{List}
+use Prim.Native.Nat.{ℕ}
+use Rattle.model.specs.Layout.{tableOf}
+use Rattle.model.specs.Effects.{Said, Refused, numberOf}
+use Rattle.model.specs.Pools.{Call}
+use Rattle.boards.specs.Calls.{Held}
+use Rattle.boards.specs.Layout.{Lists, Sized}
+use Rattle.rows.specs.Flat.{flatOk}
+use Rattle.refusals.specs.Held.{heldOf, Accepted}
+use Rattle.refusals.specs.Calls.{Plays}
+use Rattle.writes.specs.declared.Move as DM
+use Rattle.writes.specs.Moves.{movedHeld}
+use Rattle.moves.specs.Refused.{callRefusal}
+use Rattle.moves.proofs.RefusedLaws.{refused-call}
+use Rattle.plays.specs.Plays.{PlaysIn}
+
+module _ (s : List ℕ) (l : Lists) (k : Call) where
+  -- the call's move by the sender at place i, written
+  pub played : (l′ : Lists) (w : Said) (m : DM.Move) (i j : ℕ) → i ≡ j → Plays s (heldOf l) k w (movedHeld (heldOf l) j m)
+      → numberOf w ≡ 0 → heldOf l′ ≡ movedHeld (heldOf l) i m → flatOk (l′ .board) ≡ true → Sized l′
+      → PlaysIn s l k w l′
+  played l′ w m i j at p n e f z = record {
+    plays = subst (Plays s (heldOf l) k w) (sym (subst (λ x. heldOf l′ ≡ movedHeld (heldOf l) x m) at e)) p;
+    numbers = f;
+    sized = z;
+    keeps = λ x. absurd (x n);
+  }
+
+  module _ (a : Accepted s l) where
+    pub play-refused : (f : ℕ) → f ≡ callRefusal (tableOf s) (heldOf l .board) k → f ≢ 0 → PlaysIn s l k (Refused f) l
+    play-refused f e n = record {
+      plays = refused-call s (heldOf l) (a .accepted) k f e n;
+      numbers = a .numbers;
+      sized = a .sized;
+      keeps = λ _. refl;
+    }
+
+    pub accepted-after : (w : Said) (l′ : Lists) → PlaysIn s l k w l′ → Accepted s l′
+    accepted-after w l′ p =
+        record { numbers = p .numbers; sized = p .sized; accepted = p .plays .accepted (a .accepted) }

@@ -1,0 +1,133 @@
+-- The columns after a message is added to the lent lists, and what they hold after a whole move.
+use mathlib.Core.Path.{_≡_, refl, sym, subst, ap, _∙_}
+use mathlib.Core.Bool.{Bool, true, false}
+use mathlib.Core.List.{List}
+use Prim.Native.Nat.{ℕ, _+_, _<_}
+use native.Mathlib.Omega.{arith}
+use lib.IntN.{ℤ}
+use lib.ListN.{length, getD, set, length-set}
+use Rattle.columns.specs.Columns.{Columns, columnsOf}
+use Rattle.columns.specs.MatchColumns.{MatchColumns}
+use Rattle.boards.specs.declared.Board as DB
+use Rattle.boards.specs.declared.Sent as DS
+use Rattle.boards.specs.Calls.{held}
+use Rattle.boards.specs.Layout.{Lists, lists, columnsIn, matchesIn, statusesAt, wakersAt, Sized}
+use Rattle.boards.proofs.PartLaws.{set-here, set-before, set-after}
+use Rattle.rows.specs.Decoded.{boardFrom}
+use Rattle.refusals.specs.Held.{heldOf}
+use Rattle.writes.specs.declared.Move as DM
+use Rattle.writes.specs.Moves.{putIf, movedBoard, movedHeld}
+use Rattle.writes.specs.Written.{Written, columnsAfter, matchesAfter}
+
+pub length-put : {A : Type 0} (u : Bool) (s : List A) (i : ℕ) (a : A) → length (putIf u s i a) ≡ length s
+length-put true s i a = length-set s i a
+length-put false s i a = refl
+
+module _ (n : ℕ) (x : DS.Sent) where
+  abbrev pub addedBytes : Bool → List ℕ → List ℕ
+  addedBytes u b = putIf u (putIf u b n (x .channel)) (statusesAt + n) 0
+
+  abbrev pub addedLinks : Bool → List ℕ → List ℕ
+  addedLinks u w = putIf u (putIf u w n 0) (wakersAt + n) 0
+
+  -- the lists with message n, where it is added
+  abbrev pub added : Bool → Lists → Lists
+  added u l =
+      lists (l .board) (addedBytes u (l .bytes)) (addedLinks u (l .links)) (putIf u (l .keys) n (x .property))
+      (putIf u (l .cents) n (x .cents))
+
+  -- the columns with it
+  abbrev pub columnsWith : Bool → Columns → Columns
+  columnsWith u c =
+      columnsOf (putIf u (c .channels) n (x .channel)) (putIf u (c .properties) n (x .property))
+      (putIf u (c .cents) n (x .cents)) (putIf u (c .statuses) n 0) (putIf u (c .matched) n 0)
+      (putIf u (c .wakers) n 0)
+
+  pub added-columns : (u : Bool) (l : Lists) → (u ≡ true → n < 1024)
+      → columnsIn (added u l) ≡ columnsWith u (columnsIn l)
+  added-columns true l room =
+      let h = room refl in
+      let b = l .bytes in
+      let w = l .links in
+      rw (
+        set-after 0 1024 (set b n (x .channel)) (1024 + n) 0 (omega arith),
+        set-here 0 1024 b n n (x .channel) (omega arith) h,
+        set-here 1024 1024 (set b n (x .channel)) (1024 + n) n 0 refl h,
+        set-before 1024 1024 b n (x .channel) h,
+        set-after 0 1024 (set w n 0) (1024 + n) 0 (omega arith),
+        set-here 0 1024 w n n 0 (omega arith) h,
+        set-here 1024 1024 (set w n 0) (1024 + n) n 0 refl h,
+        set-before 1024 1024 w n 0 h,
+        set-here 0 1024 (l .keys) n n (x .property) (omega arith) h,
+      )
+  added-columns false l room = refl
+
+  pub added-matches : (u : Bool) (l : Lists) → (u ≡ true → n < 1024) → matchesIn (added u l) ≡ matchesIn l
+  added-matches true l room =
+      let h = room refl in
+      let b = l .bytes in
+      let w = l .links in
+      rw (
+        set-before 2048 1024 (set b n (x .channel)) (1024 + n) 0 (omega arith),
+        set-before 2048 1024 b n (x .channel) (omega arith),
+        set-before 2048 8192 (set w n 0) (1024 + n) 0 (omega arith),
+        set-before 2048 8192 w n 0 (omega arith),
+      )
+  added-matches false l room = refl
+
+  pub added-sized : (u : Bool) (l : Lists) → Sized l → Sized (added u l)
+  added-sized u l s = record {
+    bytes-len = length-put u (putIf u (l .bytes) n (x .channel)) (1024 + n) 0
+        ∙ length-put u (l .bytes) n (x .channel) ∙ s .bytes-len;
+    links-len = length-put u (putIf u (l .links) n 0) (1024 + n) 0 ∙ length-put u (l .links) n 0 ∙ s .links-len;
+    keys-len = length-put u (l .keys) n (x .property) ∙ s .keys-len;
+    cents-len = length-put u (l .cents) n (x .cents) ∙ s .cents-len;
+  }
+
+-- the lists after it
+module _ (n : ℕ) (x : DS.Sent) (b w ks : List ℕ) (cs : List ℤ) (b′ w′ ks′ : List ℕ) (cs′ : List ℤ) where
+  abbrev pub Added : Bool → Type 0
+  Added u =
+      (b′ ≡ addedBytes n x u b) × (w′ ≡ addedLinks n x u w) × (ks′ ≡ putIf u ks n (x .property))
+      × (cs′ ≡ putIf u cs n (x .cents))
+
+  pub added-by : (u v : Bool) → u ≡ v → Added v → Added u
+  added-by u v e p = subst Added (sym e) p
+
+held-by : (b b′ : DB.Board) (c c′ : Columns) (m m′ : MatchColumns) → b ≡ b′ → c ≡ c′ → m ≡ m′
+    → held b c m ≡ held b′ c′ m′
+held-by b b′ c c′ m m′ p q r = rw (p, q, r)
+
+-- the message that a move adds, then its change, then the numbers of its board
+module _ (m : DM.Move) (i : ℕ) (s s′ b w ks : List ℕ) (cs : List ℤ) (b₁ w₁ ks₁ : List ℕ) (cs₁ : List ℤ)
+    (b′ w′ : List ℕ) (room : m .adds ≡ true → getD s 0 0 < 1024)
+    (a : Added (getD s 0 0) (m .sent) b w ks cs b₁ w₁ ks₁ cs₁ (m .adds))
+    (t : Written (m .change) (getD s 1 0) (m .sender .job) (lists s b₁ w₁ ks₁ cs₁) (lists s b′ w′ ks₁ cs₁)) where
+  abbrev n : ℕ
+  n = getD s 0 0
+
+  abbrev l : Lists
+  l = lists s b w ks cs
+
+  columns-then : columnsIn (lists s b₁ w₁ ks₁ cs₁) ≡ columnsWith n (m .sent) (m .adds) (columnsIn l)
+  columns-then = rw (a .0, a .1, a .2, a .3) (added-columns n (m .sent) (m .adds) l room)
+
+  matches-then : matchesIn (lists s b₁ w₁ ks₁ cs₁) ≡ matchesIn l
+  matches-then = rw (a .0, a .1) (added-matches n (m .sent) (m .adds) l room)
+
+  pub moved-held : boardFrom s′ ≡ movedBoard (boardFrom s) i m
+      → heldOf (lists s′ b′ w′ ks₁ cs₁) ≡ movedHeld (heldOf l) i m
+  unfolding boardFrom
+  moved-held e =
+      held-by _ _ _ _ _ _ e (t .columns ∙ ap (columnsAfter (m .change)) columns-then)
+      (t .matches ∙ ap (matchesAfter (m .change) (getD s 1 0) (m .sender .job)) matches-then)
+
+  pub moved-sized : Sized l → Sized (lists s′ b′ w′ ks₁ cs₁)
+  moved-sized z =
+      let y = added-sized n (m .sent) (m .adds) l z in
+      record {
+        bytes-len = t .bytes-len ∙ ap length (a .0) ∙ y .bytes-len;
+        links-len = t .links-len ∙ ap length (a .1) ∙ y .links-len;
+        keys-len = ap length (a .2) ∙ y .keys-len;
+        cents-len = ap length (a .3) ∙ y .cents-len;
+      }

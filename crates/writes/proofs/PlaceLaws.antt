@@ -1,0 +1,70 @@
+-- Laws of one sender's place among the numbers of all: read, set, pasted.
+use mathlib.Core.Path.{_≡_, _∙_, ap}
+use mathlib.Core.List.{List, [], _∷_, _++_, append-assoc}
+use Prim.Native.Nat.{ℕ, zero, suc, _+_, _*_, _<_}
+use lib.ListN.{length, getD, take, drop, set, List·getD-append}
+use lib.Seq.{take-all, drop-at, take-append-add, drop-append-add, getD-append-add, set-append-left, paste}
+use native.Mathlib.Omega.{arith}
+use Rattle.state.specs.declared.Sender as DD
+use Rattle.rows.specs.Fits.{SenderFits, SendersFit}
+use Rattle.rows.specs.Flat.{senderNumbers, sendersNumbers}
+use Rattle.rows.proofs.SenderLaws.{sender-long}
+
+-- past a front
+pub paste-behind : (p xs ys : List ℕ) (at n : ℕ) → paste (p ++ xs) (length p + at) ys n ≡ p ++ paste xs at ys n
+paste-behind p xs ys at n =
+    let z : length p + at + n ≡ length p + (at + n) = omega arith in
+    rw (z, take-append-add p xs at, drop-append-add p xs (at + n))
+    (ap (λ (x : List ℕ). x ++ drop (at + n) xs) (append-assoc p (take at xs) (take n ys))
+    ∙ append-assoc p (take at xs ++ take n ys) (drop (at + n) xs))
+
+pub set-behind : (p xs : List ℕ) (at x : ℕ) → set (p ++ xs) (length p + at) x ≡ p ++ set xs at x
+set-behind [] xs at x = let z : 0 + at ≡ at = omega arith in rw z
+set-behind (y ∷ p) xs at x =
+    let z : suc (length p) + at ≡ suc (length p + at) = omega arith in
+    rw (z, set-behind p xs at x)
+
+-- the senders' numbers, with those of another at place i
+pub senders-paste : (ds : List DD.Sender) (i : ℕ) (d : DD.Sender) → i < length ds → SendersFit ds → SenderFits d
+    → paste (sendersNumbers ds) (21 * i) (senderNumbers d) 21 ≡ sendersNumbers (set ds i d)
+unfolding sendersNumbers
+senders-paste [] i d h f g = absurd (omega arith)
+senders-paste (e ∷ ds) zero d h f g =
+    rw (
+      take-all 21 (senderNumbers d) (omega (arith, sender-long d g)),
+      drop-at (senderNumbers e) (sendersNumbers ds) 21 (sender-long e (f .0)),
+    )
+senders-paste (e ∷ ds) (suc i) d h f g =
+    let z : 21 * suc i ≡ length (senderNumbers e) + 21 * i = omega (arith, sender-long e (f .0)) in
+    rw z
+    (paste-behind (senderNumbers e) (sendersNumbers ds) (senderNumbers d) (21 * i) 21
+    ∙ ap (λ (x : List ℕ). senderNumbers e ++ x) (senders-paste ds i d (omega arith) (f .1) g))
+
+-- number j of sender i
+module _ (j : ℕ) (short : j < 21) where
+  pub number-at : (ds : List DD.Sender) (i : ℕ) (z : DD.Sender) → i < length ds → SendersFit ds
+      → getD (sendersNumbers ds) (21 * i + j) 0 ≡ getD (senderNumbers (getD ds i z)) j 0
+  unfolding sendersNumbers
+  number-at [] i z h f = absurd (omega arith)
+  number-at (e ∷ ds) zero z h f =
+      let o : 21 * 0 + j ≡ j = omega arith in
+      rw o (List·getD-append (senderNumbers e) (sendersNumbers ds) 0 j (omega (arith, sender-long e (f .0))))
+  number-at (e ∷ ds) (suc i) z h f =
+      let o : 21 * suc i + j ≡ length (senderNumbers e) + (21 * i + j) = omega (arith, sender-long e (f .0)) in
+      rw o
+      (getD-append-add (senderNumbers e) (sendersNumbers ds) (21 * i + j) 0
+      ∙ number-at ds i z (omega arith) (f .1))
+
+  pub number-set : (ds : List DD.Sender) (i x : ℕ) (z d : DD.Sender) → i < length ds → SendersFit ds
+      → senderNumbers d ≡ set (senderNumbers (getD ds i z)) j x
+      → set (sendersNumbers ds) (21 * i + j) x ≡ sendersNumbers (set ds i d)
+  unfolding sendersNumbers
+  number-set [] i x z d h f e = absurd (omega arith)
+  number-set (y ∷ ds) zero x z d h f e =
+      let o : 21 * 0 + j ≡ j = omega arith in
+      rw (o, e) (set-append-left (senderNumbers y) (sendersNumbers ds) j x (omega (arith, sender-long y (f .0))))
+  number-set (y ∷ ds) (suc i) x z d h f e =
+      let o : 21 * suc i + j ≡ length (senderNumbers y) + (21 * i + j) = omega (arith, sender-long y (f .0)) in
+      rw o
+      (set-behind (senderNumbers y) (sendersNumbers ds) (21 * i + j) x
+      ∙ ap (λ (r : List ℕ). senderNumbers y ++ r) (number-set ds i x z d (omega arith) (f .1) e))

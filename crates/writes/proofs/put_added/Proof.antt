@@ -1,0 +1,60 @@
+-- `writes::put_added` meets its contract: the message is written whole, or nothing is.
+use mathlib.Core.Path.{refl}
+use mathlib.Core.Bool.{true, false}
+use borrow.Author.Needs.{needs}
+use borrow.Author.Tests.{not-true, not-false}
+use Rattle.writes.proofs.AddLaws.{added-by}
+use Rattle.writes.proofs.put_added.Statement.{statement}
+use Rattle.writes.proofs.put_added.Tie as tie
+
+-- the start, and the test
+abbrev start : tie.After-struct-known → tie.Start
+start c = c .before .before .before .before
+
+abbrev tested : tie.After-put-message-arg4 → tie.Else1
+tested c = c .before .before .before .before .before
+
+returns : tie.Need-returns
+returns c =
+    let a = start (c .before) .args in
+    added-by (a .n) (a .m .sent) _ _ _ _ _ _ _ _ (a .m .adds) false (not-true _ (c .if1 .taken))
+    (refl, refl, refl, refl)
+
+put-message-requires : tie.Need-put-message-requires
+put-message-requires c κs =
+    let y = tested c in
+    let p = start (y .before) .pre in
+    let e = not-false _ (y .if1 .left) in
+    (p .0 e, p .1 e, p .2, p .3, p .4, p .5)
+
+same-length : tie.Need-same-length
+same-length c = search needs
+
+same-length-2 : tie.Need-same-length-2
+same-length-2 c = search needs
+
+same-length-3 : tie.Need-same-length-3
+same-length-3 c = search needs
+
+same-length-4 : tie.Need-same-length-4
+same-length-4 c = search needs
+
+returns-2 : tie.Need-returns-2
+returns-2 c =
+    let w = c .before .before .before .before .before .before .before in
+    let y = tested (w .before) in
+    let a = start (y .before) .args in
+    added-by (a .n) (a .m .sent) _ _ _ _ _ _ _ _ (a .m .adds) true (not-false _ (y .if1 .left))
+    (w .put-message .ensures)
+
+pub put-added-spec : {M : Type 1} → statement M
+put-added-spec =
+    tie.close
+    (tie.spec
+    returns
+    put-message-requires
+    same-length
+    same-length-2
+    same-length-3
+    same-length-4
+    returns-2)

@@ -1,0 +1,83 @@
+-- `writes::put_signal` meets its contract: each turn signals one sender more.
+use mathlib.Core.Path.{_≡_, sym}
+use Prim.Native.Nat.{_-_, _≤_}
+use borrow.Author.Needs.{needs}
+use lib.ListN.{length}
+use native.Mathlib.Omega.{arith}
+use Rattle.rows.specs.Flat.{boardNumbers}
+use Rattle.rows.specs.Decoded.{boardFrom}
+use Rattle.rows.proofs.WalkLaws.{all-numbers}
+use Rattle.rows.proofs.DecodeLaws.{from-back}
+use Rattle.writes.proofs.SignalLaws.{signalledTo, signal-next, signal-end}
+use Rattle.writes.proofs.put_signal.Statement.{statement}
+use Rattle.writes.proofs.put_signal.Tie as tie
+
+abbrev Inv-loop : tie.InvT-loop
+Inv-loop s₀ own i₀ s i =
+    (i ≤ 32) × (length s ≡ 674) × (s ≡ boardNumbers (signalledTo (own - 1) i (boardFrom s₀)))
+
+abbrev μ-loop : tie.MeasureT-loop
+μ-loop s₀ own i₀ s i = 32 - i
+
+loop-holds : tie.Need-loop-holds Inv-loop μ-loop
+loop-holds c =
+    let s = c .before in
+    let a = s .args .s .now in
+    (search needs, all-numbers a (s .pre .0) .0, sym (from-back a (s .pre .0) .0))
+
+mul-signal-one : tie.Need-mul-signal-one Inv-loop μ-loop
+mul-signal-one c = search needs
+
+add-signal-one : tie.Need-add-signal-one Inv-loop μ-loop
+add-signal-one c = search needs
+
+signal-one-requires : tie.Need-signal-one-requires Inv-loop μ-loop
+signal-one-requires c κs = search needs
+
+add-i : tie.Need-add-i Inv-loop μ-loop
+add-i c = search needs
+
+loop-less : tie.Need-loop-less Inv-loop μ-loop
+loop-less c = search needs
+
+loop-again : tie.Need-loop-again Inv-loop μ-loop
+loop-again c =
+    let n = c .before .before in
+    let p = n .before .before .before in
+    let s = p .before .before in
+    let a = s .args in (
+      search needs,
+      search needs,
+      signal-next (a .own - 1) (boardFrom (a .s .now)) (p .loop .i) (a .own) (p .loop .s) (n .signal-one .last .0)
+          (from-back (a .s .now) (s .pre .0) .1) (omega arith) (omega arith) (p .loop .inv .2) (n .signal-one .ensures),
+    )
+
+same-length : tie.Need-same-length Inv-loop μ-loop
+same-length c =
+    let p = c .before in
+    let s = p .before .before in
+    omega (arith, all-numbers (s .args .s .now) (s .pre .0) .0, p .loop .inv .1)
+
+returns : tie.Need-returns Inv-loop μ-loop
+returns c =
+    let p = c .before in
+    let s = p .before .before in
+    let a = s .args in
+    signal-end (a .own - 1) (boardFrom (a .s .now)) (p .loop .i) (p .loop .s) (from-back (a .s .now) (s .pre .0) .1)
+    (omega arith) (p .loop .inv .2)
+
+pub put-signal-spec : {M : Type 1} → statement M
+put-signal-spec =
+    tie.close
+    (tie.spec
+    Inv-loop
+    μ-loop
+    loop-holds
+    mul-signal-one
+    add-signal-one
+    signal-one-requires
+    add-i
+    loop-less
+    loop-again
+    same-length
+    returns)
