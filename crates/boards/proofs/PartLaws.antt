@@ -60,6 +60,8 @@ module _ {A : Type 0} (at n : ℕ) (ys s : List A) (h : at + n ≤ length s) (e 
       let p = before-at in
       let q = length-drop a (take at s) in
       let z : at ≡ a + (at - a) = omega arith in
-      rw (drop-append-le a (take at s) (ys ++ drop n (drop at s)) (omega arith),
-      take-append-le m (drop a (take at s)) (ys ++ drop n (drop at s)) (omega arith))
+      rw (
+        drop-append-le a (take at s) (ys ++ drop n (drop at s)) (omega arith),
+        take-append-le m (drop a (take at s)) (ys ++ drop n (drop at s)) (omega arith),
+      )
       (rw (z, drop-take a (at - a) s (omega arith)) (take-take m (at - a) (drop a s) (omega arith)))

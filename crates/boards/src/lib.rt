@@ -9,13 +9,21 @@ use state::Sender;
 
 // Lengths, and the places of columns that are not the first of their list.
 pub const BOARD_LEN: usize = 674;
+
 pub const BYTES_LEN: usize = 3072;
+
 pub const LINKS_LEN: usize = 10240;
+
 pub const KEYS_LEN: usize = 1024;
+
 pub const CENTS_LEN: usize = 1024;
+
 pub const STATUSES: usize = 1024;
+
 pub const CHORDS: usize = 2048;
+
 pub const WAKERS: usize = 1024;
+
 pub const MEMBERS: usize = 2048;
 
 // How many messages and matches there are, and the senders.

@@ -1,3 +1,4 @@
 -- The public calls.
 pub mod Reads
 pub mod Opens
+pub mod Calls

@@ -9,8 +9,8 @@ ghost use Rattle.valued.specs.Moves.{movedBoard, Fits};
 ghost use Rattle.rows.specs.Flat.{flatOk};
 ghost use Rattle.rows.specs.Decoded.{boardFrom};
 ghost use Rattle.flat_moves.specs.Signals.{signalAt, signalledBoard};
-use valued::Move;
 use state::Sender;
+use valued::Move;
 
 // The sender at a place.
 pub fn sender_at(s: &[u16], i: u8) -> Sender

@@ -44,12 +44,12 @@ module _ {ch pr st ch′ pr′ st′ : List ℕ} (a : ch ≡ ch′) (b : pr ≡ 
   ready-by r = rw (a, b, c) r
 
   module _ {ma wa ma′ wa′ : List ℕ} (e : ma ≡ ma′) (f : wa ≡ wa′) (t : Table) (n : ℕ) (d : Sender) {k : ℕ} {x : Effect}
-      where
-    pub effect-by : ((o : Unread) → length (o .matches) ≡ k → o .backoffs ≡ builtinBackoffs → o .matched ≡ ma
-        → o .wakers ≡ wa → stateStep t (boardBy ch pr st n o) d (d .state) ≡ does x)
-        → (o : Unread) → length (o .matches) ≡ k → o .backoffs ≡ builtinBackoffs → o .matched ≡ ma′
-        → o .wakers ≡ wa′ → stateStep t (boardBy ch′ pr′ st′ n o) d (d .state) ≡ does x
-    effect-by p = rw (← a, ← b, ← c, ← e, ← f) p
+    where
+      pub effect-by : ((o : Unread) → length (o .matches) ≡ k → o .backoffs ≡ builtinBackoffs → o .matched ≡ ma
+          → o .wakers ≡ wa → stateStep t (boardBy ch pr st n o) d (d .state) ≡ does x)
+          → (o : Unread) → length (o .matches) ≡ k → o .backoffs ≡ builtinBackoffs → o .matched ≡ ma′
+          → o .wakers ≡ wa′ → stateStep t (boardBy ch′ pr′ st′ n o) d (d .state) ≡ does x
+      effect-by p = rw (← a, ← b, ← c, ← e, ← f) p
 
 -- d is sender i of the board
 abbrev pub SenderIs : DB.Board → ℕ → DD.Sender → Type 0

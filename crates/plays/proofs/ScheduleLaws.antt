@@ -171,8 +171,8 @@ module _ (x : ℕ) (c : CallRows) (n : ℕ) where
   refused-board f z e = e ∙ refused-first x _ (λ y. z (e ∙ y))
 
   module _ (e : x ≡ 0) where
-    pub refused-columns : rowsFit c ≡ false → 30 ≡ refusalAfter x c n
-    refused-columns u = rw (e, u)
+    pub refused-rows : rowsFit c ≡ false → 30 ≡ refusalAfter x c n
+    refused-rows u = rw (e, u)
 
     module _ (u : rowsFit c ≡ true) where
       pub refused-room : n < callsLen c → 31 ≡ refusalAfter x c n

@@ -189,9 +189,7 @@ pub fn move_of(
         (now (statuses .entry)) (now (matched .entry)) (now (wakers .entry))) (callIn call) r × Fits n k r ⌝ }
 {
     match call {
-        Call::Add(i, x) => {
-            add_move(table, i, d, n, x.channel, x.property, x.cents)
-        }
+        Call::Add(i, x) => { add_move(table, i, d, n, x.channel, x.property, x.cents) }
         Call::Step(i) => {
             step_move(
                 table,

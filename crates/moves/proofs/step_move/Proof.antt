@@ -160,8 +160,7 @@ returns c =
     let d = f .sender-at .result in
     let is = does-it t (h .board) (h .columns) (h .matches) z (a .i) d (is-sender f) x (s .pre .1 .0 .0) (by-effect q) in
     let sure = is-sure t (h .board) (h .columns) (h .matches) z (a .i) d (is-sender f) x (s .pre .1 .0 .0)
-    (by-effect q) in
-    (
+    (by-effect q) in (
       step-move t h z (a .i) x none is sure (eight q),
       (
         record { room = λ e. never e; low = λ e. never e; sure = sure },

@@ -57,8 +57,11 @@ caller-few : (c : tie.After-caller-of) → c .caller-of .result < 32
 caller-few c =
     let f = free (c .before) in
     let s = start (f .before) in
-    omega (arith, c .caller-of .ensures,
-    caller-in (tableOf (s .args .table .now)) (boardFrom (s .args .board .now)) (callIn (s .args .call)) (unrefused f))
+    omega (
+      arith,
+      c .caller-of .ensures,
+      caller-in (tableOf (s .args .table .now)) (boardFrom (s .args .board .now)) (callIn (s .args .call)) (unrefused f),
+    )
 
 few : (s : tie.Start) → (getD (s .args .board .now) 0 0 ≤ 1024) × (getD (s .args .board .now) 1 0 ≤ 1024)
 unfolding boardFrom
@@ -98,9 +101,11 @@ same-length c = search needs
 returns : tie.Need-returns
 returns c =
     let k = c .before in
-    let s = start k in
-    (play-refused (s .args .table .now) (lent s) (callIn (s .args .call)) (accepted s) _ (k .call-refusal .ensures)
-    (c .if1 .taken), s .pre .1)
+    let s = start k in (
+      play-refused (s .args .table .now) (lent s) (callIn (s .args .call)) (accepted s) _ (k .call-refusal .ensures)
+          (c .if1 .taken),
+      s .pre .1,
+    )
 
 move-of-requires : tie.Need-move-of-requires
 move-of-requires c κs =
@@ -149,10 +154,12 @@ unfolding boardFrom
 returns-2 c =
     let w = written (c .before .before .before) in
     let d = decided w in
-    let s = begun d in
-    (plays w, c .start-after .ensures (getD (s .args .board .now) 0 0) (d .move-of .result .adds)
-    (statusesIn (s .args .bytes .now)) (s .pre .1) (plays w .plays .beyond .messages-grow)
-    (ap (λ (h : Held). h .columns .statuses) (w .write-move .ensures .0)))
+    let s = begun d in (
+      plays w,
+      c .start-after .ensures (getD (s .args .board .now) 0 0) (d .move-of .result .adds)
+          (statusesIn (s .args .bytes .now)) (s .pre .1) (plays w .plays .beyond .messages-grow)
+          (ap (λ (h : Held). h .columns .statuses) (w .write-move .ensures .0)),
+    )
 
 pub play-spec : {M : Type 1} → statement M
 play-spec =

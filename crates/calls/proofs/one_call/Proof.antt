@@ -1,0 +1,91 @@
+-- `calls::one_call` meets its contract: refused for its lists, or played.
+use mathlib.Core.Path.{sym, _∙_}
+use Rattle.boards.specs.Calls.{callIn}
+use Rattle.boards.specs.Layout.{Lists, lists}
+use Rattle.refusals.specs.Held.{Accepted}
+use Rattle.refusals.proofs.HeldLaws.{accepted-lists}
+use Rattle.columns.proofs.Passed.{passed-none}
+use Rattle.calls.proofs.PublicLaws.{call-refused, call-played}
+use borrow.Author.Needs.{needs}
+use Rattle.calls.proofs.one_call.Statement.{statement}
+use Rattle.calls.proofs.one_call.Tie as tie
+
+-- the lists at the start
+abbrev lent : tie.Start → Lists
+lent s =
+    let a = s .args in
+    lists (a .board .now) (a .bytes .now) (a .links .now) (a .keys .now) (a .cents .now)
+
+abbrev start : tie.After-board-refusal → tie.Start
+start c = c .before .before .before .before .before .before .before .before .before .before .before
+
+accepted : (c : tie.Else1) → Accepted (start (c .before) .args .table .now) (lent (start (c .before)))
+accepted c = accepted-lists _ _ (sym (c .before .board-refusal .ensures) ∙ c .if1 .left)
+
+board-refusal-requires : tie.Need-board-refusal-requires
+board-refusal-requires c κs = search needs
+
+same-length : tie.Need-same-length
+same-length c = search needs
+
+same-length-2 : tie.Need-same-length-2
+same-length-2 c = search needs
+
+same-length-3 : tie.Need-same-length-3
+same-length-3 c = search needs
+
+same-length-4 : tie.Need-same-length-4
+same-length-4 c = search needs
+
+same-length-5 : tie.Need-same-length-5
+same-length-5 c = search needs
+
+returns : tie.Need-returns
+returns c =
+    let k = c .before in
+    let s = start k in
+    call-refused (s .args .table .now) (lent s) (callIn (s .args .call)) _ (k .board-refusal .ensures) (c .if1 .taken)
+
+play-requires : tie.Need-play-requires
+play-requires c κs = (accepted (c .before .before .before .before .before), passed-none _ _)
+
+same-length-6 : tie.Need-same-length-6
+same-length-6 c = search needs
+
+same-length-7 : tie.Need-same-length-7
+same-length-7 c = search needs
+
+same-length-8 : tie.Need-same-length-8
+same-length-8 c = search needs
+
+same-length-9 : tie.Need-same-length-9
+same-length-9 c = search needs
+
+same-length-10 : tie.Need-same-length-10
+same-length-10 c = search needs
+
+returns-2 : tie.Need-returns-2
+returns-2 c =
+    let p = c .before .before .before .before .before .before .before .before .before in
+    let e = p .before .before .before .before .before .before in
+    let s = start (e .before) in
+    call-played (s .args .table .now) (lent s) (callIn (s .args .call)) _ _ (accepted e) (p .play .ensures .0)
+
+pub one-call-spec : {M : Type 1} → statement M
+one-call-spec =
+    tie.close
+    (tie.spec
+    board-refusal-requires
+    same-length
+    same-length-2
+    same-length-3
+    same-length-4
+    same-length-5
+    returns
+    play-requires
+    same-length-6
+    same-length-7
+    same-length-8
+    same-length-9
+    same-length-10
+    returns-2)
