@@ -4,7 +4,7 @@ ghost use mathlib.Core.Bool.{true};
 ghost use mathlib.Core.List.{[], _∷_, _++_};
 ghost use Prim.Native.Nat.{_+_, _<_, _≤_};
 ghost use lib.Dec.{eqb};
-ghost use lib.ListN.{length, getD, take, drop};
+ghost use lib.ListN.{length, getD, take, drop, replicate};
 ghost use lib.Seq.{paste};
 ghost use Rattle.model.specs.Layout.{flag};
 ghost use Rattle.state.specs.Views.{stepsIn, canStep, idleIs};
@@ -12,6 +12,7 @@ ghost use Rattle.boards.specs.Boards.{zeroSender};
 ghost use Rattle.rows.specs.Decoded.{stateFrom, boardFrom};
 ghost use Rattle.rows.specs.Flat.{stateNumber, phaseNumbers, kind, place, second};
 ghost use Rattle.rows.specs.Flat.{senderNumbers, sendersNumbers, boardNumbers};
+ghost use Rattle.rows.specs.Fresh.{freshSender};
 ghost use Rattle.rows.specs.Fits.{PhaseFits, SenderFits, SendersFit, BoardFits};
 ghost use Rattle.rows.specs.Flat.{phaseOk, senderOk, flatOk};
 use boards::Board;
@@ -278,4 +279,43 @@ pub fn put_board(b: Board, s: &mut [u16])
     put_senders(senders, s);
     s[0] = b.messages;
     s[1] = b.matches;
+}
+
+// An idle sender as it is opened.
+fn fresh_sender() -> Sender
+    ensures { λ r. ⌜ r ≡ freshSender ⌝ }
+{
+    let job = Job {
+        subject: 0,
+        chord: 0,
+        phase: Phase::PassEnd,
+        chosen: [0; 8],
+        retry: false,
+        retries: 0,
+    };
+    Sender {
+        state: State::Idle,
+        signalled: false,
+        own: 0,
+        waker: 0,
+        reply: 0,
+        matched: 0,
+        job: job,
+    }
+}
+
+// The numbers of an empty board: no messages, no matches, every sender idle.
+pub fn put_fresh(s: &mut [u16])
+    requires { ⌜ length (now s) ≡ 674 ⌝ }
+    ensures { λ _. ⌜ now (s .exit) ≡ boardNumbers
+        (record { messages = 0; matches = 0; senders = replicate 32 freshSender }) ⌝ }
+{
+    let idle = fresh_sender();
+    let mut i: usize = 0;
+    while i < 32 {
+        put_sender(idle, s, 2 + 21 * i);
+        i += 1;
+    }
+    s[0] = 0;
+    s[1] = 0;
 }

@@ -1,0 +1,50 @@
+-- `calls::message_in` meets its contract: the columns that the read is lent are those of the lists.
+use mathlib.Core.Path.{ap, _∙_}
+use lib.ListN.{getD}
+use Rattle.calls.proofs.ListReads.{message-by}
+use borrow.Author.Needs.{needs}
+use Rattle.calls.proofs.message_in.Statement.{statement}
+use Rattle.calls.proofs.message_in.Tie as tie
+
+channels-requires : tie.Need-channels-requires
+channels-requires c κs = search needs
+
+properties-requires : tie.Need-properties-requires
+properties-requires c κs = search needs
+
+statuses-requires : tie.Need-statuses-requires
+statuses-requires c κs = search needs
+
+matched-requires : tie.Need-matched-requires
+matched-requires c κs = search needs
+
+wakers-requires : tie.Need-wakers-requires
+wakers-requires c κs = search needs
+
+message-read-requires : tie.Need-message-read-requires
+message-read-requires c κs = search needs
+
+returns : tie.Need-returns
+returns c =
+    let w = c .before in
+    let m = w .before in
+    let t = m .before in
+    let p = t .before in
+    let h = p .before in
+    let a = h .before .before .before .before .args in (
+      message-by (a .cents .now) (a .n) (h .channels .ensures .0) (p .properties .ensures .0) (t .statuses .ensures .0)
+          (m .matched .ensures .0) (w .wakers .ensures .0) (c .message-read .ensures .0),
+      c .message-read .ensures .1 ∙ ap (λ x. getD x (a .n) 0) (t .statuses .ensures .0),
+    )
+
+pub message-in-spec : {M : Type 1} → statement M
+message-in-spec =
+    tie.close
+    (tie.spec
+    channels-requires
+    properties-requires
+    statuses-requires
+    matched-requires
+    wakers-requires
+    message-read-requires
+    returns)

@@ -1,0 +1,90 @@
+-- `rows::put_fresh` meets its contract: each turn writes one idle sender more, then the counts.
+use mathlib.Core.Path.{_≡_, sym, _∙_}
+use Prim.Native.Nat.{_-_, _≤_}
+use borrow.Author.Needs.{needs}
+use lib.ListN.{length, take, set, length-set}
+use native.Mathlib.Omega.{arith}
+use Rattle.rows.proofs.SenderLaws.{sender-long}
+use Rattle.rows.proofs.WalkLaws.{none-written}
+use Rattle.rows.proofs.FreshLaws.{Written, same-next, fresh-end}
+use Rattle.rows.proofs.put_fresh.Statement.{statement}
+use Rattle.rows.proofs.put_fresh.Tie as tie
+
+abbrev Inv-loop : tie.InvT-loop
+Inv-loop s₀ idle i₀ s i = (i ≤ 32) × (length s ≡ 674) × Written idle s (take 2 s₀) i
+
+abbrev μ-loop : tie.MeasureT-loop
+μ-loop s₀ idle i₀ s i = 32 - i
+
+fresh-sender-requires : tie.Need-fresh-sender-requires Inv-loop μ-loop
+fresh-sender-requires c κs = search needs
+
+loop-holds : tie.Need-loop-holds Inv-loop μ-loop
+loop-holds c = (search needs, search needs, none-written (take 2 (c .before .before .args .s .now)))
+
+mul-put-sender : tie.Need-mul-put-sender Inv-loop μ-loop
+mul-put-sender c = search needs
+
+add-put-sender : tie.Need-add-put-sender Inv-loop μ-loop
+add-put-sender c = search needs
+
+put-sender-requires : tie.Need-put-sender-requires Inv-loop μ-loop
+put-sender-requires c κs = search needs
+
+add-i : tie.Need-add-i Inv-loop μ-loop
+add-i c = search needs
+
+loop-less : tie.Need-loop-less Inv-loop μ-loop
+loop-less c = search needs
+
+loop-again : tie.Need-loop-again Inv-loop μ-loop
+loop-again c =
+    let n = c .before .before in
+    let p = n .before .before .before in
+    let f = p .before in
+    let a = f .before .before .args in (
+      search needs,
+      search needs,
+      same-next (f .fresh-sender .result) (p .loop .s) (n .put-sender .last .1 .0) (take 2 (a .s .now)) (p .loop .i)
+          (omega arith) (p .loop .inv .1) (sender-long _ (n .put-sender .ensures .1)) (n .put-sender .ensures .0)
+          (p .loop .inv .2),
+    )
+
+slice-write-s : tie.Need-slice-write-s Inv-loop μ-loop
+slice-write-s c = search needs
+
+slice-write-s-2 : tie.Need-slice-write-s-2 Inv-loop μ-loop
+slice-write-s-2 c = search needs
+
+same-length : tie.Need-same-length Inv-loop μ-loop
+same-length c =
+    let p = c .before in
+    let s = p .loop .s in
+    length-set (set s 0 0) 1 0 ∙ length-set s 0 0 ∙ p .loop .inv .1 ∙ sym (p .before .before .before .pre)
+
+returns : tie.Need-returns Inv-loop μ-loop
+returns c =
+    let p = c .before in
+    let f = p .before in
+    let s = f .before .before in
+    fresh-end (f .fresh-sender .result) (p .loop .s) (s .args .s .now) (p .loop .i) (f .fresh-sender .ensures)
+    (p .loop .inv .1) (omega (arith, s .pre)) (omega arith) (p .loop .inv .2)
+
+pub put-fresh-spec : {M : Type 1} → statement M
+put-fresh-spec =
+    tie.close
+    (tie.spec
+    Inv-loop
+    μ-loop
+    fresh-sender-requires
+    loop-holds
+    mul-put-sender
+    add-put-sender
+    put-sender-requires
+    add-i
+    loop-less
+    loop-again
+    slice-write-s
+    slice-write-s-2
+    same-length
+    returns)
