@@ -18,10 +18,9 @@ ghost use Rattle.calls.specs.Opens.{openNumber, openedNumbers};
 ghost use Rattle.calls.specs.Reads.{quietAnswer, replyNumber, replyAnswer, messageNumber, messageAnswer};
 ghost use Rattle.calls.specs.Reads.{matchNumber, matchAnswer};
 ghost use Rattle.state.specs.Views.{saidIn};
-ghost use Rattle.boards.specs.Calls.{sentIn, callIn};
-ghost use Rattle.plays.specs.Replays.{callRows, refusalAfter};
+ghost use Rattle.boards.specs.Calls.{sentIn};
+ghost use Rattle.plays.specs.Replays.{callRows, callAt, refusalAfter};
 ghost use Rattle.calls.specs.Calls.{Calls, Replays-in};
-use boards::Call;
 use boards::Sent;
 use reads::MatchRead;
 use reads::MessageRead;
@@ -64,7 +63,7 @@ pub fn open(table: &[u8], board: &mut [u16]) -> u8
     0
 }
 
-// One call: the refusals that every board call has, then the call.
+// The one call of a row: the refusals that every board call has, then the call.
 fn one_call(
     table: &[u8],
     board: &mut [u16],
@@ -72,19 +71,33 @@ fn one_call(
     links: &mut [u16],
     keys: &mut [u32],
     cents: &mut [i64],
-    call: Call,
+    calls: &[u16],
+    numbers: &[u32],
+    amounts: &[i64],
 ) -> Said
+    requires { ⌜ (length (now calls) ≡ 3) × (length (now numbers) ≡ 1) × (length (now amounts) ≡ 1) ⌝ }
     ensures { λ r. ⌜ Calls (now (table .entry))
         (lists (now (board .entry)) (now (bytes .entry)) (now (links .entry)) (now (keys .entry)) (now (cents .entry)))
-        (callIn call) (saidIn r)
+        (callAt (callRows (now (calls .entry)) (now (numbers .entry)) (now (amounts .entry))) 0) (saidIn r)
         (lists (now (board .exit)) (now (bytes .exit)) (now (links .exit)) (now (keys .exit)) (now (cents .exit))) ⌝ }
 {
     let number = refusals::board_refusal(table, board, bytes, links, keys, cents);
     if number != 0 {
         return Said::Refused(number);
     }
-    let a = plays::play(table, board, bytes, links, keys, cents, call, 0);
-    a.said
+    let mut answers = [0u32; 1];
+    plays::replay_core(
+        table,
+        board,
+        bytes,
+        links,
+        keys,
+        cents,
+        calls,
+        numbers,
+        amounts,
+        &mut answers,
+    )
 }
 
 // An add of x by sender i.
@@ -103,7 +116,18 @@ pub fn add(
         (adds i (sentIn x)) (saidIn r)
         (lists (now (board .exit)) (now (bytes .exit)) (now (links .exit)) (now (keys .exit)) (now (cents .exit))) ⌝ }
 {
-    one_call(table, board, bytes, links, keys, cents, Call::Add(i, x))
+    let amount = x.cents;
+    one_call(
+        table,
+        board,
+        bytes,
+        links,
+        keys,
+        cents,
+        &[1, i, x.channel],
+        &[x.property],
+        &[amount],
+    )
 }
 
 // A step of sender i.
@@ -121,7 +145,17 @@ pub fn step(
         (steps i) (saidIn r)
         (lists (now (board .exit)) (now (bytes .exit)) (now (links .exit)) (now (keys .exit)) (now (cents .exit))) ⌝ }
 {
-    one_call(table, board, bytes, links, keys, cents, Call::Step(i))
+    one_call(
+        table,
+        board,
+        bytes,
+        links,
+        keys,
+        cents,
+        &[0, i, 0],
+        &[0],
+        &[0],
+    )
 }
 
 // The first refusal of a replay: that of every board call, then 30 for lists of calls that have not as many rows, then

@@ -1,9 +1,10 @@
 -- A call by its move, or refused, on lists that the first tests accept.
-use mathlib.Core.Path.{_≡_, refl, sym, subst, _∙_}
+use mathlib.Core.Path.{_≡_, refl, sym, subst, ap, _∙_}
 use mathlib.Core.Logic.{_≢_}
 use mathlib.Core.Bool.{true}
 use mathlib.Core.List.{List}
-use Prim.Native.Nat.{ℕ}
+use Prim.Native.Nat.{ℕ, _+_}
+use native.Mathlib.Omega.{arith}
 use Rattle.model.specs.Layout.{tableOf}
 use Rattle.model.specs.Effects.{Said, Refused, numberOf}
 use Rattle.model.specs.Pools.{Call}
@@ -17,6 +18,7 @@ use Rattle.writes.specs.Moves.{movedHeld}
 use Rattle.moves.specs.Refused.{callRefusal}
 use Rattle.moves.proofs.RefusedLaws.{refused-call}
 use Rattle.plays.specs.Plays.{PlaysIn}
+use Rattle.plays.specs.Replays.{CallRows, callAt}
 
 module _ (s : List ℕ) (l : Lists) (k : Call) where
   -- the call's move by the sender at place i, written
@@ -42,3 +44,24 @@ module _ (s : List ℕ) (l : Lists) (k : Call) where
     pub accepted-after : (w : Said) (l′ : Lists) → PlaysIn s l k w l′ → Accepted s l′
     accepted-after w l′ p =
         record { numbers = p .numbers; sized = p .sized; accepted = p .plays .accepted (a .accepted) }
+
+-- after k calls of c, the last of which said w: l₀ as it was, or as its first call left it
+pub record First (s : List ℕ) (l₀ : Lists) (c : CallRows) (k : ℕ) (w : Said) (l : Lists) : Type 0 where
+  pub none : k ≡ 0 → l ≡ l₀
+  pub one : k ≡ 1 → PlaysIn s l₀ (callAt c 0) w l
+
+module _ (s : List ℕ) (l₀ : Lists) (c : CallRows) where
+  pub first-none : (w : Said) → First s l₀ c 0 w l₀
+  first-none w = record { none = λ _. refl; one = λ e. absurd (omega (arith, e)) }
+
+  pub first-next : (k : ℕ) (w v : Said) (l l′ : Lists) (j : Call) → First s l₀ c k w l → j ≡ callAt c k
+      → PlaysIn s l j v l′ → First s l₀ c (k + 1) v l′
+  first-next k w v l l′ j p e q = record {
+    none = λ z. absurd (omega (arith, z));
+    one = λ z. go (omega (arith, z));
+  }
+    where
+      go : k ≡ 0 → PlaysIn s l₀ (callAt c 0) v l′
+      go z =
+          subst (λ (g : Lists). PlaysIn s g (callAt c 0) v l′) (p .none z)
+          (subst (λ (i : Call). PlaysIn s l i v l′) (e ∙ ap (callAt c) z) q)

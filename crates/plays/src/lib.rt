@@ -165,7 +165,8 @@ fn call_at(calls: &[u16], numbers: &[u32], amounts: &[i64], k: usize) -> Call
     Call::Add(i, x)
 }
 
-// The calls, one after another, with room for each answer.
+// The calls, one after another, with room for each answer; what is said to the last. Single calls come here as well, so
+// that a step is compiled into one place.
 pub fn replay_core(
     table: &[u8],
     board: &mut [u16],
@@ -177,7 +178,7 @@ pub fn replay_core(
     numbers: &[u32],
     amounts: &[i64],
     answers: &mut [u32],
-)
+) -> Said
     requires { ⌜ Accepted (now table) (lists (now board) (now bytes) (now links) (now keys) (now cents)) ⌝ }
     requires { ⌜ Fit (callRows (now calls) (now numbers) (now amounts)) (length (now answers)) ⌝ }
     ensures { λ _. ⌜ Accepted (now (table .entry))
@@ -189,17 +190,23 @@ pub fn replay_core(
         (now (answers .exit))
         (heldOf (lists (now (board .exit)) (now (bytes .exit)) (now (links .exit)) (now (keys .exit))
         (now (cents .exit)))) ⌝ }
+    ensures { λ r. ⌜ (length (now (amounts .entry)) ≡ 1 → PlaysIn (now (table .entry))
+        (lists (now (board .entry)) (now (bytes .entry)) (now (links .entry)) (now (keys .entry)) (now (cents .entry)))
+        (callAt (callRows (now (calls .entry)) (now (numbers .entry)) (now (amounts .entry))) 0) (saidIn r)
+        (lists (now (board .exit)) (now (bytes .exit)) (now (links .exit)) (now (keys .exit)) (now (cents .exit)))) ⌝ }
 {
+    let mut said = Said::Ended;
     let mut start: u16 = 0;
     let mut k: usize = 0;
     while k < amounts.len() {
         let call = call_at(calls, numbers, amounts, k);
         let a = play(table, board, bytes, links, keys, cents, call, start);
-        let said = a.said;
+        said = a.said;
         answers[k] = answer_number(said);
         start = a.start;
         k += 1;
     }
+    said
 }
 
 // Whether the lists of calls have as many rows.

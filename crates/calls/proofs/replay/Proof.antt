@@ -96,7 +96,7 @@ returns-2 c =
     let k = e .before in
     let s = start k in
     replay-played (s .args .table .now) (lent s) (given s) (s .args .answers .now) _ (number-is k) (e .if1 .left) _ _
-    (may e .0) (p .replay-core .ensures .0) (p .replay-core .ensures .1)
+    (may e .0) (p .replay-core .ensures .0) (p .replay-core .ensures .1 .0)
 
 pub replay-spec : {M : Type 1} → statement M
 replay-spec =

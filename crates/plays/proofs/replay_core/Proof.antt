@@ -7,26 +7,29 @@ use borrow.Author.Needs.{needs, scaled-fits}
 use lib.ListN.{length, getD}
 use Rattle.columns.specs.Columns.{Passed}
 use Rattle.columns.proofs.Passed.{passed-none}
+use Rattle.state.specs.Views.{saidIn}
 use Rattle.boards.specs.Layout.{Lists, lists, statusesIn, Sized}
 use Rattle.rows.proofs.WalkLaws.{all-numbers}
 use Rattle.refusals.specs.Held.{heldOf, Accepted}
 use Rattle.plays.specs.Replays.{callRows}
-use Rattle.plays.proofs.PlayLaws.{accepted-after}
+use Rattle.plays.proofs.PlayLaws.{accepted-after, First, first-none, first-next}
 use Rattle.plays.proofs.ScheduleLaws.{Played, played-none, played-next, played-all}
 use Rattle.plays.proofs.replay_core.Statement.{statement}
 use Rattle.plays.proofs.replay_core.Tie as tie
 
 abbrev Inv-loop : tie.InvT-loop
-Inv-loop table board₀ bytes₀ links₀ keys₀ cents₀ calls numbers amounts answers₀ start₀ k₀ board bytes links keys cents
-    answers start k =
+Inv-loop table board₀ bytes₀ links₀ keys₀ cents₀ calls numbers amounts answers₀ said₀ start₀ k₀ board bytes links keys
+    cents answers said start k =
     Accepted table (lists board bytes links keys cents)
     × Passed start (getD board 0 0) (statusesIn bytes)
     × Played table (heldOf (lists board₀ bytes₀ links₀ keys₀ cents₀)) (callRows calls numbers amounts) answers₀ k
     (heldOf (lists board bytes links keys cents)) answers
+    × First table (lists board₀ bytes₀ links₀ keys₀ cents₀) (callRows calls numbers amounts) k (saidIn said)
+    (lists board bytes links keys cents)
 
 abbrev μ-loop : tie.MeasureT-loop
-μ-loop table board₀ bytes₀ links₀ keys₀ cents₀ calls numbers amounts answers₀ start₀ k₀ board bytes links keys cents
-    answers start k =
+μ-loop table board₀ bytes₀ links₀ keys₀ cents₀ calls numbers amounts answers₀ said₀ start₀ k₀ board bytes links keys
+    cents answers said start k =
     length amounts - k
 
 -- the places of a turn, one before another
@@ -61,7 +64,7 @@ room c = begun (c .before) .good .1 .1 .1 .1 .1 .1 .1 .1 .1 .0 .1
 loop-holds : tie.Need-loop-holds Inv-loop μ-loop
 loop-holds c =
     let s = c .before .before .before .before .before .before .before .before in
-    (s .pre .0, passed-none _ _, played-none _ _ _ _ (s .pre .0 .accepted))
+    (s .pre .0, passed-none _ _, played-none _ _ _ _ (s .pre .0 .accepted), first-none _ (lent s) _ _)
 
 call-at-requires : tie.Need-call-at-requires Inv-loop μ-loop
 call-at-requires c κs =
@@ -106,6 +109,7 @@ loop-again c =
       e .1,
       played-next _ _ _ _ _ _ _ (i .2) _ _ _ _ (k .before .loop-test .taken) (begun a .pre .1 .answers-all)
           (k .call-at .ensures) (e .0 .plays) (c .answer-number .ensures),
+      first-next _ _ _ _ _ _ (holds a) _ _ (i .3) (k .call-at .ensures) (e .0),
     )
 
 -- the lists stay of their lengths
@@ -135,7 +139,8 @@ same-length-6 c = c .before .loop .inv .2 .len
 returns : tie.Need-returns Inv-loop μ-loop
 returns c =
     let i = c .before .loop .inv in
-    (i .0, played-all _ _ _ _ _ _ _ (i .2) (omega arith))
+    let p = i .2 in
+    (i .0, (played-all _ _ _ _ _ _ _ p (omega arith), λ z. i .3 .one (omega (arith, z, p .some, c .loop-test .left))))
 
 pub replay-core-spec : {M : Type 1} → statement M
 replay-core-spec =
