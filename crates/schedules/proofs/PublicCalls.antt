@@ -4,8 +4,8 @@ use mathlib.Core.Logic.{_≢_}
 use mathlib.Core.List.{List, [], _∷_, _++_}
 use Prim.Native.Nat.{ℕ, zero, suc, _≤_}
 use native.Mathlib.Omega.{arith}
-use lib.ListN.{length, getD, drop}
-use Rattle.model.specs.Layout.{tableOf}
+use lib.ListN.{getD, drop}
+use Rattle.model.specs.Layout.{tableOf, tableRefusal}
 use Rattle.model.specs.Tables.{Table}
 use Rattle.model.specs.Boards.{Board, Sender, builtinBackoffs, emptyBoard, noMatch}
 use Rattle.model.specs.Effects.{Said, numberOf, Ended}
@@ -18,10 +18,13 @@ use Rattle.columns.proofs.Messages.{length-messages}
 use Rattle.boards.specs.Calls.{Held}
 use Rattle.boards.proofs.SenderLaws.{nth-sender}
 use Rattle.refusals.specs.Calls.{boardOf, refusalOf, Plays}
-use Rattle.adding.proofs.OpenLaws.{opens-empty, open-accepted}
-use Rattle.replaying.specs.Replays.{callsOf, answerNumbers}
-use Rattle.reading.proofs.ReadLaws.{match-is, message-is, reply-is, quiet-is}
-use Rattle.schedules.specs.Schedules.{PlaysAll, Is-schedule, Reads-as, Keeps-demand-3, Opened, Public-calls}
+use Rattle.boards.specs.Layout.{Lists}
+use Rattle.refusals.specs.Held.{heldIn}
+use Rattle.refusals.proofs.HeldLaws.{held-is}
+use Rattle.plays.specs.Replays.{callsLen, callsOf, answerNumbers}
+use Rattle.calls.proofs.OpenLaws.{unrefused, opened-empty, opened-accepted}
+use Rattle.calls.proofs.ReadLaws.{match-is, message-is, reply-is, quiet-is}
+use Rattle.schedules.specs.Schedules.{Calls-in-turn, Is-schedule, Reads-as, Keeps-demand-3, Opened, Public-calls}
 use Rattle.model.proofs.Numbers.{answer-few}
 
 -- one call on an accepted board says what the model says
@@ -32,48 +35,47 @@ module _ (s : List ℕ) (h : Held) (k : Call) (w : Said) (g : Held) (e : refusal
   not-30 : numberOf w ≢ 30
   not-30 q = omega (arith, ap numberOf said-is, answer-few (tableOf s) (boardOf s h) k)
 
-schedule : (s : List ℕ) (h : Held) (ks : List Call) (ws : List Said) (h′ : Held) → refusalOf s h ≡ 0
-    → PlaysAll s h ks ws h′ → Is-schedule s h ks ws h′
-schedule s h [] ws h′ e p = record {
+schedule : (s : List ℕ) (l : Lists) (ks : List Call) (ws : List Said) (l′ : Lists) → refusalOf s (heldIn l) ≡ 0
+    → Calls-in-turn s l ks ws l′ → Is-schedule s (heldIn l) ks ws (heldIn l′)
+schedule s l [] ws l′ e p = record {
   says = refl;
-  leaves = ap (boardOf s) (p .1);
-  accepted = ap (refusalOf s) (p .1) ∙ e;
+  leaves = ap (λ (x : Lists). boardOf s (heldIn x)) (p .1);
+  accepted = ap (λ (x : Lists). refusalOf s (heldIn x)) (p .1) ∙ e;
   never-30 = λ n q. nothing n (ap (λ (x : List Said). numberOf (getD x n Ended)) (sym (p .0)) ∙ q);
 }
   where
     nothing : (n : ℕ) → numberOf (getD [] n Ended) ≢ 30
     nothing n q = absurd (omega (arith, q))
-schedule s h (k ∷ ks) [] h′ e p = absurd p
-schedule s h (k ∷ ks) (w ∷ ws) h′ e (g, p, rest) =
-    let r = schedule s g ks ws h′ (p .accepted e) rest in
+schedule s l (k ∷ ks) [] l′ e p = absurd p
+schedule s l (k ∷ ks) (w ∷ ws) l′ e (g, c, rest) =
+    let p = c .plays in
+    let r = schedule s g ks ws l′ (p .accepted e) rest in
     let q = p .leaves e in
     record {
-      says = rw (said-is s h k w g e p, r .says, q);
+      says = rw (said-is s (heldIn l) k w (heldIn g) e p, r .says, q);
       leaves = r .leaves ∙ ap (λ (b : Board). afterAll (tableOf s) b ks) q;
       accepted = r .accepted;
       never-30 = never r;
     }
   where
-    never : Is-schedule s g ks ws h′ → (n : ℕ) → numberOf (getD (w ∷ ws) n Ended) ≢ 30
-    never r zero = not-30 s h k w g e p
+    never : Is-schedule s (heldIn g) ks ws (heldIn l′) → (n : ℕ) → numberOf (getD (w ∷ ws) n Ended) ≢ 30
+    never r zero = not-30 s (heldIn l) k w (heldIn g) e (c .plays)
     never r (suc n) = r .never-30 n
 
 -- the reads of an accepted board
 reads-as : (s : List ℕ) (h : Held) → refusalOf s h ≡ 0 → Reads-as s h (boardOf s h)
 reads-as s h e =
-    let c = h .columns in
-    let m = h .matches in
     let t = tableOf s in
     let b = boardOf s h in
     record {
       match-reads = λ k l.
-          sym (match-is s (h .board) c m e k (omega (arith, l, length-from (matchIn t m) 0 (h .board .matches))) .1)
+          sym (match-is s h e k (omega (arith, l, length-from (matchIn t (h .matches)) 0 (h .board .matches))) .1)
           ∙ sym (nth-map (readMatch t b) (b .matches) k noMatch noRead l);
       message-reads = λ n l.
-          sym (message-is s (h .board) c m e n (omega (arith, l, length-messages c 0 (h .board .messages))) .1);
-      reply-reads = λ i l. sym (reply-is s (h .board) c m e i l .1)
+          sym (message-is s h e n (omega (arith, l, length-messages (h .columns) 0 (h .board .messages))) .1);
+      reply-reads = λ i l. sym (reply-is s h e i l .1)
           ∙ ap (λ (d : Sender). d .reply) (nth-sender t (h .board .senders) i);
-      quiet-reads = sym (quiet-is s (h .board) c m e);
+      quiet-reads = sym (quiet-is s h e);
     }
 
 few-said : (t : Table) (b : Board) (ks : List Call) (n : ℕ) (z : Exchange) → numberOf (z .said) ≡ 0
@@ -82,39 +84,43 @@ few-said t b [] n z e = omega (arith, e)
 few-said t b (k ∷ ks) zero z e = answer-few t b k
 few-said t b (k ∷ ks) (suc n) z e = few-said t (answerTo t b k .board) ks n z e
 
-opened : (s : List ℕ) (h : Held) → Opened s h → (refusalOf s h ≡ 0) × (boardOf s h ≡ emptyBoard builtinBackoffs)
-opened s h o = (
-  rw (o .empty) (open-accepted s (h .columns) (h .matches) (o .table) (o .lent)),
-  rw (o .empty) (opens-empty (tableOf s) (h .columns) (h .matches)),
-)
+pub table-opened : (s : List ℕ) (l : Lists) → Opened s l → tableRefusal s ≡ 0
+table-opened s l o = unrefused s (o .before) (o .opens) .0
+
+opened : (s : List ℕ) (l : Lists) → Opened s l
+    → (refusalOf s (heldIn l) ≡ 0) × (boardOf s (heldIn l) ≡ emptyBoard builtinBackoffs)
+opened s l o =
+    let fresh = o .board ∙ unrefused s (o .before) (o .opens) .1 in
+    let a = opened-accepted s l (table-opened s l o) fresh (o .sized) in
+    rw (held-is l (a .numbers) (a .sized)) (a .accepted, opened-empty s l fresh)
 
 -- a board that the calls lead to, accepted
-demand : (s : List ℕ) (h : Held) (ks : List Call) (h′ : Held) → Opened s h → refusalOf s h′ ≡ 0
-    → boardOf s h′ ≡ afterAll (tableOf s) (boardOf s h) ks → Keeps-demand-3 s ks h′
-demand s h ks h′ o a e =
+demand : (s : List ℕ) (l : Lists) (ks : List Call) (h : Held) → Opened s l → refusalOf s h ≡ 0
+    → boardOf s h ≡ afterAll (tableOf s) (boardOf s (heldIn l)) ks → Keeps-demand-3 s ks h
+demand s l ks h o a e =
     let t = tableOf s in
-    let q = e ∙ ap (λ (b : Board). afterAll t b ks) (opened s h o .1) in
+    let q = e ∙ ap (λ (b : Board). afterAll t b ks) (opened s l o .1) in
     record {
       leaves = q;
-      reads = subst (Reads-as s h′) q (reads-as s h′ a);
+      reads = subst (Reads-as s h) q (reads-as s h a);
       accepted = a;
-      run = demand-3 .runs s builtinBackoffs ks (o .table);
-      quietly = λ y. demand-3 .quietly s builtinBackoffs ks (o .table) (sym (ap quiet q) ∙ y);
+      run = demand-3 .runs s builtinBackoffs ks (table-opened s l o);
+      quietly = λ y. demand-3 .quietly s builtinBackoffs ks (table-opened s l o) (sym (ap quiet q) ∙ y);
     }
 
 pub public-calls : Public-calls
 public-calls = record {
   schedule = schedule;
   opened = opened;
-  demand = λ s h ks ws h′ o p.
-      let r = schedule s h ks ws h′ (opened s h o .0) p in
-      (r, demand s h ks h′ o (r .accepted) (r .leaves));
-  replayed = λ s h c before after h′ o p.
-      let r = p .plays refl in (
-        demand s h (callsOf c) h′ o (r .accepted) (r .leaves),
+  demand = λ s l ks ws l′ o p.
+      let r = schedule s l ks ws l′ (opened s l o .0) p in
+      (r, demand s l ks (heldIn l′) o (r .accepted) (r .leaves));
+  replayed = λ s l c before after l′ o p.
+      let r = p .replays .plays refl in (
+        demand s l (callsOf c) (heldIn l′) o (r .accepted) (r .leaves),
         r .says
-            ∙ ap (λ (b : Board). answerNumbers (history (tableOf s) b (callsOf c)) ++ drop (length (c .kinds)) before)
-            (opened s h o .1),
+            ∙ ap (λ (b : Board). answerNumbers (history (tableOf s) b (callsOf c)) ++ drop (callsLen c) before)
+            (opened s l o .1),
       );
   history-never-30 = λ s h ks n z e q. omega (arith, q, few-said (tableOf s) (boardOf s h) ks n z e);
 }

@@ -15,11 +15,13 @@ use Rattle.columns.specs.MatchColumns.{matchIn}
 use Rattle.columns.proofs.ListFrom.{length-from}
 use Rattle.columns.proofs.Messages.{length-messages}
 use Rattle.boards.specs.Calls.{Held}
+use Rattle.boards.specs.Layout.{Lists}
+use Rattle.refusals.specs.Held.{heldIn}
 use Rattle.refusals.specs.Calls.{boardOf}
-use Rattle.reading.specs.Answers.{matchNumber, matchAnswer, messageNumber, messageAnswer, replyNumber, replyAnswer}
-use Rattle.reading.proofs.ReadLaws.{match-is, match-none, message-is, message-none, reply-is, reply-none}
-use Rattle.replaying.specs.Replays.{callsOf, answerNumbers}
-use Rattle.schedules.specs.Schedules.{PlaysAll, exchanges, Opened, Reads-as, Keeps-demand-3}
+use Rattle.calls.specs.Reads.{matchNumber, matchAnswer, messageNumber, messageAnswer, replyNumber, replyAnswer}
+use Rattle.calls.proofs.ReadLaws.{match-is, match-none, message-is, message-none, reply-is, reply-none}
+use Rattle.plays.specs.Replays.{callsLen, callsOf, answerNumbers}
+use Rattle.schedules.specs.Schedules.{Calls-in-turn, exchanges, Opened, Reads-as, Keeps-demand-3}
 use Rattle.schedules.specs.Merged.{Alike, Reads-alike, Own-calls, Merged-calls}
 use Rattle.schedules.proofs.PublicCalls.{public-calls}
 
@@ -72,37 +74,37 @@ module _ (s z ms : List ℕ) (ks : List Call) (h g : Held) (e : mergeRefusal s z
   match-alike k =
       by-range k (length (b .matches))
       (λ l.
-      let x = match-is s (h .board) (h .columns) (h .matches) (d .accepted) k (rw matches-first at l) in
-      let y = match-is v (g .board) (g .columns) (g .matches) (d′ .accepted) k (rw matches-merged at l) in
+      let x = match-is s h (d .accepted) k (rw matches-first at l) in
+      let y = match-is v g (d′ .accepted) k (rw matches-merged at l) in
       let r = ap (λ (xs : List MatchRead). getD xs k noRead) reads-same in
       (sym (y .0) ∙ x .0, merged-reads .match-reads k l ∙ r ∙ sym (d .reads .match-reads k l)))
       (λ l.
-      let x = match-none s (h .board) (h .columns) (h .matches) (d .accepted) k (rw matches-first at l) in
-      let y = match-none v (g .board) (g .columns) (g .matches) (d′ .accepted) k (rw matches-merged at l) in
+      let x = match-none s h (d .accepted) k (rw matches-first at l) in
+      let y = match-none v g (d′ .accepted) k (rw matches-merged at l) in
       (sym (y .0) ∙ x .0, sym (y .1) ∙ x .1))
 
   message-alike : (n : ℕ) → Alike messageNumber s h v g n × Alike messageAnswer s h v g n
   message-alike n =
       by-range n (length (b .messages))
       (λ l.
-      let x = message-is s (h .board) (h .columns) (h .matches) (d .accepted) n (rw messages-first at l) in
-      let y = message-is v (g .board) (g .columns) (g .matches) (d′ .accepted) n (rw messages-merged at l) in
+      let x = message-is s h (d .accepted) n (rw messages-first at l) in
+      let y = message-is v g (d′ .accepted) n (rw messages-merged at l) in
       (sym (y .0) ∙ x .0, merged-reads .message-reads n l ∙ sym (d .reads .message-reads n l)))
       (λ l.
-      let x = message-none s (h .board) (h .columns) (h .matches) (d .accepted) n (rw messages-first at l) in
-      let y = message-none v (g .board) (g .columns) (g .matches) (d′ .accepted) n (rw messages-merged at l) in
+      let x = message-none s h (d .accepted) n (rw messages-first at l) in
+      let y = message-none v g (d′ .accepted) n (rw messages-merged at l) in
       (sym (y .0) ∙ x .0, sym (y .1) ∙ x .1))
 
   reply-alike : (i : ℕ) → Alike replyNumber s h v g i × Alike replyAnswer s h v g i
   reply-alike i =
       by-range i 32
       (λ l.
-      let x = reply-is s (h .board) (h .columns) (h .matches) (d .accepted) i l in
-      let y = reply-is v (g .board) (g .columns) (g .matches) (d′ .accepted) i l in
+      let x = reply-is s h (d .accepted) i l in
+      let y = reply-is v g (d′ .accepted) i l in
       (sym (y .0) ∙ x .0, merged-reads .reply-reads i l ∙ sym (d .reads .reply-reads i l)))
       (λ l.
-      let x = reply-none s (h .board) (h .columns) (h .matches) (d .accepted) i l in
-      let y = reply-none v (g .board) (g .columns) (g .matches) (d′ .accepted) i l in
+      let x = reply-none s h (d .accepted) i l in
+      let y = reply-none v g (d′ .accepted) i l in
       (sym (y .0) ∙ x .0, sym (y .1) ∙ x .1))
 
   alike : Reads-alike s h v g
@@ -123,41 +125,41 @@ rest : List Exchange → List Exchange
 rest [] = []
 rest (x ∷ xs) = xs
 
-same-said : (s z : List ℕ) (h h′ g g′ : Held) (ks : List Call) (ws vs : List Said) → PlaysAll s h ks ws h′
-    → PlaysAll z g ks vs g′ → exchanges ks vs ≡ exchanges ks ws → vs ≡ ws
+same-said : (s z : List ℕ) (l l′ m m′ : Lists) (ks : List Call) (ws vs : List Said) → Calls-in-turn s l ks ws l′
+    → Calls-in-turn z m ks vs m′ → exchanges ks vs ≡ exchanges ks ws → vs ≡ ws
 unfolding said-first rest
-same-said s z h h′ g g′ [] ws vs p q e = q .0 ∙ sym (p .0)
-same-said s z h h′ g g′ (k ∷ ks) [] vs p q e = absurd p
-same-said s z h h′ g g′ (k ∷ ks) (w ∷ ws) [] p q e = absurd q
-same-said s z h h′ g g′ (k ∷ ks) (w ∷ ws) (v ∷ vs) p q e =
+same-said s z l l′ m m′ [] ws vs p q e = q .0 ∙ sym (p .0)
+same-said s z l l′ m m′ (k ∷ ks) [] vs p q e = absurd p
+same-said s z l l′ m m′ (k ∷ ks) (w ∷ ws) [] p q e = absurd q
+same-said s z l l′ m m′ (k ∷ ks) (w ∷ ws) (v ∷ vs) p q e =
     let a : v ≡ w = ap said-first e in
-    rw (a, same-said s z (p .0) h′ (q .0) g′ ks ws vs (p .2) (q .2) (ap rest e))
+    rw (a, same-said s z (p .0) l′ (q .0) m′ ks ws vs (p .2) (q .2) (ap rest e))
 
-says-is : (s : List ℕ) (h h′ : Held) (ks : List Call) (ws : List Said) → Opened s h → PlaysAll s h ks ws h′
+says-is : (s : List ℕ) (l l′ : Lists) (ks : List Call) (ws : List Said) → Opened s l → Calls-in-turn s l ks ws l′
     → exchanges ks ws ≡ history (tableOf s) (emptyBoard builtinBackoffs) ks
-says-is s h h′ ks ws o p =
-    public-calls .demand s h ks ws h′ o p .0 .says
-    ∙ ap (λ (b : Board). history (tableOf s) b ks) (public-calls .opened s h o .1)
+says-is s l l′ ks ws o p =
+    public-calls .demand s l ks ws l′ o p .0 .says
+    ∙ ap (λ (b : Board). history (tableOf s) b ks) (public-calls .opened s l o .1)
 
 pub merged-calls : Merged-calls
 merged-calls = record {
-  same = λ s z ms h h′ g g′ ks ws vs e own o p o′ q.
+  same = λ s z ms l l′ m m′ ks ws vs e own o p o′ q.
       let t = mergedBytes s z ms in (
-        same-said s t h h′ g g′ ks ws vs p q
-            (says-is t g g′ ks vs o′ q
+        same-said s t l l′ m m′ ks ws vs p q
+            (says-is t m m′ ks vs o′ q
             ∙ merges .same s z ms builtinBackoffs ks e own .answers
-            ∙ sym (says-is s h h′ ks ws o p)),
-        alike s z ms ks h′ g′ e own (public-calls .demand s h ks ws h′ o p .1)
-            (public-calls .demand t g ks vs g′ o′ q .1),
+            ∙ sym (says-is s l l′ ks ws o p)),
+        alike s z ms ks (heldIn l′) (heldIn m′) e own (public-calls .demand s l ks ws l′ o p .1)
+            (public-calls .demand t m ks vs m′ o′ q .1),
       );
-  replayed = λ s z ms h h′ g g′ c before after after′ e own o p o′ q.
+  replayed = λ s z ms l l′ m m′ c before after after′ e own o p o′ q.
       let t = mergedBytes s z ms in
-      let a = public-calls .replayed s h c before after h′ o p in
-      let b = public-calls .replayed t g c before after′ g′ o′ q in (
+      let a = public-calls .replayed s l c before after l′ o p in
+      let b = public-calls .replayed t m c before after′ m′ o′ q in (
         b .1
-            ∙ ap (λ (xs : List Exchange). answerNumbers xs ++ drop (length (c .kinds)) before)
+            ∙ ap (λ (xs : List Exchange). answerNumbers xs ++ drop (callsLen c) before)
             (merges .same s z ms builtinBackoffs (callsOf c) e own .answers)
             ∙ sym (a .1),
-        alike s z ms (callsOf c) h′ g′ e own (a .0) (b .0),
+        alike s z ms (callsOf c) (heldIn l′) (heldIn m′) e own (a .0) (b .0),
       );
 }

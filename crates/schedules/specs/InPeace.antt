@@ -7,23 +7,25 @@ use Rattle.model.specs.Layout.{tableOf}
 use Rattle.model.specs.Effects.{Said, Refused}
 use Rattle.model.specs.Pools.{Call, steps}
 use Rattle.alone.specs.Alone.{In-peace, mostSteps}
-use Rattle.boards.specs.Calls.{Held}
-use Rattle.refusals.specs.Calls.{boardOf, Plays}
-use Rattle.schedules.specs.Schedules.{PlaysAll, Opened}
+use Rattle.boards.specs.Layout.{Lists}
+use Rattle.refusals.specs.Held.{heldIn}
+use Rattle.refusals.specs.Calls.{boardOf}
+use Rattle.calls.specs.Calls.{Calls}
+use Rattle.schedules.specs.Schedules.{Calls-in-turn, Opened}
 
--- after so many public steps of sender i, or more, the next is refused 13 and leaves everything as found, byte for byte
-pub record Comes-to-rest (s : List ℕ) (h : Held) (i : ℕ) : Type 0 where
+-- after so many public steps of sender i, or more, the next is refused 13 and leaves every list as found
+pub record Comes-to-rest (s : List ℕ) (l : Lists) (i : ℕ) : Type 0 where
   pub count : ℕ
   pub few : count ≤ mostSteps
-  pub then-13 : (n : ℕ) (ws : List Said) (g : Held) → count ≤ n → PlaysAll s h (replicate n (steps i)) ws g
-      → (w : Said) (g′ : Held) → Plays s g (steps i) w g′ → (w ≡ Refused 13) × (g′ ≡ g)
+  pub then-13 : (n : ℕ) (ws : List Said) (g : Lists) → count ≤ n → Calls-in-turn s l (replicate n (steps i)) ws g
+      → (w : Said) (g′ : Lists) → Calls s g (steps i) w g′ → (w ≡ Refused 13) × (g′ ≡ g)
 
 -- from any board that public calls reach, with no other sender holding a claimed message
 abbrev pub Public-peace : Type 0
 Public-peace =
-    (s : List ℕ) (h : Held) (ks : List Call) (ws : List Said) (h′ : Held) (i : ℕ)
-    → Opened s h
-    → PlaysAll s h ks ws h′
+    (s : List ℕ) (l : Lists) (ks : List Call) (ws : List Said) (l′ : Lists) (i : ℕ)
+    → Opened s l
+    → Calls-in-turn s l ks ws l′
     → i < 32
-    → In-peace (tableOf s) (boardOf s h′) i
-    → Comes-to-rest s h′ i
+    → In-peace (tableOf s) (boardOf s (heldIn l′)) i
+    → Comes-to-rest s l′ i

@@ -5,24 +5,25 @@ use mathlib.Core.Bool.{true}
 use mathlib.Core.List.{List, [], _∷_, _++_}
 use Prim.Native.Nat.{ℕ, _<_}
 use lib.ListN.{length, getD, drop}
-use Rattle.model.specs.Layout.{tableOf, tableRefusal}
+use Rattle.model.specs.Layout.{tableOf}
 use Rattle.model.specs.Boards.{Board, builtinBackoffs, emptyBoard, messageAt, senderAt}
 use Rattle.model.specs.Effects.{Said, numberOf, Ended}
 use Rattle.model.specs.Pools.{Call, Exchange, afterAll, history, quiet, matchReads, noRead}
 use Rattle.model.specs.Demands.{boardAfter, Run-of, Quiet-at}
 use Rattle.boards.specs.Calls.{Held}
-use Rattle.refusals.specs.Judged.{Lengths}
-use Rattle.refusals.specs.Calls.{boardOf, refusalOf, Plays}
-use Rattle.reading.specs.Answers.{matchAnswer, messageAnswer, replyAnswer, quietAnswer}
-use Rattle.adding.specs.Opens.{emptyHeld}
-use Rattle.replaying.specs.Replays.{CallColumns, callsOf, answerNumbers, Replays}
+use Rattle.boards.specs.Layout.{Lists, Sized}
+use Rattle.refusals.specs.Held.{heldIn}
+use Rattle.refusals.specs.Calls.{boardOf, refusalOf}
+use Rattle.plays.specs.Replays.{CallRows, callsLen, callsOf, answerNumbers}
+use Rattle.calls.specs.Reads.{matchAnswer, messageAnswer, replyAnswer, quietAnswer}
+use Rattle.calls.specs.Opens.{openNumber, openedNumbers}
+use Rattle.calls.specs.Calls.{Calls, Replays-in}
 
--- the calls, and what was said to them, from h to h′: "A schedule hands each call the board that the one before
--- returned, the same table and the item list as left; nothing else writes them"
-abbrev pub PlaysAll : List ℕ → Held → List Call → List Said → Held → Type 0
-PlaysAll s h [] ws h′ = (ws ≡ []) × (h′ ≡ h)
-PlaysAll s h (k ∷ ks) [] h′ = ⊥
-PlaysAll s h (k ∷ ks) (w ∷ ws) h′ = (g : Held) × Plays s h k w g × PlaysAll s g ks ws h′
+-- the calls, and what was said to them, from l to l′: each call is lent the lists that the one before left
+abbrev pub Calls-in-turn : List ℕ → Lists → List Call → List Said → Lists → Type 0
+Calls-in-turn s l [] ws l′ = (ws ≡ []) × (l′ ≡ l)
+Calls-in-turn s l (k ∷ ks) [] l′ = ⊥
+Calls-in-turn s l (k ∷ ks) (w ∷ ws) l′ = (g : Lists) × Calls s l k w g × Calls-in-turn s g ks ws l′
 
 abbrev pub exchanges : List Call → List Said → List Exchange
 exchanges [] ws = []
@@ -39,12 +40,11 @@ pub record Is-schedule (s : List ℕ) (h : Held) (ks : List Call) (ws : List Sai
 -- what the reads answer on h is what b holds
 pub record Reads-as (s : List ℕ) (h : Held) (b : Board) : Type 0 where
   pub match-reads : (k : ℕ) → k < length (b .matches)
-      → matchAnswer s (h .board) (h .columns) (h .matches) k ≡ getD (matchReads (tableOf s) b) k noRead
+      → matchAnswer s h k ≡ getD (matchReads (tableOf s) b) k noRead
   pub message-reads : (n : ℕ) → n < length (b .messages)
-      → messageAnswer s (h .board) (h .columns) (h .matches) n ≡ messageAt b n
-  pub reply-reads : (i : ℕ) → i < 32
-      → replyAnswer s (h .board) (h .columns) (h .matches) i ≡ senderAt b i .reply
-  pub quiet-reads : quietAnswer s (h .board) (h .columns) (h .matches) ≡ quiet b
+      → messageAnswer s h n ≡ messageAt b n
+  pub reply-reads : (i : ℕ) → i < 32 → replyAnswer s h i ≡ senderAt b i .reply
+  pub quiet-reads : quietAnswer s h ≡ quiet b
 
 -- h′ and its reads are those that demand 3 speaks of after these calls
 pub record Keeps-demand-3 (s : List ℕ) (ks : List Call) (h′ : Held) : Type 0 where
@@ -54,23 +54,25 @@ pub record Keeps-demand-3 (s : List ℕ) (ks : List Call) (h′ : Held) : Type 0
   pub run : Run-of (tableOf s) builtinBackoffs ks
   pub quietly : quiet (boardOf s h′) ≡ true → Quiet-at (tableOf s) builtinBackoffs ks
 
--- a board just opened, with an accepted table and lent lists that hold anything
-pub record Opened (s : List ℕ) (h : Held) : Type 0 where
-  pub table : tableRefusal s ≡ 0
-  pub empty : h .board ≡ emptyHeld
-  pub lent : Lengths (h .columns) (h .matches)
+-- lists whose board was just opened; the others are of their lengths and hold anything
+pub record Opened (s : List ℕ) (l : Lists) : Type 0 where
+  pub before : List ℕ
+  pub opens : openNumber s before ≡ 0
+  pub board : l .board ≡ openedNumbers s before
+  pub sized : Sized l
 
 pub record Public-calls : Type 0 where
-  pub schedule : (s : List ℕ) (h : Held) (ks : List Call) (ws : List Said) (h′ : Held)
-      → refusalOf s h ≡ 0 → PlaysAll s h ks ws h′ → Is-schedule s h ks ws h′
-  pub opened : (s : List ℕ) (h : Held) → Opened s h
-      → (refusalOf s h ≡ 0) × (boardOf s h ≡ emptyBoard builtinBackoffs)
-  pub demand : (s : List ℕ) (h : Held) (ks : List Call) (ws : List Said) (h′ : Held)
-      → Opened s h → PlaysAll s h ks ws h′ → Is-schedule s h ks ws h′ × Keeps-demand-3 s ks h′
-  pub replayed : (s : List ℕ) (h : Held) (c : CallColumns) (before after : List ℕ) (h′ : Held)
-      → Opened s h → Replays s h c before after 0 h′ → Keeps-demand-3 s (callsOf c) h′
+  pub schedule : (s : List ℕ) (l : Lists) (ks : List Call) (ws : List Said) (l′ : Lists)
+      → refusalOf s (heldIn l) ≡ 0 → Calls-in-turn s l ks ws l′ → Is-schedule s (heldIn l) ks ws (heldIn l′)
+  pub opened : (s : List ℕ) (l : Lists) → Opened s l
+      → (refusalOf s (heldIn l) ≡ 0) × (boardOf s (heldIn l) ≡ emptyBoard builtinBackoffs)
+  pub demand : (s : List ℕ) (l : Lists) (ks : List Call) (ws : List Said) (l′ : Lists)
+      → Opened s l → Calls-in-turn s l ks ws l′
+      → Is-schedule s (heldIn l) ks ws (heldIn l′) × Keeps-demand-3 s ks (heldIn l′)
+  pub replayed : (s : List ℕ) (l : Lists) (c : CallRows) (before after : List ℕ) (l′ : Lists)
+      → Opened s l → Replays-in s l c before after 0 l′ → Keeps-demand-3 s (callsOf c) (heldIn l′)
       × (after ≡ answerNumbers (history (tableOf s) (emptyBoard builtinBackoffs) (callsOf c))
-      ++ drop (length (c .kinds)) before)
+      ++ drop (callsLen c) before)
   -- whatever is called, no answer of a schedule is 30
   pub history-never-30 : (s : List ℕ) (h : Held) (ks : List Call) (n : ℕ) (z : Exchange) → numberOf (z .said) ≡ 0
       → numberOf (getD (history (tableOf s) (boardOf s h) ks) n z .said) ≢ 30
