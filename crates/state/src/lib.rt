@@ -311,7 +311,7 @@ fn job_at(subject: u16, chord: u8, phase: Phase, retry: bool, retries: u8) -> Jo
 }
 
 // A pass over the chords that name the subject's channel, from a chord on.
-pub fn pass_from(table: &[u8], subject: u16, channel: u8, from: u8, retry: bool, retries: u8) -> Job
+fn pass_from(table: &[u8], subject: u16, channel: u8, from: u8, retry: bool, retries: u8) -> Job
     requires { ⌜ tableRefusal (now table) ≡ 0 ⌝ }
     ensures { λ r. ⌜ jobIn (tableOf (now (table .entry))) r
         ≡ MJ.passFrom (tableOf (now (table .entry))) subject channel from retry retries ⌝ }
