@@ -6,8 +6,7 @@ use mathlib.Core.Bool.{true, false}
 use Prim.Native.Nat.{ℕ, suc}
 use native.Mathlib.Omega.{arith}
 use Rattle.model.specs.Tables.{Table, isSync}
-use Rattle.model.specs.Boards.{Board, senderAt, messageAt, channelOf, pending, working}
-use Rattle.model.specs.Jobs.{passFrom}
+use Rattle.model.specs.Boards.{Board, senderAt, messageAt, channelOf, pending}
 use Rattle.model.proofs.Tests.{never}
 use Rattle.alone.proofs.Calm.{Calm, Within, now-idle}
 use Rattle.alone.proofs.Ended.{Ended, Exit, to-idle, to-blocked, to-waker}

@@ -7,9 +7,9 @@ use lib.ListN.{getD}
 use native.Mathlib.Omega.{arith}
 use Rattle.model.specs.Tables.{Table}
 use Rattle.model.specs.Boards.{Board, Job, Message, Status, senderAt, messageAt, noMessage, working, backoff}
-use Rattle.model.specs.Effects.{apply, messagesAfter, does}
-use Rattle.model.specs.Jobs.{passFrom, atNoChord}
-use Rattle.model.specs.Steps.{stepBy, backoff-step, restsThen}
+use Rattle.model.specs.Effects.{apply, messagesAfter}
+use Rattle.model.specs.Jobs.{passFrom}
+use Rattle.model.specs.Steps.{backoff-step, restsThen}
 use Rattle.model.proofs.AtWork.{AtWork}
 use Rattle.alone.proofs.Calm.{Calm, Within, within-more, later, next, working-at, work-step}
 use Rattle.alone.proofs.Fresh.{Starts}

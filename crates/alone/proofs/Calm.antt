@@ -3,7 +3,6 @@ use mathlib.Core.Path.{_≡_, _∙_, ap, subst, subst⁻¹}
 use mathlib.Core.Logic.{_⊎_, inl, inr, _≢_}
 use mathlib.Core.Bool.{Bool, true, false}
 use Prim.Native.Nat.{ℕ, zero, suc, _-_, _≤_, _<_}
-use lib.ListN.{length}
 use native.Mathlib.Omega.{arith}
 use Rattle.model.specs.Tables.{Table}
 use Rattle.model.specs.Boards.{Board, Job, Phase, State, senderAt, working, idle, blocked}

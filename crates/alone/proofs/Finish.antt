@@ -13,7 +13,7 @@ use Rattle.model.specs.Tables as Tables
 use Rattle.model.specs.Boards.{Board, Job, Sender, senderAt, messageAt, channelOf}
 use Rattle.model.specs.Boards.{consumed, consume, tell, wake, free, signal}
 use Rattle.model.specs.Effects.{Effect, apply, messagesAfter, turn, consumes, does, statusAfter}
-use Rattle.model.specs.Jobs.{inJob, inPhase, job-end}
+use Rattle.model.specs.Jobs.{inJob, inPhase}
 use Rattle.model.specs.Steps.{stepBy, consume-step, consumedTo, consumedEnd, withMatched, toTell, tell-step}
 use Rattle.model.specs.Steps.{toldTo, wake-step, free-step, signal-step}
 use Rattle.model.proofs.Tests.{same?, tests}
@@ -23,7 +23,6 @@ use Rattle.model.proofs.Phases.{isResume, turn-wakes}
 use Rattle.model.proofs.Passage.{After, same, turned-by, grows}
 use Rattle.model.proofs.Local.{Full}
 use Rattle.model.proofs.Covers.{full-subject}
-use Rattle.model.proofs.AcceptedChords.{TableOk}
 use Rattle.model.proofs.AtWork.{AtWork}
 use Rattle.alone.proofs.Calm.{Calm, Within, within-more, later, Next, next, work-step, goes-on, Goes, enough}
 use Rattle.alone.proofs.Calm.{goes, runs}

@@ -11,17 +11,17 @@ use lib.ListN.{length, getD}
 use native.Mathlib.Omega.{arith}
 use Rattle.model.specs.Basics.{pick}
 use Rattle.model.specs.Tables.{Table, size, naming, wakes}
-use Rattle.model.specs.Boards.{Board, Job, Message, senderAt, messageAt, channelOf, isOpen}
-use Rattle.model.specs.Boards.{pending, claimed, isPending, look, claim, wake, consume, pass-end, working}
+use Rattle.model.specs.Boards.{Board, Job, senderAt, messageAt, channelOf, isOpen}
+use Rattle.model.specs.Boards.{pending, claimed, isPending, look, claim, pass-end, working}
 use Rattle.model.specs.Effects.{Effect, apply, messagesAfter, does, none, turn, claims}
-use Rattle.model.specs.Jobs.{withChosen, passFrom, nextChord, job-end}
+use Rattle.model.specs.Jobs.{withChosen, passFrom, nextChord}
 use Rattle.model.specs.Looks.{choice}
-use Rattle.model.specs.Steps.{stepBy, look-step, lookedBy, claim-step, claimedBy, claimsTo, fires, pass-end-step}
+use Rattle.model.specs.Steps.{stepBy, look-step, lookedBy, claim-step, claimedBy, pass-end-step}
 use Rattle.model.specs.Steps.{passEndBy}
 use Rattle.model.proofs.Tests.{never}
 use Rattle.model.proofs.Jobs.{pass-by}
 use Rattle.model.proofs.Chords.{names-le}
-use Rattle.model.proofs.Passage.{Passage, After, same, turned-by}
+use Rattle.model.proofs.Passage.{After, same, turned-by}
 use Rattle.model.proofs.Choice.{snoc-all}
 use Rattle.model.proofs.AtWork.{AtWork}
 use Rattle.alone.proofs.Room.{room}

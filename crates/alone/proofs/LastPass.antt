@@ -1,15 +1,14 @@
 -- The last pass: the waker in hand, and the sender's own message is not woken and meets nothing, so this pass cannot
 -- wake it.
-use mathlib.Core.Path.{_≡_, refl, sym, _∙_, ap, subst⁻¹}
+use mathlib.Core.Path.{_≡_, refl, sym, _∙_, ap}
 use mathlib.Core.Logic.{_⊎_, inl, inr, _≢_}
-use mathlib.Core.Bool.{true, false}
+use mathlib.Core.Bool.{false}
 use Prim.Native.Nat.{ℕ, suc}
 use lib.ListN.{length}
 use native.Mathlib.Omega.{arith}
-use Rattle.model.specs.Tables.{Table, isSync}
-use Rattle.model.specs.Boards.{Board, Job, senderAt, messageAt, channelOf, pending, woken, working, wake}
+use Rattle.model.specs.Tables.{Table}
+use Rattle.model.specs.Boards.{Board, Job, senderAt, messageAt, pending, woken, wake}
 use Rattle.model.specs.Effects.{Effect, apply, claims, frees, consumes, wakes-by, resumes, turn}
-use Rattle.model.specs.Jobs.{passFrom}
 use Rattle.model.specs.Steps.{wake-step, wokenOf}
 use Rattle.model.proofs.Grows.{apart}
 use Rattle.model.proofs.Passage.{After, same, turned-by}

@@ -1,3 +1,4 @@
+-- A sender left in peace finishes (docs/PROOF.md), each file after those that it builds on.
 pub mod Rests
 pub mod Room
 pub mod Calm

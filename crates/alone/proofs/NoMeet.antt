@@ -15,7 +15,7 @@ use Rattle.model.specs.Boards.{Board, Job, messageAt, channelOf, isOpen, isPend
 use Rattle.model.specs.Effects.{Effect, apply, claims, frees, consumes, wakes-by, resumes}
 use Rattle.model.specs.Looks.{choice}
 use Rattle.model.specs.Steps.{wokenOf}
-use Rattle.model.proofs.Tests.{never, same?, tested}
+use Rattle.model.proofs.Tests.{never, same?}
 use Rattle.model.proofs.Lists.{isIn-nth, nth-isIn}
 use Rattle.model.proofs.Chords.{names-not, wakes-first}
 use Rattle.model.proofs.Frame.{messages-count}

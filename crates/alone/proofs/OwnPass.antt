@@ -3,18 +3,16 @@
 use mathlib.Core.Path.{_≡_, refl, sym, _∙_, ap, subst, subst⁻¹}
 use mathlib.Core.Logic.{_⊎_, inl, inr, _≢_}
 use mathlib.Core.Bool.{true, false}
-use mathlib.Core.List.{List}
 use Prim.Native.Nat.{ℕ, suc, _-_, _≤_, _<_}
 use lib.ListN.{length, getD}
 use native.Mathlib.Omega.{arith}
 use Rattle.model.specs.Tables.{Table, isSync}
-use Rattle.model.specs.Boards.{Board, Message, senderAt, messageAt, noMessage, channelOf, pending, woken, consumed}
+use Rattle.model.specs.Boards.{Board, senderAt, messageAt, noMessage, channelOf, pending, woken, consumed}
 use Rattle.model.specs.Boards.{isOpen, blocked, working}
 use Rattle.model.specs.Effects.{Effect, Change, apply, does, none, turn, messagesAfter, resumes, statusAfter}
-use Rattle.model.specs.Jobs.{passFrom, newPass}
+use Rattle.model.specs.Jobs.{passFrom}
 use Rattle.model.specs.Steps.{stepBy, resumeBy}
 use Rattle.model.proofs.Tests.{never}
-use Rattle.model.proofs.Frame.{messages-count}
 use Rattle.model.proofs.Grows.{apart}
 use Rattle.model.proofs.Passage.{After, same, turned-by, on-board}
 use Rattle.model.proofs.Phases.{isResume}

@@ -11,9 +11,9 @@ use native.Mathlib.Omega.{arith}
 use Rattle.model.specs.Basics.{pick}
 use Rattle.model.specs.Tables.{Table, size, wakes}
 use Rattle.model.specs.Boards.{Board, Job, senderAt, messageAt, channelOf, isPending, isOpen}
-use Rattle.model.specs.Boards.{look, claim, revert, wake, consume, pass-end, working}
+use Rattle.model.specs.Boards.{look, claim, revert, pass-end, working}
 use Rattle.model.specs.Effects.{Effect, apply, does}
-use Rattle.model.specs.Jobs.{inPhase, withChosen, withRetry, passFrom}
+use Rattle.model.specs.Jobs.{withChosen, passFrom}
 use Rattle.model.specs.Looks.{choice, missedRetry}
 use Rattle.model.specs.Steps.{stepBy, look-step, lookedBy, claim-step, claimedBy, loses, revert-step, revertedTo}
 use Rattle.model.proofs.Tests.{same?, tests}

@@ -1,7 +1,7 @@
 -- How many a job has to tell: never its subject, and none where the subject is asynchronous and matches.
-use mathlib.Core.Path.{_≡_, refl, sym, _∙_, ap, subst}
+use mathlib.Core.Path.{_≡_, refl, sym, _∙_}
 use mathlib.Core.Logic.{_⊎_, inl, inr}
-use mathlib.Core.Bool.{Bool, true, false, _&&_, _||_, not}
+use mathlib.Core.Bool.{Bool, true, false, _&&_, not}
 use mathlib.Core.List.{List, [], _∷_}
 use Prim.Native.Nat.{ℕ, suc, _≤_, _<_}
 use borrow.Author.Tests.{eq-eqb, eqb-true}
@@ -9,10 +9,10 @@ use lib.Dec.{eqb}
 use lib.ListN.{length, getD}
 use native.Mathlib.Omega.{arith}
 use Rattle.model.specs.Basics.{isIn}
-use Rattle.model.specs.Tables.{Table, isSync, wakes, firstSync, size, channelAt, chordAt}
-use Rattle.model.specs.Boards.{Board, Message, noMessage, messageAt, channelOf}
+use Rattle.model.specs.Tables.{Table, isSync, wakes, firstSync, channelAt, chordAt}
+use Rattle.model.specs.Boards.{Board, Message, noMessage, channelOf}
 use Rattle.model.specs.Steps.{toTell, keepIf}
-use Rattle.model.proofs.Tests.{never, either, tested, tests}
+use Rattle.model.proofs.Tests.{never, either, tested}
 use Rattle.model.proofs.Lists.{first-in}
 use Rattle.model.proofs.Chords.{wakes-if}
 use Rattle.model.proofs.Local.{Full}

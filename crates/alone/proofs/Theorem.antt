@@ -1,9 +1,8 @@
 -- Request 12: a sender left in peace finishes.
 use mathlib.Core.Path.{_≡_, refl, _∙_, ap, subst}
 use mathlib.Core.Logic.{_⊎_, inl, inr, _≢_}
-use mathlib.Core.Bool.{false}
 use mathlib.Core.List.{List}
-use Prim.Native.Nat.{ℕ, zero, suc, _+_, _-_, _≤_, _<_}
+use Prim.Native.Nat.{ℕ, zero, suc, _+_, _-_, _≤_}
 use native.Mathlib.Omega.{arith}
 use Rattle.model.specs.Tables.{Table}
 use Rattle.model.specs.Layout.{tableOf, tableRefusal}
@@ -11,16 +10,14 @@ use Rattle.model.specs.Boards.{Board, State, senderAt, emptyBoard, idle, blocke
 use Rattle.model.specs.Effects.{Outcome, refused}
 use Rattle.model.specs.Steps.{stepBy}
 use Rattle.model.specs.Holdings.{Holds}
-use Rattle.model.specs.Pools.{Call, steps, stepAnswer, answerTo, canStep}
+use Rattle.model.specs.Pools.{Call, steps, stepAnswer, answerTo}
 use Rattle.model.specs.Demands.{boardAfter}
-use Rattle.model.proofs.Tests.{same?}
 use Rattle.model.proofs.Backoffs.{few-rests}
 use Rattle.model.proofs.AcceptedChords.{table-ok}
-use Rattle.model.proofs.Holding.{Holding}
 use Rattle.model.proofs.Invariant.{Inv}
 use Rattle.model.proofs.Schedule.{all-inv, empty-inv}
 use Rattle.model.proofs.QuietExactly.{under-32, still-refused}
-use Rattle.alone.specs.Alone.{In-peace, Holds-all, steppedAlone, Finishes, Left-in-peace, mostSteps, Alone}
+use Rattle.alone.specs.Alone.{In-peace, steppedAlone, Left-in-peace, mostSteps, Alone}
 use Rattle.alone.proofs.Rests.{all-bounded, empty-bounded}
 use Rattle.alone.proofs.Calm.{peace-there, peace-back}
 use Rattle.alone.proofs.Peace.{in-peace}

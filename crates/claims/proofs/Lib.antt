@@ -1,1 +1,2 @@
+-- Laws of a claim.
 pub mod Claiming

@@ -3,12 +3,12 @@ use mathlib.Core.Path.{_≡_, refl, ap}
 use mathlib.Core.List.{List, [], _∷_, _++_, map}
 use Prim.Native.Nat.{ℕ, zero, suc, _<_, _≤_}
 use native.Mathlib.Omega.{arith}
-use lib.ListN.{length, getD, set, replicate, length-map, length-replicate}
+use lib.ListN.{length, getD, set, replicate, length-map, length-replicate, take}
 use lib.Seq.{sets, sets-eq}
 use Rattle.model.specs.Tables.{Chord, Table, noChord}
 use Rattle.model.specs.Layout.{tableRefusal, tableOf}
 use Rattle.model.proofs.AcceptedChords.{TableOk, table-ok}
-use Rattle.codec.specs.Views.{firsts, chordIn, tableIn, chordFor, tableFor, emptyChord, readOf}
+use Rattle.codec.specs.Views.{firsts, chordIn, tableIn, chordFor, tableFor, emptyChord, tableRead}
 
 pub firsts-front : {A : Type 0} (d : A) (xs ys : List A) → firsts d (length xs) (xs ++ ys) ≡ xs
 firsts-front d [] ys = refl
@@ -31,6 +31,11 @@ chord-seen : (c : Chord) → length (c .channels) ≤ 8 → chordIn (chordFor c)
 unfolding chordIn chordFor
 chord-seen c h = rw (firsts-stored 0 (c .channels) (replicate 8 0) (rw (length-replicate) h))
 
+pub firsts-take : {A : Type 0} (d : A) (n : ℕ) (xs : List A) → n ≤ length xs → firsts d n xs ≡ take n xs
+firsts-take d zero xs h = refl
+firsts-take d (suc n) [] h = absurd (omega arith)
+firsts-take d (suc n) (x ∷ xs) h = ap (λ l. x ∷ l) (firsts-take d n xs (omega arith))
+
 pub chords-seen : (cs : List Chord) → ((q : ℕ) → q < length cs → length (getD cs q noChord .channels) ≤ 8)
     → map chordIn (map chordFor cs) ≡ cs
 chords-seen [] h = refl
@@ -47,6 +52,6 @@ table-seen t o =
     rw (k, map-sets chordIn, m, firsts-stored noChord cs ys l)
 
 -- what is read from accepted bytes is their table
-pub read-seen : (s : List ℕ) → tableRefusal s ≡ 0 → tableIn (readOf s .table) ≡ tableOf s
-unfolding readOf
+pub read-seen : (s : List ℕ) → tableRefusal s ≡ 0 → tableIn (tableRead s .table) ≡ tableOf s
+unfolding tableRead
 read-seen s e = rw e (table-seen (tableOf s) (table-ok s e))

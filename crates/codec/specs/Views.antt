@@ -47,8 +47,8 @@ tableFor t = record {
   «chords_len» = length (t .chords);
 }
 
-unfoldable pub readOf : List ℕ → DR.Read
-readOf s = record {
+unfoldable pub tableRead : List ℕ → DR.Read
+tableRead s = record {
   number = tableRefusal s;
   table = pick (eqb (tableRefusal s) 0) (tableFor (tableOf s)) emptyTable;
 }

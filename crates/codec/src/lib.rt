@@ -7,8 +7,7 @@ ghost use lib.ListN.{length, replicate};
 ghost use lib.Seq.{sets};
 ghost use Rattle.model.specs.Tables.{chordAt};
 ghost use Rattle.model.specs.Layout.{tableRefusal, tableOf};
-ghost use Rattle.model.specs.Layout.{written};
-ghost use Rattle.codec.specs.Views.{tableIn, emptyTable, emptyChord, chordFor, tableFor, readOf};
+ghost use Rattle.codec.specs.Views.{tableIn, emptyTable, emptyChord, chordFor, tableFor, tableRead};
 
 pub struct Chord {
     pub channels: [u8; 8],
@@ -118,7 +117,7 @@ fn table_read(table: &[u8]) -> Table
 
 // The table that the bytes hold, and 0; or the number that refuses them, with an empty table.
 pub fn read_table(bytes: &[u8]) -> Read
-    ensures { λ r. ⌜ r ≡ readOf (now (bytes .entry)) ⌝ }
+    ensures { λ r. ⌜ r ≡ tableRead (now (bytes .entry)) ⌝ }
     ensures { λ r. ⌜ (tableRefusal (now (bytes .entry)) ≡ 0 → tableIn (r .table) ≡ tableOf (now (bytes .entry))) ⌝ }
 {
     let number = table::table_refusal(bytes);

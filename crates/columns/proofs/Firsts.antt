@@ -10,25 +10,13 @@ use borrow.Author.Tests.{ne-eqb}
 use Rattle.model.specs.Basics.{pick, firstOf}
 use Rattle.model.specs.Boards.{Message}
 use Rattle.model.specs.Looks.{lowest, someMessage}
-use Rattle.model.proofs.Tests.{never}
+use Rattle.model.proofs.Tests.{never, refused-first}
 use Rattle.columns.specs.Columns.{listFrom}
 use Rattle.columns.specs.Firsts.{firstFrom, found}
-
-pub or-joined : (a b c : Bool) → (a || (b || c)) ≡ ((a || b) || c)
-or-joined true b c = refl
-or-joined false b c = refl
-
-pub or-false : (a : Bool) → (a || false) ≡ a
-or-false true = refl
-or-false false = refl
 
 pick-first : (t : Bool) (k x y : ℕ) → pick t (suc k) (firstOf x y) ≡ firstOf (pick t (suc k) x) y
 pick-first true k x y = refl
 pick-first false k x y = refl
-
-first-some : (x y : ℕ) → x ≢ 0 → firstOf x y ≡ x
-first-some zero y h = absurd (h refl)
-first-some (suc x) y h = refl
 
 pub found-pick : (t : Bool) (k x : ℕ) → found (pick t (suc k) x) ≡ (t || found x)
 found-pick true k x = refl
@@ -78,7 +66,7 @@ module _ (p : ℕ → Bool) where
 
   -- the first is in the part up to j, or after it
   pub first-here : (i j n x : ℕ) → i ≤ j → j ≤ n → x ≡ firstFrom p i (j - i) → x ≢ 0 → firstFrom p i (n - i) ≡ x
-  first-here i j n x h l e f = first-split i j n h l ∙ rw (← e) (first-some x (firstFrom p j (n - j)) f)
+  first-here i j n x h l e f = first-split i j n h l ∙ rw (← e) (sym (refused-first x (firstFrom p j (n - j)) f))
 
   pub first-later : (i j n : ℕ) → i ≤ j → j ≤ n → firstFrom p i (j - i) ≡ 0
       → firstFrom p i (n - i) ≡ firstFrom p j (n - j)

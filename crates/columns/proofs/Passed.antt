@@ -1,6 +1,6 @@
 -- Laws of the messages below a number that are all consumed.
 use mathlib.Core.Path.{_≡_, ap, _∙_}
-use mathlib.Core.Bool.{Bool, false}
+use mathlib.Core.Bool.{Bool, false, and-false}
 use mathlib.Core.List.{List}
 use Prim.Native.Nat.{ℕ, _-_, _<_}
 use native.Mathlib.Omega.{arith}
@@ -10,7 +10,7 @@ use borrow.Author.Tests.{ne-eqb}
 use Rattle.columns.specs.Columns.{Passed}
 use Rattle.columns.specs.Firsts.{firstFrom, ofKind, eligible}
 use Rattle.columns.proofs.Firsts.{first-empty}
-use Rattle.columns.proofs.Walks.{and-false, kind-skip}
+use Rattle.columns.proofs.Walks.{kind-skip}
 
 -- no message is below number 0
 pub passed-none : (n : ℕ) (statuses : List ℕ) → Passed 0 n statuses

@@ -1,6 +1,6 @@
 -- Walks over what is left from i on of a list of numbers, and the tests of a message by columns.
 use mathlib.Core.Path.{_≡_, refl, sym, _∙_}
-use mathlib.Core.Bool.{Bool, true, false, _&&_, _||_, not}
+use mathlib.Core.Bool.{Bool, true, false, _&&_, _||_, not, and-false, and-true, and-assoc}
 use mathlib.Core.List.{List, []}
 use Prim.Native.Nat.{ℕ, _+_, _-_, _<_, _≤_}
 use native.Mathlib.Numerals.{add-one}
@@ -31,18 +31,6 @@ in-none s i x h = rw (drop-of-length-le s h)
 pub alike-is : (c : Chord) (s x : Sent) → alike c s x ≡ (not (c .equal) || eqb (x .property) (s .property))
 unfolding alike
 alike-is c s x = refl
-
-split : (a b d : Bool) → (a && (b && d)) ≡ ((a && b) && d)
-split true b d = refl
-split false b d = refl
-
-pub and-false : (a : Bool) → (a && false) ≡ false
-and-false true = refl
-and-false false = refl
-
-pub and-true : (a : Bool) → (a && true) ≡ a
-and-true true = refl
-and-true false = refl
 
 module _ (channels properties statuses : List ℕ) (wanted status : ℕ) (equal : Bool) (property : ℕ)
     (chosen : List ℕ) (k : ℕ) where
@@ -99,7 +87,7 @@ module _ (m : Columns) (n wanted : ℕ) (c : Chord) (s : Sent) (equal : Bool) (p
   free-is : (chosen : List ℕ) (k : ℕ) → isFree c wanted s chosen k (messageIn m k)
       ≡ eligible (m .channels) (m .properties) (m .statuses) wanted 0 equal property chosen k
   unfolding messageIn eligible
-  free-is chosen k = rw (alike-is, e, p, pending-is (getD (m .statuses) k 0), split)
+  free-is chosen k = rw (alike-is, e, p, pending-is (getD (m .statuses) k 0), ← and-assoc)
 
   pub lowest-is : (chosen : List ℕ)
       → firstFrom (eligible (m .channels) (m .properties) (m .statuses) wanted 0 equal property chosen) 0 n

@@ -14,7 +14,7 @@ ghost use Rattle.columns.specs.Firsts.{firstFrom, found, ofKind, taking,
 ghost use Rattle.columns.specs.Words.{bit, wordFrom, firstBit};
 
 // The numbers hold x.
-pub fn is_in(x: u16, s: &[u16]) -> bool
+fn is_in(x: u16, s: &[u16]) -> bool
     ensures { λ r. ⌜ r ≡ isIn x (now (s .entry)) ⌝ }
 {
     let mut i = 0;

@@ -1,7 +1,7 @@
 -- Laws of the messages to be told, and of telling them.
 use mathlib.Core.Path.{_≡_, refl, sym}
 use mathlib.Core.Bool.{Bool, true, false, _&&_, not}
-use mathlib.Core.List.{List, [], _∷_, _++_}
+use mathlib.Core.List.{List, [], _++_, append-nil, append-assoc}
 use Prim.Native.Nat.{ℕ, suc, _+_, _<_, _≤_}
 use native.Mathlib.Numerals.{add-one}
 use native.Mathlib.Omega.{arith}
@@ -17,14 +17,6 @@ use Rattle.state.specs.declared.Change.the-variants as G
 use Rattle.state.specs.declared.Sender as DD
 use Rattle.state.specs.Views.{jobIn, senderIn, effectIn}
 
-assoc : (a b c : List ℕ) → (a ++ b) ++ c ≡ a ++ (b ++ c)
-assoc [] b c = refl
-assoc (x ∷ xs) b c = cc (assoc xs b c)
-
-app-nil : (a : List ℕ) → a ++ [] ≡ a
-app-nil [] = refl
-app-nil (x ∷ xs) = cc (app-nil xs)
-
 kept : (b : Bool) (x : ℕ) (c : List ℕ) → keepIf b x c ≡ keepIf b x [] ++ c
 kept true x c = refl
 kept false x c = refl
@@ -35,7 +27,7 @@ pub keep-yes : (s : List ℕ) (n x : ℕ) (b : Bool) → b ≡ true → n < leng
 keep-yes s n x b e h = rw (e, add-one n) (take-suc-set s n x h)
 
 pub keep-no : (s : List ℕ) (x : ℕ) (b : Bool) → b ≡ false → s ≡ s ++ keepIf b x []
-keep-no s x b e = rw e (sym (app-nil s))
+keep-no s x b e = rw e (sym (append-nil s))
 
 -- what is to be told from the i-th on, after what was found before
 module _ (t : Table) (is : List Message) (h : ℕ) (acc ns : List ℕ) (i : ℕ) where
@@ -44,10 +36,10 @@ module _ (t : Table) (is : List Message) (h : ℕ) (acc ns : List ℕ) (i : ℕ)
       → acc ++ toTell t is h (drop i ns) ≡ acc′ ++ toTell t is h (drop (i + 1) ns)
   tell-turn acc′ x b l ex e q =
       let rest = toTell t is h (drop (suc i) ns) in
-      rw (q, drop-cons ns i 0 l, add-one i, ex, e, kept b x rest) (sym (assoc acc (keepIf b x []) rest))
+      rw (q, drop-cons ns i 0 l, add-one i, ex, e, kept b x rest) (sym (append-assoc acc (keepIf b x []) rest))
 
   pub tell-end : length ns ≤ i → acc ++ toTell t is h (drop i ns) ≡ acc
-  tell-end l = rw (drop-of-length-le ns l) (app-nil acc)
+  tell-end l = rw (drop-of-length-le ns l) (append-nil acc)
 
 -- how many there are, of a list kept in an array
 pub count-is : (ys xs : List ℕ) (n : ℕ) → take n xs ≡ ys → n ≤ length xs → length ys ≡ n

@@ -13,7 +13,7 @@ abbrev pub Channels : List Message → List ℕ → ℕ → Type 0
 Channels is channels n = (i : ℕ) → i < n → getD is i noMessage .sent .channel ≡ getD channels i 0
 
 -- so many chosen messages are among the n of a column, whose channels are the table's
-pub record Held (t : Table) (chosen channels : List ℕ) (len n : ℕ) : Type 0 where
+pub record ChoiceLent (t : Table) (chosen channels : List ℕ) (len n : ℕ) : Type 0 where
   pub lent : n ≤ length channels
   pub below : (i : ℕ) → i < len → getD chosen i 0 < n
   pub known : (i : ℕ) → i < n → getD channels i 0 < length (t .kinds)

@@ -13,7 +13,7 @@ ghost use Rattle.model.specs.Steps as MS;
 ghost use Rattle.columns.specs.Columns.{Unread, boardBy};
 ghost use Rattle.state.specs.declared.Phase.the-variants as P;
 ghost use Rattle.state.specs.Views.{chosenBy, jobIn, senderIn, effectIn};
-ghost use Rattle.consumes.specs.Holds.{Channels, Held, Left, withMatch};
+ghost use Rattle.consumes.specs.Holds.{Channels, ChoiceLent, Left, withMatch};
 use state::Change;
 use state::Effect;
 use state::Phase;
@@ -46,7 +46,7 @@ fn keep_if(r: Told, x: u16, keep: bool) -> Told
 // The chosen messages of synchronous channels, other than the subject, in order.
 fn to_tell(table: &[u8], chosen: [u16; 8], len: u8, subject: u16, n: u16, channels: &[u8]) -> Told
     requires { ⌜ (tableRefusal (now table) ≡ 0) × (len ≤ 8) × (length chosen ≡ 8) ⌝ }
-    requires { ⌜ Held (tableOf (now table)) chosen (now channels) len n ⌝ }
+    requires { ⌜ ChoiceLent (tableOf (now table)) chosen (now channels) len n ⌝ }
     ensures { λ r. ⌜ (r .len ≤ 8) × (length (r .messages) ≡ 8)
         × ((is : List Message) → Channels is (now (channels .entry)) n
         → take (r .len) (r .messages) ≡ MS.toTell (tableOf (now (table .entry))) is subject (take len chosen)) ⌝ }
@@ -99,7 +99,7 @@ fn consumed_to(
 ) -> Sender
     requires { ⌜ (tableRefusal (now table) ≡ 0) × (d .job .chord < length (tableOf (now table) .chords)) ⌝ }
     requires { ⌜ (d .job .phase ≡ P.Consume k m) × (k < size (tableOf (now table)) (d .job .chord))
-        × Held (tableOf (now table)) (d .job .chosen) (now channels)
+        × ChoiceLent (tableOf (now table)) (d .job .chosen) (now channels)
         (size (tableOf (now table)) (d .job .chord)) n ⌝ }
     ensures { λ r. ⌜ ((is : List Message) → Channels is (now (channels .entry)) n
         → isSync (tableOf (now (table .entry))) (getD is (d .own - 1) noMessage .sent .channel) ≡ sync
@@ -148,7 +148,7 @@ pub fn consume_step(
 ) -> Effect
     requires { ⌜ (tableRefusal (now table) ≡ 0) × (d .job .chord < length (tableOf (now table) .chords)) ⌝ }
     requires { ⌜ (d .job .phase ≡ P.Consume k m) × (k < size (tableOf (now table)) (d .job .chord))
-        × Held (tableOf (now table)) (d .job .chosen) (now channels)
+        × ChoiceLent (tableOf (now table)) (d .job .chosen) (now channels)
         (size (tableOf (now table)) (d .job .chord)) n ⌝ }
     ensures { λ r. ⌜ ((pr st : List ℕ) (o : Unread)
         → isSync (tableOf (now (table .entry))) (channelOf (boardBy (now (channels .entry)) pr st n o) (d .own - 1))
@@ -211,7 +211,7 @@ pub fn tell_step(
 ) -> Effect
     requires { ⌜ (tableRefusal (now table) ≡ 0) × (d .job .chord < length (tableOf (now table) .chords)) ⌝ }
     requires { ⌜ (d .job .phase ≡ P.Tell k)
-        × Held (tableOf (now table)) (d .job .chosen) (now channels) (size (tableOf (now table)) (d .job .chord)) n
+        × ChoiceLent (tableOf (now table)) (d .job .chosen) (now channels) (size (tableOf (now table)) (d .job .chord)) n
         × Left (tableOf (now table)) (now channels) n (d .job .subject)
         (take (size (tableOf (now table)) (d .job .chord)) (d .job .chosen)) k ⌝ }
     ensures { λ r. ⌜ ((pr st : List ℕ) (o : Unread)

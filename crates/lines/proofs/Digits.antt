@@ -12,7 +12,7 @@ use lib.ListN.{length, getD, drop}
 use lib.Seq.{drop-cons}
 use Rattle.model.specs.Basics.{every, pick}
 use Rattle.model.proofs.Tests.{both}
-use Rattle.model.specs.Lines.{isDigit, isDecimal, isNumber, valueFrom, valueOf}
+use Rattle.model.specs.Lines.{isDigit, isDecimal, isNumber, valueFrom, digitsValue}
 use Rattle.lines.specs.Views.{plusOne}
 
 -- the bounds of a digit
@@ -45,7 +45,7 @@ value-below (suc k) n (x ∷ xs) l e =
     let m = mul-le-mul-right (tens k) q in
     rw (← mul-assoc (n + 1) 10 (tens k)) (omega (arith, v, m))
 
-pub value-18 : (s : List ℕ) → length s ≤ 18 → every isDigit s ≡ true → valueOf s ≤ 999999999999999999
+pub value-18 : (s : List ℕ) → length s ≤ 18 → every isDigit s ≡ true → digitsValue s ≤ 999999999999999999
 value-18 s l e = let v = value-below 18 0 s l e in omega arith
 
 -- the walk over digits
@@ -64,27 +64,27 @@ value-over most n s h = omega (arith, value-grows n s)
 
 -- what the walk answers
 module _ (most : ℕ) (s : List ℕ) where
-  pub none-empty : length s ≡ 0 → 0 ≡ plusOne (isNumber most s) (valueOf s)
+  pub none-empty : length s ≡ 0 → 0 ≡ plusOne (isNumber most s) (digitsValue s)
   unfolding plusOne isNumber isDecimal
   none-empty e = rw e
 
-  pub none-digit : every isDigit s ≡ false → 0 ≡ plusOne (isNumber most s) (valueOf s)
+  pub none-digit : every isDigit s ≡ false → 0 ≡ plusOne (isNumber most s) (digitsValue s)
   unfolding plusOne isNumber isDecimal
   none-digit e = go (ltb 0 (length s))
     where
-      go : (t : Bool) → 0 ≡ pick ((t && every isDigit s) && leb (valueOf s) most) (suc (valueOf s)) 0
+      go : (t : Bool) → 0 ≡ pick ((t && every isDigit s) && leb (digitsValue s) most) (suc (digitsValue s)) 0
       go true = rw e
       go false = refl
 
-  pub none-over : most < valueOf s → 0 ≡ plusOne (isNumber most s) (valueOf s)
+  pub none-over : most < digitsValue s → 0 ≡ plusOne (isNumber most s) (digitsValue s)
   unfolding plusOne isNumber
   none-over l = go (isDecimal s)
     where
-      go : (t : Bool) → 0 ≡ pick (t && leb (valueOf s) most) (suc (valueOf s)) 0
-      go true = rw (lt-leb (valueOf s) most l)
+      go : (t : Bool) → 0 ≡ pick (t && leb (digitsValue s) most) (suc (digitsValue s)) 0
+      go true = rw (lt-leb (digitsValue s) most l)
       go false = refl
 
-  pub some-number : (n : ℕ) → 0 < length s → every isDigit s ≡ true → valueOf s ≡ n → n ≤ most
-      → n + 1 ≡ plusOne (isNumber most s) (valueOf s)
+  pub some-number : (n : ℕ) → 0 < length s → every isDigit s ≡ true → digitsValue s ≡ n → n ≤ most
+      → n + 1 ≡ plusOne (isNumber most s) (digitsValue s)
   unfolding plusOne isNumber isDecimal
   some-number n l e v h = rw (lt-ltb 0 (length s) l, e, v, le-leb n most h, add-one n)

@@ -9,9 +9,9 @@ use native.Mathlib.Omega.{arith}
 use borrow.Author.Tests.{eq-eqb, ne-eqb, ltb-true, ltb-false}
 use lib.Dec.{eqb, ltb}
 use lib.ListN.{length, getD, take, drop, drop-of-length-le, length-drop}
-use lib.Seq.{drop-cons, drop-drop, take-all}
+use lib.Seq.{drop-cons, drop-drop}
 use Rattle.model.specs.Basics.{firstBy}
-use Rattle.model.specs.Lines.{cutAt, fieldsOf, addBy, stepBy}
+use Rattle.model.specs.Lines.{cutAt, fieldsOf, addLine, stepLine}
 use Rattle.model.specs.Lines.Line.{unreadable}
 use Rattle.lines.specs.Views.{byteAt, spaceAt}
 
@@ -59,10 +59,10 @@ fields-some xs = go (ltb (spaceAt xs) (length xs)) refl
     go false e = (_, _, cut-last xs (ltb-false _ _ e))
 
 -- a field too many
-pub add-more : (d t p c xs : List ℕ) → addBy (d ∷ t ∷ p ∷ c ∷ fieldsOf xs) ≡ unreadable
+pub add-more : (d t p c xs : List ℕ) → addLine (d ∷ t ∷ p ∷ c ∷ fieldsOf xs) ≡ unreadable
 add-more d t p c xs = rw (fields-some xs .2)
 
-pub step-more : (d xs : List ℕ) → stepBy (d ∷ fieldsOf xs) ≡ unreadable
+pub step-more : (d xs : List ℕ) → stepLine (d ∷ fieldsOf xs) ≡ unreadable
 step-more d xs = rw (fields-some xs .2)
 
 -- the field from a place on ends at i, and others follow
@@ -84,5 +84,3 @@ module _ (s : List ℕ) (at i : ℕ) (l : at ≤ length s) (e : i ≡ at + space
   field-last h = cut-last (drop at s) (omega (arith, left))
 
 -- a part to the end is what is left
-pub to-end : (s : List ℕ) (a : ℕ) → take (length s - a) (drop a s) ≡ drop a s
-to-end s a = take-all (length s - a) (drop a s) (simp length-drop (omega arith))

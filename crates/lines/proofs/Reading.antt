@@ -12,8 +12,8 @@ use mir.Syntax.{w64}
 use mir.Val.{toZ, SFits}
 use Rattle.model.specs.Basics.{pick}
 use Rattle.model.specs.Pools.Call.{adds, steps}
-use Rattle.model.specs.Lines.{cutAt, joined, fieldsOf, isDecimal, valueOf, isNumber, isMagnitude, isMinus}
-use Rattle.model.specs.Lines.{digitsOf, isCents, centsFrom, addOf, addBy, stepOf, stepBy, isByte, lineBy, lineOf}
+use Rattle.model.specs.Lines.{cutAt, joined, fieldsOf, isDecimal, digitsValue, isNumber, isMagnitude, isMinus}
+use Rattle.model.specs.Lines.{digitsOf, isCents, centsFrom, addOf, addLine, stepOf, stepLine, isByte, lineBy, lineOf}
 use Rattle.model.specs.Lines.Line.{unreadable, reads}
 use Rattle.model.proofs.Tests.{both}
 use Rattle.lines.specs.Views.{plusOne}
@@ -55,11 +55,11 @@ minus-none (x ∷ xs) e = absurd (omega arith)
 
 -- at most 18 digits
 module _ (s : List ℕ) where
-  pub digits-long : 18 < length s → 0 ≡ plusOne (isMagnitude s) (valueOf s)
+  pub digits-long : 18 < length s → 0 ≡ plusOne (isMagnitude s) (digitsValue s)
   unfolding plusOne
   digits-long h = rw (and-no (isDecimal s) (lt-leb (length s) 18 h))
 
-  decimal-18 : length s ≤ 18 → isDecimal s ≡ true → valueOf s ≤ 999999999999999999
+  decimal-18 : length s ≤ 18 → isDecimal s ≡ true → digitsValue s ≤ 999999999999999999
   unfolding isDecimal
   decimal-18 h e = value-18 s h (both {t = ltb 0 (length s)} e .1)
 
@@ -68,30 +68,30 @@ module _ (s : List ℕ) where
   digits-short h = go (isDecimal s) refl
     where
       go : (t : Bool) → isDecimal s ≡ t
-          → (isDecimal s && leb (valueOf s) 999999999999999999) ≡ (isDecimal s && leb (length s) 18)
-      go true e = rw (le-leb (valueOf s) 999999999999999999 (decimal-18 h e), le-leb (length s) 18 h)
+          → (isDecimal s && leb (digitsValue s) 999999999999999999) ≡ (isDecimal s && leb (length s) 18)
+      go true e = rw (le-leb (digitsValue s) 999999999999999999 (decimal-18 h e), le-leb (length s) 18 h)
       go false e = rw e
 
   -- the digits of cents
-  pub cents-minus : isMinus s ≡ true → plusOne (isMagnitude (drop 1 s)) (valueOf (drop 1 s))
-      ≡ plusOne (isCents s) (valueOf (digitsOf s))
+  pub cents-minus : isMinus s ≡ true → plusOne (isMagnitude (drop 1 s)) (digitsValue (drop 1 s))
+      ≡ plusOne (isCents s) (digitsValue (digitsOf s))
   unfolding isCents digitsOf
   cents-minus e = rw e
 
-  pub cents-plain : isMinus s ≡ false → plusOne (isMagnitude s) (valueOf s)
-      ≡ plusOne (isCents s) (valueOf (digitsOf s))
+  pub cents-plain : isMinus s ≡ false → plusOne (isMagnitude s) (digitsValue s)
+      ≡ plusOne (isCents s) (digitsValue (digitsOf s))
   unfolding isCents digitsOf
   cents-plain e = rw e
 
 -- a step
-module _ (d : List ℕ) (x : ℕ) (e : x ≡ plusOne (isNumber 65535 d) (valueOf d)) where
+module _ (d : List ℕ) (x : ℕ) (e : x ≡ plusOne (isNumber 65535 d) (digitsValue d)) where
   pub step-none : x ≡ 0 → unreadable ≡ stepOf d
   unfolding stepOf
-  step-none z = rw (plus-none (isNumber 65535 d) (valueOf d) x e z)
+  step-none z = rw (plus-none (isNumber 65535 d) (digitsValue d) x e z)
 
   pub step-some : (x ≡ 0 → ⊥) → reads (steps (x - 1)) ≡ stepOf d
   unfolding stepOf
-  step-some h = let p = plus-some (isNumber 65535 d) (valueOf d) x e h in rw (p .0, p .1)
+  step-some h = let p = plus-some (isNumber 65535 d) (digitsValue d) x e h in rw (p .0, p .1)
 
 -- an add
 module _ (d t p c : List ℕ) where
@@ -100,25 +100,25 @@ module _ (d t p c : List ℕ) where
   unfolding addOf
   add-none e = rw e
 
-  pub no-sender : (x : ℕ) → x ≡ plusOne (isNumber 65535 d) (valueOf d) → x ≡ 0 → unreadable ≡ addOf d t p c
-  no-sender x e z = add-none (rw (plus-none (isNumber 65535 d) (valueOf d) x e z))
+  pub no-sender : (x : ℕ) → x ≡ plusOne (isNumber 65535 d) (digitsValue d) → x ≡ 0 → unreadable ≡ addOf d t p c
+  no-sender x e z = add-none (rw (plus-none (isNumber 65535 d) (digitsValue d) x e z))
 
-  pub no-channel : (x : ℕ) → x ≡ plusOne (isNumber 65535 t) (valueOf t) → x ≡ 0 → unreadable ≡ addOf d t p c
-  no-channel x e z = add-none (and-no (isNumber 65535 d) (rw (plus-none (isNumber 65535 t) (valueOf t) x e z)))
+  pub no-channel : (x : ℕ) → x ≡ plusOne (isNumber 65535 t) (digitsValue t) → x ≡ 0 → unreadable ≡ addOf d t p c
+  no-channel x e z = add-none (and-no (isNumber 65535 d) (rw (plus-none (isNumber 65535 t) (digitsValue t) x e z)))
 
-  pub no-property : (x : ℕ) → x ≡ plusOne (isNumber 4294967295 p) (valueOf p) → x ≡ 0 → unreadable ≡ addOf d t p c
+  pub no-property : (x : ℕ) → x ≡ plusOne (isNumber 4294967295 p) (digitsValue p) → x ≡ 0 → unreadable ≡ addOf d t p c
   no-property x e z =
-      let n = plus-none (isNumber 4294967295 p) (valueOf p) x e z in
+      let n = plus-none (isNumber 4294967295 p) (digitsValue p) x e z in
       add-none (and-no (isNumber 65535 d) (and-no (isNumber 65535 t) (rw n)))
 
-  pub no-cents : (x : ℕ) → x ≡ plusOne (isCents c) (valueOf (digitsOf c)) → x ≡ 0 → unreadable ≡ addOf d t p c
+  pub no-cents : (x : ℕ) → x ≡ plusOne (isCents c) (digitsValue (digitsOf c)) → x ≡ 0 → unreadable ≡ addOf d t p c
   no-cents x e z =
-      let n = plus-none (isCents c) (valueOf (digitsOf c)) x e z in
+      let n = plus-none (isCents c) (digitsValue (digitsOf c)) x e z in
       add-none (and-no (isNumber 65535 d) (and-no (isNumber 65535 t) (and-no (isNumber 4294967295 p) n)))
 
-  pub some-add : (x y z w : ℕ) → x ≡ plusOne (isNumber 65535 d) (valueOf d)
-      → y ≡ plusOne (isNumber 65535 t) (valueOf t) → z ≡ plusOne (isNumber 4294967295 p) (valueOf p)
-      → w ≡ plusOne (isCents c) (valueOf (digitsOf c))
+  pub some-add : (x y z w : ℕ) → x ≡ plusOne (isNumber 65535 d) (digitsValue d)
+      → y ≡ plusOne (isNumber 65535 t) (digitsValue t) → z ≡ plusOne (isNumber 4294967295 p) (digitsValue p)
+      → w ≡ plusOne (isCents c) (digitsValue (digitsOf c))
       → (x ≡ 0 → ⊥) → (y ≡ 0 → ⊥) → (z ≡ 0 → ⊥) → (w ≡ 0 → ⊥)
       → reads (adds (x - 1) (record {
         channel = y - 1;
@@ -127,10 +127,10 @@ module _ (d t p c : List ℕ) where
       })) ≡ addOf d t p c
   unfolding addOf centsFrom
   some-add x y z w ex ey ez ew x0 y0 z0 w0 =
-      let a = plus-some (isNumber 65535 d) (valueOf d) x ex x0 in
-      let b = plus-some (isNumber 65535 t) (valueOf t) y ey y0 in
-      let m = plus-some (isNumber 4294967295 p) (valueOf p) z ez z0 in
-      let n = plus-some (isCents c) (valueOf (digitsOf c)) w ew w0 in
+      let a = plus-some (isNumber 65535 d) (digitsValue d) x ex x0 in
+      let b = plus-some (isNumber 65535 t) (digitsValue t) y ey y0 in
+      let m = plus-some (isNumber 4294967295 p) (digitsValue p) z ez z0 in
+      let n = plus-some (isCents c) (digitsValue (digitsOf c)) w ew w0 in
       rw (a .0, a .1, b .0, b .1, m .0, m .1, n .0, n .1)
 
 -- the first field
@@ -164,14 +164,14 @@ line-wide (x ∷ y ∷ ys) h n = rw (ne-eqb y 32 n) (go (eqb x 32) (cutAt 32 ys)
     go false (f ∷ fs) = refl
 
 pub line-add : (s : List ℕ) → 2 ≤ length s → getD s 1 0 ≡ 32 → getD s 0 0 ≡ 97
-    → addBy (fieldsOf (drop 2 s)) ≡ lineBy (fieldsOf s)
+    → addLine (fieldsOf (drop 2 s)) ≡ lineBy (fieldsOf s)
 unfolding cutAt
 line-add [] h e a = absurd (omega arith)
 line-add (x ∷ []) h e a = absurd (omega arith)
 line-add (x ∷ y ∷ ys) h e a = rw (e, a)
 
 pub line-step : (s : List ℕ) → 2 ≤ length s → getD s 1 0 ≡ 32 → getD s 0 0 ≡ 115
-    → stepBy (fieldsOf (drop 2 s)) ≡ lineBy (fieldsOf s)
+    → stepLine (fieldsOf (drop 2 s)) ≡ lineBy (fieldsOf s)
 unfolding cutAt
 line-step [] h e a = absurd (omega arith)
 line-step (x ∷ []) h e a = absurd (omega arith)

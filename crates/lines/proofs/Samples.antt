@@ -2,18 +2,14 @@
 use mathlib.Core.Path.{_≡_, refl}
 use mathlib.Core.List.{List, [], _∷_, _++_, map}
 use Prim.Native.Nat.{ℕ}
-use Prim.Native.Char.{code}
-use Prim.Native.String.{String, [] as []ᵗ, _∷_ as _∷ᵗ_}
+use Prim.Native.String.{String}
 use lib.ListN.{replicate}
 use Rattle.model.specs.Pools.Call.{steps}
 use Rattle.model.specs.Samples.{send, sendBack}
 use Rattle.model.specs.Lines.{Line, lineOf, linesOf, cutAt, isDecimal, isNumber, digitsOf, isCents, centsFrom}
 use Rattle.model.specs.Lines.{addOf, stepOf}
 use Rattle.model.specs.Lines.Line.{unreadable, reads}
-
-abbrev bytes : String → List ℕ
-bytes []ᵗ = []
-bytes (c ∷ᵗ s) = code c ∷ bytes s
+use Rattle.model.specs.Printing.{bytes}
 
 record Sample : Type 0 where
   pub line : List ℕ

@@ -6,8 +6,8 @@ ghost use Prim.Native.Nat.{_+_, _-_, _*_, _≤_};
 ghost use lib.IntN.{pos, negℤ};
 ghost use lib.ListN.{length, drop};
 ghost use Rattle.model.specs.Basics.{pick};
-ghost use Rattle.model.specs.Lines.{fieldsOf, isDigit, valueOf, isNumber, isMagnitude, isMinus, digitsOf, isCents};
-ghost use Rattle.model.specs.Lines.{addOf, addBy, stepBy, lineOf};
+ghost use Rattle.model.specs.Lines.{fieldsOf, isDigit, digitsValue, isNumber, isMagnitude, isMinus, digitsOf, isCents};
+ghost use Rattle.model.specs.Lines.{addOf, addLine, stepLine, lineOf};
 ghost use Rattle.lines.specs.Views.{lineIn, plusOne, byteAt};
 
 pub enum Line {
@@ -49,7 +49,7 @@ fn with_digit(n: u64, x: u8) -> u64
 // The number that a field is, plus 1; 0 for no number, or one over the most.
 fn number(s: &[u8], most: u64) -> u64
     requires { ⌜ most ≤ 999999999999999999 ⌝ }
-    ensures { λ r. ⌜ r ≡ plusOne (isNumber most (now (s .entry))) (valueOf (now (s .entry))) ⌝ }
+    ensures { λ r. ⌜ r ≡ plusOne (isNumber most (now (s .entry))) (digitsValue (now (s .entry))) ⌝ }
     ensures { λ r. ⌜ r ≤ most + 1 ⌝ }
 {
     if s.len() == 0 {
@@ -73,7 +73,7 @@ fn number(s: &[u8], most: u64) -> u64
 
 // The number of at most 18 digits, plus 1; 0 for none.
 fn magnitude(s: &[u8]) -> u64
-    ensures { λ r. ⌜ r ≡ plusOne (isMagnitude (now (s .entry))) (valueOf (now (s .entry))) ⌝ }
+    ensures { λ r. ⌜ r ≡ plusOne (isMagnitude (now (s .entry))) (digitsValue (now (s .entry))) ⌝ }
     ensures { λ r. ⌜ r ≤ 1000000000000000000 ⌝ }
 {
     if s.len() > 18 {
@@ -93,7 +93,7 @@ fn is_minus(s: &[u8]) -> bool
 
 // The cents of a field without their sign, plus 1; 0 for none.
 fn unsigned_cents(s: &[u8]) -> u64
-    ensures { λ r. ⌜ r ≡ plusOne (isCents (now (s .entry))) (valueOf (digitsOf (now (s .entry)))) ⌝ }
+    ensures { λ r. ⌜ r ≡ plusOne (isCents (now (s .entry))) (digitsValue (digitsOf (now (s .entry)))) ⌝ }
     ensures { λ r. ⌜ r ≤ 1000000000000000000 ⌝ }
 {
     if is_minus(s) {
@@ -147,7 +147,7 @@ fn add_of(sender: &[u8], channel: &[u8], property: &[u8], cents: &[u8]) -> Line
 // An add by what follows the `a` and its space.
 fn read_add(s: &[u8], at: usize) -> Line
     requires { ⌜ at ≤ length (now s) ⌝ }
-    ensures { λ r. ⌜ lineIn r ≡ addBy (fieldsOf (drop at (now (s .entry)))) ⌝ }
+    ensures { λ r. ⌜ lineIn r ≡ addLine (fieldsOf (drop at (now (s .entry)))) ⌝ }
 {
     let i = byte_from(s, at, b' ');
     if i == s.len() {
@@ -173,7 +173,7 @@ fn read_add(s: &[u8], at: usize) -> Line
 // A step by what follows the `s` and its space.
 fn read_step(s: &[u8], at: usize) -> Line
     requires { ⌜ at ≤ length (now s) ⌝ }
-    ensures { λ r. ⌜ lineIn r ≡ stepBy (fieldsOf (drop at (now (s .entry)))) ⌝ }
+    ensures { λ r. ⌜ lineIn r ≡ stepLine (fieldsOf (drop at (now (s .entry)))) ⌝ }
 {
     if byte_from(s, at, b' ') < s.len() {
         return Line::Unreadable;

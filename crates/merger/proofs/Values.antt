@@ -2,7 +2,6 @@
 use mathlib.Core.Path.{_≡_, refl, ap}
 use mathlib.Core.List.{List, [], _∷_, _++_, map}
 use Prim.Native.Nat.{ℕ, zero, suc, _+_, _≤_}
-use native.Mathlib.Nat.{not-suc-le-zero}
 use native.Mathlib.Omega.{arith}
 use lib.ListN.{length, getD, take, drop, replicate, length-map, length-append, length-replicate}
 use lib.Seq.{sets, sets-eq, length-take-le, getD-drop}
@@ -11,7 +10,7 @@ use Rattle.model.specs.Layout.{flag, tableRefusal, tableOf}
 use Rattle.model.proofs.AcceptedChords.{table-ok}
 use Rattle.codec.specs.declared.Table as DT
 use Rattle.codec.specs.Views.{firsts, chordIn, tableIn}
-use Rattle.codec.proofs.Views.{firsts-front, map-sets, chords-seen}
+use Rattle.codec.proofs.Views.{firsts-front, map-sets, chords-seen, firsts-take}
 use Rattle.writer.proofs.Chords.{length-kinds-in}
 use Rattle.merging.specs.Merges.{isNew, targets, newKinds, mergedChord, mergedTable}
 use Rattle.merging.proofs.WriteLaws.{merged-few}
@@ -52,11 +51,6 @@ merged-stored ts cs h =
     (λ x. stored-reads ts 16 x h) (c .channels))) cs
 
 -- the front of an array, with a list stored after it
-firsts-take : {A : Type 0} (d : A) (n : ℕ) (xs : List A) → n ≤ length xs → firsts d n xs ≡ take n xs
-firsts-take d zero xs h = refl
-firsts-take d (suc n) [] h = absurd (not-suc-le-zero h)
-firsts-take d (suc n) (x ∷ xs) h = ap (λ l. x ∷ l) (firsts-take d n xs (omega arith))
-
 firsts-sets : {A : Type 0} (d : A) (n : ℕ) (ys xs : List A) → n + length xs ≤ length ys
     → firsts d (n + length xs) (sets ys n xs) ≡ firsts d n ys ++ xs
 firsts-sets d n ys xs h =

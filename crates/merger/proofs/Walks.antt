@@ -13,7 +13,7 @@ use lib.Seq.{drop-cons, getD-set-same, getD-set-other}
 use Rattle.model.specs.Basics.{isIn, pick}
 use Rattle.model.specs.Layout.{flag}
 use Rattle.model.proofs.Tests.{never, both, same?}
-use Rattle.merging.specs.Merges.{isNew, targets, newKinds, noneTwice, kindsAgree}
+use Rattle.merging.specs.Merges.{isNew, targets, newKinds, joinedOnce, kindsAgree}
 use Rattle.merger.specs.Asks.{countNew}
 
 -- a byte that is not 255 names a channel
@@ -36,7 +36,7 @@ by-test : (u v : Bool) → (u || not v) ≡ not (not u && v)
 by-test true v = refl
 by-test false v = refl
 
-twice-after : (ms : List ℕ) (i : ℕ) → noneTwice ms ≡ true → noneTwice (drop i ms) ≡ true
+twice-after : (ms : List ℕ) (i : ℕ) → joinedOnce ms ≡ true → joinedOnce (drop i ms) ≡ true
 twice-after ms zero e = e
 twice-after [] (suc i) e = refl
 twice-after (m ∷ ms) (suc i) e = twice-after ms i (both {t = isNew m || not (isIn m ms)} e .1)
@@ -45,17 +45,17 @@ module _ (ms : List ℕ) (i : ℕ) (h : i < length ms) where
   abbrev again : Bool
   again = not (isNew (getD ms i 0)) && isIn (getD ms i 0) (drop (i + 1) ms)
 
-  twice-at : noneTwice (drop i ms) ≡ (not again && noneTwice (drop (i + 1) ms))
+  twice-at : joinedOnce (drop i ms) ≡ (not again && joinedOnce (drop (i + 1) ms))
   twice-at = rw (drop-cons ms i 0 h, add-one i, by-test)
 
-  pub twice-here : again ≡ true → noneTwice ms ≡ false
-  twice-here e = go (noneTwice ms) refl
+  pub twice-here : again ≡ true → joinedOnce ms ≡ false
+  twice-here e = go (joinedOnce ms) refl
     where
-      go : (u : Bool) → noneTwice ms ≡ u → u ≡ false
+      go : (u : Bool) → joinedOnce ms ≡ u → u ≡ false
       go false p = refl
       go true p = never (sym (twice-at ∙ rw e) ∙ twice-after ms i p)
 
-  pub twice-later : again ≡ false → noneTwice (drop (i + 1) ms) ≡ true → noneTwice (drop i ms) ≡ true
+  pub twice-later : again ≡ false → joinedOnce (drop (i + 1) ms) ≡ true → joinedOnce (drop i ms) ≡ true
   twice-later e p = twice-at ∙ rw (e, p)
 
 -- the channels among the bytes from i on are marked

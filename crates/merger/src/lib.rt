@@ -9,7 +9,7 @@ ghost use lib.Seq.{sets};
 ghost use Rattle.model.specs.Basics.{every, pick};
 ghost use Rattle.model.specs.Tables.{chordAt};
 ghost use Rattle.model.specs.Layout.{tableRefusal, tableOf};
-ghost use Rattle.merging.specs.Merges.{isNew, targets, newKinds, mergedChord, mergedTable, noneTwice, kindsAgree};
+ghost use Rattle.merging.specs.Merges.{isNew, targets, newKinds, mergedChord, mergedTable, joinedOnce, kindsAgree};
 ghost use Rattle.merging.specs.Merges.{mapOk, countsFit, mergedOf, mergeWriteRefusal, mergeWritten};
 ghost use Rattle.codec.specs.Views.{chordFor, tableIn};
 ghost use Rattle.merger.specs.Asks.{countNew, Mapped, BothAsked, KindsRoom, ChordAsked, ChordsRoom, ValueAsked};
@@ -34,7 +34,7 @@ fn names_ok(map: &[u8], n: u8) -> bool
 
 // Whether no channel of the first is named twice; from the last byte to the first, with those seen marked.
 fn none_twice(map: &[u8]) -> bool
-    ensures { λ r. ⌜ r ≡ noneTwice (now (map .entry)) ⌝ }
+    ensures { λ r. ⌜ r ≡ joinedOnce (now (map .entry)) ⌝ }
 {
     let mut seen = [false; 256];
     let mut i = map.len();

@@ -16,7 +16,7 @@ use Rattle.model.proofs.Lists.{nth-every, every-append, nth-map}
 use Rattle.model.proofs.Accepted.{accepted}
 use Rattle.model.proofs.AcceptedChords.{TableOk, table-ok}
 use Rattle.model.proofs.Survive.{tables-survive}
-use Rattle.merging.specs.Merges.{isNew, targets, newKinds, mergedChord, mergedChords, mergedTable, noneTwice}
+use Rattle.merging.specs.Merges.{isNew, targets, newKinds, mergedChord, mergedChords, mergedTable, joinedOnce}
 use Rattle.merging.specs.Merges.{kindsAgree, mapOk, countsFit, mergedOf, mergedBytes, mergeRefusal}
 
 -- new channels
@@ -68,7 +68,7 @@ pub map-says : (t u : Table) (ms : List ℕ) → mapOk t u ms ≡ true
 unfolding mapOk
 map-says t u ms m =
     let a = all-four (eqb (length ms) (length (u .kinds))) (every (λ m. isNew m || ltb m (length (t .kinds))) ms)
-    (noneTwice ms) (kindsAgree (t .kinds) ms (u .kinds)) m in
+    (joinedOnce ms) (kindsAgree (t .kinds) ms (u .kinds)) m in
     (eqb-true _ _ (a .0), a .1)
 
 module _ (t u : Table) (ms : List ℕ) (tok : TableOk t) (uok : TableOk u) (m : mapOk t u ms ≡ true) where

@@ -40,9 +40,9 @@ mergedTable t u ms =
     record { kinds = t .kinds ++ newKinds ms (u .kinds); chords = t .chords ++ mergedChords t u ms }
 
 -- no channel of the first is named twice
-abbrev pub noneTwice : List ℕ → Bool
-noneTwice [] = true
-noneTwice (m ∷ ms) = (isNew m || not (isIn m ms)) && noneTwice ms
+abbrev pub joinedOnce : List ℕ → Bool
+joinedOnce [] = true
+joinedOnce (m ∷ ms) = (isNew m || not (isIn m ms)) && joinedOnce ms
 
 -- channels that are joined are of one kind
 abbrev pub kindsAgree : List ℕ → List ℕ → List ℕ → Bool
@@ -56,7 +56,7 @@ mapOk t u ms =
     allOf
     (eqb (length ms) (length (u .kinds)) ∷
     every (λ m. isNew m || ltb m (length (t .kinds))) ms ∷
-    noneTwice ms ∷
+    joinedOnce ms ∷
     kindsAgree (t .kinds) ms (u .kinds) ∷ [])
 
 -- refusal 18: the table's limits

@@ -18,7 +18,7 @@ use Rattle.model.specs.Effects.{Change, Turn, resumes, none, turn, recor
 use Rattle.model.specs.Jobs.{passFrom, job-end, inJob, endsBy, syncEnd, wakerEnd, newPass}
 use Rattle.model.specs.Looks.{subjectPlace, choice, fits}
 use Rattle.model.specs.Steps.{restsThen, resumed}
-use Rattle.model.proofs.Tests.{never, and, no-true}
+use Rattle.model.proofs.Tests.{never, and, no-true, other-false}
 use Rattle.model.proofs.Lists.{isIn-nth, first-in, nth-isIn}
 use Rattle.model.proofs.Pigeon.{one-left}
 use Rattle.model.proofs.Chords.{names-not}
@@ -192,10 +192,6 @@ blocked-obligation t b b′ i c q ns st e = record {
 }
 
 -- a miss at a chord: some message of the list fits the member and is not pending
-pub and-false : (u v : Bool) → (u && v) ≡ false → u ≡ true → v ≡ false
-and-false true v e f = e
-and-false false v e f = never f
-
 pub missed-at : (t : Table) (b : Board) (w : Job) (k : ℕ) (ns : List ℕ)
     → Selection t b (w .subject) (w .chord) (w .chosen) → length (w .chosen) ≡ k → k < size t (w .chord)
     → choice t b w k ≡ 0 → Meets t b (w .chord) ns → isIn (w .subject) ns ≡ true
@@ -224,7 +220,7 @@ missed-at t b w k ns r lc kl c m hn =
         open-not : isPending (messageAt b (getD ns j 0) .status) ≡ false
         open-not =
             flip (isPending (messageAt b (getD ns j 0) .status))
-            (and-false _ _ (choice-none t b w k c (getD ns j 0) (m .inside j jl)) ft)
+            (other-false _ _ (choice-none t b w k c (getD ns j 0) (m .inside j jl)) ft)
           where
             flip : (u : Bool) → (u && not (isIn (getD ns j 0) (w .chosen))) ≡ false → u ≡ false
             flip false z = refl

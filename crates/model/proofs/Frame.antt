@@ -3,11 +3,11 @@ use mathlib.Core.Path.{_≡_, ap, refl, _∙_, sym}
 use mathlib.Core.Logic.{_⊎_, _≢_, inl, inr}
 use mathlib.Core.Bool.{false}
 use mathlib.Core.List.{List, map, [], _∷_}
-use Prim.Native.Nat.{ℕ, _<_, zero, suc}
+use Prim.Native.Nat.{ℕ, _<_, suc}
 use borrow.Author.Tests.{eq-eqb, ne-eqb}
 use lib.Dec.{eqb}
 use lib.ListN.{length, getD, set, length-set, List·getD-map, length-map, length-append}
-use lib.Seq.{getD-set-same, getD-set-other, getD-append-seam}
+use lib.Seq.{getD-set-same, getD-set-other, getD-append-seam, map-set-same}
 use native.Mathlib.Omega.{arith}
 use Rattle.model.specs.Basics.{pick}
 use Rattle.model.specs.Boards.{Message, noMessage, Board, messageAt, Sender, idleSender, senderAt, Match}
@@ -53,12 +53,6 @@ messages-count b i s = go (s .change)
     go (signals n) = refl
 
 -- what was sent stays
-map-set : {A B : Type 0} (f : A → B) (xs : List A) (n : ℕ) (y d : A) → f y ≡ f (getD xs n d)
-    → map f (set xs n y) ≡ map f xs
-map-set f [] n y d e = refl
-map-set f (x ∷ xs) zero y d e = ap (λ z. z ∷ map f xs) e
-map-set f (x ∷ xs) (suc n) y d e = ap (λ zs. f x ∷ zs) (map-set f xs n y d e)
-
 pub sents-after : (b : Board) (i : ℕ) (s : Effect)
     → map (λ x. x .sent) (apply b i s .messages) ≡ map (λ x. x .sent) (b .messages)
 unfolding apply messagesAfter
@@ -66,8 +60,8 @@ sents-after b i s = go (s .change)
   where
     go : (c : Change) → map (λ x. x .sent) (messagesAfter c (b .messages)) ≡ map (λ x. x .sent) (b .messages)
     go none = refl
-    go (turn n τ) = map-set (λ x. x .sent) (b .messages) n (turned τ (messageAt b n)) noMessage refl
-    go (records n r) = map-set (λ x. x .sent) (b .messages) n (turned claims (messageAt b n)) noMessage refl
+    go (turn n τ) = map-set-same (λ x. x .sent) (b .messages) n (turned τ (messageAt b n)) noMessage refl
+    go (records n r) = map-set-same (λ x. x .sent) (b .messages) n (turned claims (messageAt b n)) noMessage refl
     go (signals n) = refl
 
 -- the sender at a place after a change: itself, perhaps signalled

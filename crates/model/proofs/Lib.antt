@@ -1,11 +1,16 @@
+-- The proof of demand 3 and the laws beside it (docs/PROOF.md), each file after those that it builds on.
+
+-- Tests and lists: laws over the library and the definitions' own list functions
 pub mod Tests
 pub mod Lists
 pub mod CentsTest
+-- Tables: what accepted bytes say, and bytes written and read again
 pub mod Accepted
 pub mod AcceptedChords
 pub mod Written
 pub mod Survive
 pub mod TableLaws
+-- Facts that many steps need: numbers by place, chords, jobs, words and refusals, and what a step leaves
 pub mod Pigeon
 pub mod Backoffs
 pub mod Chords
@@ -16,6 +21,7 @@ pub mod Frame
 pub mod Grows
 pub mod Passage
 pub mod Phases
+-- The parts of the invariant
 pub mod Local
 pub mod Choice
 pub mod Holding
@@ -28,6 +34,7 @@ pub mod Obligation
 pub mod Covers
 pub mod Answering
 pub mod Invariant
+-- Each kind of step keeps it
 pub mod AtWork
 pub mod Look
 pub mod Claim
@@ -39,6 +46,7 @@ pub mod Tell
 pub mod Resume
 pub mod StepBy
 pub mod Adds
+-- From the invariant to the demand
 pub mod Quiet
 pub mod PoolLaws
 pub mod Cents
@@ -48,9 +56,11 @@ pub mod Schedule
 pub mod SoundFacts
 pub mod Sound
 pub mod Demand
+-- Any sound board stays sound
 pub mod SoundFrame
 pub mod SoundJobs
 pub mod SoundKept
+-- Beside the demand
 pub mod StepFrame
 pub mod QuietExactly
 pub mod NoChords

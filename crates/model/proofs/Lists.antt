@@ -1,12 +1,13 @@
--- Laws of the definitions' list functions: members, the first that passes, and the lowest that passes.
+-- Laws of lists: members, all that pass, parts, the first that passes, and the lowest that passes.
 use mathlib.Core.Path.{_≡_, refl, sym, _∙_, subst}
 use mathlib.Core.Logic.{_⊎_, inl, inr, _≢_}
 use mathlib.Core.Bool.{true, false, Bool}
 use mathlib.Core.List.{List, [], _∷_, _++_, map}
-use Prim.Native.Nat.{ℕ, _<_, suc, zero, _+_, _≤_}
+use Prim.Native.Nat.{ℕ, _<_, suc, zero, _+_, _≤_, _-_}
 use borrow.Author.Tests.{eq-eqb, eqb-true}
 use lib.Dec.{eqb}
-use lib.ListN.{length, getD}
+use lib.ListN.{length, getD, take, drop, set, length-drop}
+use lib.Seq.{take-all, sets}
 use native.Mathlib.Nat.{not-suc-le-zero, le-of-suc-le-suc, zero-add}
 use native.Mathlib.Omega.{arith}
 use Rattle.model.specs.Basics.{isIn, every, firstBy}
@@ -55,6 +56,18 @@ pub nth-map : {A B : Type 0} (f : A → B) (xs : List A) (k : ℕ) (x : A) (y : 
 nth-map f [] k x y l = absurd (not-suc-le-zero l)
 nth-map f (z ∷ zs) zero x y l = refl
 nth-map f (z ∷ zs) (suc k) x y l = nth-map f zs k x y (le-of-suc-le-suc l)
+
+-- the rest of a list, as a part
+pub to-end : (s : List ℕ) (a : ℕ) → take (length s - a) (drop a s) ≡ drop a s
+to-end s a = take-all (length s - a) (drop a s) (simp length-drop (omega arith))
+
+-- two lists stored one after the other
+pub sets-append : {A : Type 0} (l : List A) (i : ℕ) (xs ys : List A)
+    → sets l i (xs ++ ys) ≡ sets (sets l i xs) (i + length xs) ys
+sets-append l i [] ys = let z : i + 0 ≡ i = omega arith in rw z
+sets-append l i (x ∷ xs) ys =
+    let z : i + suc (length xs) ≡ suc i + length xs = omega arith in
+    rw z (sets-append (set l i x) (suc i) xs ys)
 
 -- the first that passes
 pub first-before : (f : ℕ → Bool) (ms : List ℕ) (j : ℕ) → j < firstBy f ms → f (getD ms j 0) ≡ false

@@ -17,13 +17,13 @@ use Rattle.model.specs.Jobs.{nextChord}
 use Rattle.model.specs.Looks.{choice, missedRetry}
 use Rattle.model.specs.Steps.{lookedBy, look-step}
 use Rattle.model.specs.Holdings.{HoldsAt}
-use Rattle.model.proofs.Tests.{tests, neither, same?}
+use Rattle.model.proofs.Tests.{tests, neither, same?, other-false}
 use Rattle.model.proofs.Frame.{messages-at}
 use Rattle.model.proofs.Local.{Placed, PlacedAt, Selection}
 use Rattle.model.proofs.Choice.{chose-selection, chosen-fresh, choice-some, none-claimed}
 use Rattle.model.proofs.Places.{none-held, pass-empty}
 use Rattle.model.proofs.Obligation.{CoversAt, Covers, Case, Obliged, by-woken, Meets}
-use Rattle.model.proofs.Covers.{covered, live, covers-retrying, missed-at, status-left, and-false}
+use Rattle.model.proofs.Covers.{covered, live, covers-retrying, missed-at, status-left}
 use Rattle.model.proofs.Covers.{covers-ahead, names-it, subject-of}
 use Rattle.model.proofs.Invariant.{StepOwes}
 use Rattle.model.proofs.AtWork.{AtWork, job-goes-on, job-at, pass-at}
@@ -87,7 +87,7 @@ module _ {t : Table} {b : Board} {i : ℕ} {w : Job} {k : ℕ} (c : AtWork t b i
           let p = c .job .placed in
           let r = missed-at t b w k ns (p .0) (p .1) (p .2) e (subst⁻¹ (λ (r : ℕ). Meets t b r ns) d (x .meets)) a in
           inr (left (r .0) (r .1) (r .2) (status-left _ (r .4)
-          (and-false _ _ (none-claimed _ _ _ (b .messages) (neither {t = w .retry} z .1) (r .0) (r .2)) (r .3))))
+          (other-false _ _ (none-claimed _ _ _ (b .messages) (neither {t = w .retry} z .1) (r .0) (r .2)) (r .3))))
 
       missed-covers : isIn (w .subject) ns ≡ true → (w .retry ≡ true) ⊎ (w .chord ≤ q) → (w .chord ≡ q) ⊎ (w .chord ≢ q)
           → Covers (nextChord t b w (missedRetry t b w k)) q ⊎ Obliged t (apply b i s) q ns

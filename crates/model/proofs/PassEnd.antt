@@ -16,9 +16,10 @@ use Rattle.model.specs.Holdings.{Held-place}
 use Rattle.model.proofs.Phases.{still, signalling}
 use Rattle.model.proofs.Places.{none-held, rests-empty}
 use Rattle.model.proofs.Obligation.{Case, Obliged, by-woken}
-use Rattle.model.proofs.Covers.{rests-subject, rests-cover, names-it, shut, and-false, covered, live}
+use Rattle.model.proofs.Covers.{rests-subject, rests-cover, names-it, shut, covered, live}
 use Rattle.model.proofs.Invariant.{StepOwes}
 use Rattle.model.proofs.AtWork.{AtWork, job-goes-on, rests-at, job-ends, no-signal}
+use Rattle.model.proofs.Tests.{other-false}
 
 module _ {t : Table} {b : Board} {i : ℕ} {w : Job} {p : Phase} (c : AtWork t b i w p) where
   -- rests and then a new pass see to every chord that names the subject
@@ -40,7 +41,7 @@ module _ {t : Table} {b : Board} {i : ℕ} {w : Job} (c : AtWork t b i w pass-en
       rests-owe c Again (more (w .retries)) (backoffAt (b .backoffs) (more (w .retries))) refl refl (λ j x. x)
   pass-ended false e =
       job-ends c _ tt refl refl refl refl refl (λ j x. x) (λ n x. absurd (no-signal c refl n x))
-      (λ q ns y a x. over q ns y a (shut _ (and-false _ _ e (covered w q pass-end (c .phase) x))))
+      (λ q ns y a x. over q ns y a (shut _ (other-false _ _ e (covered w q pass-end (c .phase) x))))
     where
       over : (q : ℕ) (ns : List ℕ)
           → Case t b (apply b i (passEndBy t b (senderAt b i) w false)) i none

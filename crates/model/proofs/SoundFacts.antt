@@ -19,7 +19,7 @@ use Rattle.model.specs.Steps.{toTell}
 use Rattle.model.specs.Adds.{centsOk}
 use Rattle.model.specs.Sound.{toWake, allBelow, owns, noneShared, messageOk, noteOk, matchOk, placeOk, stateOk}
 use Rattle.model.specs.Sound.{senderOk, sound}
-use Rattle.model.proofs.Tests.{and, both, either, or-right, never, eqb-no}
+use Rattle.model.proofs.Tests.{and, both, either, or-right, never, eqb-no, no-true}
 use Rattle.model.proofs.Lists.{every-nth, nth-every}
 
 -- each of the numbers is below m
@@ -107,9 +107,6 @@ and-left u v e = both {t = u} e .0
 and-right : (u v : Bool) → (u && v) ≡ true → v ≡ true
 and-right u v e = both {t = u} e .1
 
-is-not : (u : Bool) → u ≡ false → not u ≡ true
-is-not u e = rw e
-
 one-of : (h o v : ℕ) → (eqb h o || eqb h v) ≡ true → (h ≡ o) ⊎ (h ≡ v)
 one-of h o v e = go (either e)
   where
@@ -148,7 +145,7 @@ below-all m ns = below m ns .from
 
 ruleset reads = (and-left, and-right, ltb-true, leb-true, eqb-true, not-true, all-below, one-of)
 
-ruleset shows = (and, lt-ltb, le-leb, eq-eqb, is-not, below-all, of-one)
+ruleset shows = (and, lt-ltb, le-leb, eq-eqb, no-true, below-all, of-one)
 
 -- senders that are not idle, two by two
 not-owned : (o : ℕ) (x : Sender) → Reads (not (owns o x)) (isIdle (x .state) ≡ false → x .own ≢ o)

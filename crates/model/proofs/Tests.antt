@@ -1,4 +1,4 @@
--- Tests, and lists as the board uses them.
+-- Laws of tests and of refusals.
 use mathlib.Core.Path.{_≡_, subst, sym, refl}
 use mathlib.Core.Logic.{_⊎_, inl, inr, _≢_}
 use mathlib.Core.Bool.{false, true, Bool, _&&_, _||_, not}
@@ -34,6 +34,10 @@ or-right false e = e
 
 pub no-true : {t : Bool} → t ≡ false → not t ≡ true
 no-true e = rw e
+
+pub other-false : (u v : Bool) → (u && v) ≡ false → u ≡ true → v ≡ false
+other-false true v e f = e
+other-false false v e f = never f
 
 pub neither : {t u : Bool} → (t || u) ≡ false → (t ≡ false) × (u ≡ false)
 neither {t} {u} e = go t u e

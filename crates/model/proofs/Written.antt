@@ -44,9 +44,9 @@ flag-read : (b : Bool) → eqb (flag b) 1 ≡ b
 flag-read true = refl
 flag-read false = refl
 
-length-written : (next : ℕ) (cs : List Chord) → length (writtenChords next cs) ≡ 4 * length cs
-length-written next [] = refl
-length-written next (c ∷ cs) = omega (arith, length-written (next + length (c .channels)) cs)
+pub length-entries : (next : ℕ) (cs : List Chord) → length (writtenChords next cs) ≡ 4 * length cs
+length-entries next [] = refl
+length-entries next (c ∷ cs) = omega (arith, length-entries (next + length (c .channels)) cs)
 
 module _ (rest : List ℕ) where
   pub sum-written : (next : ℕ) (cs : List Chord)
@@ -102,12 +102,12 @@ module _ (ks : List ℕ) (cs : List Chord) where
 
   pub members-written : drop (membersStart (length ks) (length cs)) (tableBytes t) ≡ ms
   members-written =
-      let e = length-written 0 cs in
+      let e = length-entries 0 cs in
       rw (after-header, ← drop-drop (4 * length cs) (length ks) _, drop-append-seam, ← e, drop-append-seam)
 
   pub whole-written : length (tableBytes t) ≡ 12 + (length ks + (4 * length cs + length ms))
   unfolding tableBytes
-  whole-written = simp (length-append, length-written) (omega arith)
+  whole-written = simp (length-append, length-entries) (omega arith)
 
   accepted-written : keepsLayout t ≡ true → Accepted (tableBytes t)
   unfolding keepsLayout

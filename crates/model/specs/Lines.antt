@@ -50,12 +50,12 @@ abbrev pub valueFrom : ℕ → List ℕ → ℕ
 valueFrom n [] = n
 valueFrom n (x ∷ xs) = valueFrom (10 * n + (x - 48)) xs
 
-abbrev pub valueOf : List ℕ → ℕ
-valueOf s = valueFrom 0 s
+abbrev pub digitsValue : List ℕ → ℕ
+digitsValue s = valueFrom 0 s
 
 -- "Desk and tray are at most 65,535, property a u32"
 unfoldable pub isNumber : ℕ → List ℕ → Bool
-isNumber most s = isDecimal s && leb (valueOf s) most
+isNumber most s = isDecimal s && leb (digitsValue s) most
 
 -- "cents at most 18 digits", leading zeros among them
 abbrev pub isMagnitude : List ℕ → Bool
@@ -73,7 +73,7 @@ isCents s = isMagnitude (digitsOf s)
 
 -- "`-0`" is read, as 0.
 unfoldable pub centsFrom : List ℕ → ℤ
-centsFrom s = pick (isMinus s) (negℤ (pos (valueOf (digitsOf s)))) (pos (valueOf (digitsOf s)))
+centsFrom s = pick (isMinus s) (negℤ (pos (digitsValue (digitsOf s)))) (pos (digitsValue (digitsOf s)))
 
 -- "`a DESK TRAY PROPERTY CENTS`", after the `a`
 unfoldable pub addOf : List ℕ → List ℕ → List ℕ → List ℕ → Line
@@ -81,29 +81,29 @@ addOf sender channel property cents =
     pick
     (allOf
     (isNumber 65535 sender ∷ isNumber 65535 channel ∷ isNumber 4294967295 property ∷ isCents cents ∷ []))
-    (reads (adds (valueOf sender) (record {
-      channel = valueOf channel;
-      property = valueOf property;
+    (reads (adds (digitsValue sender) (record {
+      channel = digitsValue channel;
+      property = digitsValue property;
       cents = centsFrom cents;
     })))
     unreadable
 
-abbrev pub addBy : List (List ℕ) → Line
-addBy [] = unreadable
-addBy (d ∷ []) = unreadable
-addBy (d ∷ t ∷ []) = unreadable
-addBy (d ∷ t ∷ p ∷ []) = unreadable
-addBy (d ∷ t ∷ p ∷ c ∷ []) = addOf d t p c
-addBy (d ∷ t ∷ p ∷ c ∷ e ∷ es) = unreadable
+abbrev pub addLine : List (List ℕ) → Line
+addLine [] = unreadable
+addLine (d ∷ []) = unreadable
+addLine (d ∷ t ∷ []) = unreadable
+addLine (d ∷ t ∷ p ∷ []) = unreadable
+addLine (d ∷ t ∷ p ∷ c ∷ []) = addOf d t p c
+addLine (d ∷ t ∷ p ∷ c ∷ e ∷ es) = unreadable
 
 -- "`s DESK`", after the `s`
 unfoldable pub stepOf : List ℕ → Line
-stepOf sender = pick (isNumber 65535 sender) (reads (steps (valueOf sender))) unreadable
+stepOf sender = pick (isNumber 65535 sender) (reads (steps (digitsValue sender))) unreadable
 
-abbrev pub stepBy : List (List ℕ) → Line
-stepBy [] = unreadable
-stepBy (d ∷ []) = stepOf d
-stepBy (d ∷ e ∷ es) = unreadable
+abbrev pub stepLine : List (List ℕ) → Line
+stepLine [] = unreadable
+stepLine (d ∷ []) = stepOf d
+stepLine (d ∷ e ∷ es) = unreadable
 
 -- the one byte `a` or `s`
 abbrev pub isByte : ℕ → List ℕ → Bool
@@ -113,7 +113,7 @@ isByte c (x ∷ y ∷ ys) = false
 
 abbrev pub lineBy : List (List ℕ) → Line
 lineBy [] = unreadable
-lineBy (f ∷ fs) = pick (isByte 97 f) (addBy fs) (pick (isByte 115 f) (stepBy fs) unreadable)
+lineBy (f ∷ fs) = pick (isByte 97 f) (addLine fs) (pick (isByte 115 f) (stepLine fs) unreadable)
 
 -- The bytes of a line, without its line feed. "A line that does not read as one of these, or is over 80 bytes, prints
 -- `refused 16`."

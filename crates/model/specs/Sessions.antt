@@ -42,8 +42,8 @@ abbrev pub inputEnds : Table → Session → List ℕ → Session
 inputEnds t x [] = x
 inputEnds t x (c ∷ cs) = lineEnds t x
 
-abbrev pub played : Table → List ℕ → Session
-played t input =
+abbrev pub sessionOf : Table → List ℕ → Session
+sessionOf t input =
     let x = fed t (record { text = []; board = emptyBoard builtinBackoffs; partial = [] }) input in
     inputEnds t x (x .partial)
 
@@ -62,7 +62,7 @@ reportText t b = matchLines 0 (matchReads t b) ++ (openLines 0 (b .messages) ++ 
 -- "A refused table prints `refused` and its number and ends"
 abbrev pub printedBy : ℕ → List ℕ → List ℕ → List ℕ
 printedBy (suc f) s input = answerLine (Refused (suc f))
-printedBy zero s input = let x = played (tableOf s) input in x .text ++ reportText (tableOf s) (x .board)
+printedBy zero s input = let x = sessionOf (tableOf s) input in x .text ++ reportText (tableOf s) (x .board)
 
 -- "an absent file is 0 bytes, and one over 412 bytes is judged by its first 413"
 unfoldable pub printout : List ℕ → List ℕ → List ℕ

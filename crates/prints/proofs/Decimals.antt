@@ -1,13 +1,12 @@
 -- Laws of a number's decimal digits: the last one and those before it, and how many there are.
-use mathlib.Core.Path.{_≡_, refl}
-use mathlib.Core.Bool.{Bool, true, false}
+use mathlib.Core.Path.{_≡_}
 use mathlib.Core.List.{[], _∷_, _++_}
 use Prim.Native.Nat.{ℕ, zero, suc, _+_, _/_, _%_, _^_, _<_, _≤_}
 use native.Mathlib.Omega.{arith}
-use borrow.Author.Tests.{ltb-true, ltb-false, lt-ltb, le-ltb}
-use lib.Dec.{ltb}
+use borrow.Author.Tests.{lt-ltb, le-ltb}
 use lib.ListN.{length, length-append}
 use Rattle.model.specs.Printing.{digit, digitsBy, decimal}
+use Rattle.model.proofs.Tests.{by-range}
 
 module _ (f n : ℕ) where
   digits-small : n < 10 → digitsBy (suc f) n ≡ digit n ∷ []
@@ -18,20 +17,14 @@ module _ (f n : ℕ) where
   unfolding digitsBy
   digits-more h = rw (le-ltb n 10 h)
 
-by-test : {P : Type 0} (b : Bool) → (b ≡ true → P) → (b ≡ false → P) → P
-by-test true p q = p refl
-by-test false p q = q refl
-
 -- more places than a number has digits change nothing
 digits-same : (f g n : ℕ) → n < f → n < g → digitsBy f n ≡ digitsBy g n
 digits-same zero g n h k = absurd (omega arith)
 digits-same (suc f) zero n h k = absurd (omega arith)
 digits-same (suc f) (suc g) n h k =
-    by-test (ltb n 10)
-    (λ e. let l = ltb-true n 10 e in rw (digits-small f n l, digits-small g n l))
-    (λ e.
-    let l = ltb-false n 10 e in
-    rw (digits-more f n l, digits-more g n l, digits-same f g (n / 10) (omega arith) (omega arith)))
+    by-range n 10
+    (λ l. rw (digits-small f n l, digits-small g n l))
+    (λ l. rw (digits-more f n l, digits-more g n l, digits-same f g (n / 10) (omega arith) (omega arith)))
 
 module _ (n : ℕ) where
   pub decimal-small : n < 10 → decimal n ≡ digit n ∷ []
@@ -49,19 +42,16 @@ module _ (n : ℕ) where
   length-more h = rw (decimal-more h) (length-append (decimal (n / 10)) (digit (n % 10) ∷ []))
 
 -- a number below the power has at most so many digits
-pub few-digits : (k n : ℕ) → n < 10 ^ suc k → length (decimal n) ≤ suc k
+few-digits : (k n : ℕ) → n < 10 ^ suc k → length (decimal n) ≤ suc k
 few-digits zero n h = omega (arith, length-small n (omega arith))
 few-digits (suc k) n h =
-    by-test (ltb n 10)
-    (λ e. omega (arith, length-small n (ltb-true n 10 e)))
-    (λ e. omega (arith, length-more n (ltb-false n 10 e), few-digits k (n / 10) (omega arith)))
+    by-range n 10
+    (λ l. omega (arith, length-small n l))
+    (λ l. omega (arith, length-more n l, few-digits k (n / 10) (omega arith)))
 
 -- of the widths that are printed
 pub digits-16 : (n : ℕ) → n < 2 ^ 16 → length (decimal n) ≤ 5
 digits-16 n h = few-digits 4 n (omega arith)
-
-pub digits-64 : (n : ℕ) → n < 2 ^ 64 → length (decimal n) ≤ 20
-digits-64 n h = few-digits 19 n (omega arith)
 
 pub digits-63 : (n : ℕ) → n ≤ 2 ^ 63 → length (decimal n) ≤ 19
 digits-63 n h = few-digits 18 n (omega arith)

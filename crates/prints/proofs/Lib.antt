@@ -2,4 +2,5 @@
 pub mod Decimals
 pub mod Signs
 pub mod Texts
+pub mod WordLaws
 pub mod Samples

@@ -1,57 +1,65 @@
--- Lines of 01's run of table P and its kin, computed.
+-- Lines of 01's run of table P and its kin, and every word, computed.
 use mathlib.Core.Path.{_≡_, refl}
 use mathlib.Core.Bool.{true}
-use mathlib.Core.List.{[], _∷_}
+use mathlib.Core.List.{List, [], _∷_, map}
+use Prim.Native.Nat.{ℕ}
+use Prim.Native.String.{String}
 use lib.IntN.{pos, negsuc}
 use Rattle.model.specs.Boards.{woken}
-use Rattle.model.specs.Effects.{Refused}
-use Rattle.model.specs.Printing.{digitsBy, decimal, signed, answerLine, matchLine, openLine, quietLine}
+use Rattle.model.specs.Effects.{Said, Item, Looked, Claimed, Lost, Reverted, Matched, Consumed, Told, Woke, Freed}
+use Rattle.model.specs.Effects.{Signalled, Answered, Refused, Missed, Again, Ended, Rested, Resumed}
+use Rattle.model.specs.Printing.{bytes, words, digitsBy, decimal, signed, answerLine, matchLine, openLine, quietLine}
 
--- "match 0 rule 0 cents 5000 items 1 0"
-a-match : matchLine 0 (record { chord = 0; messages = 1 ∷ 0 ∷ []; cents = pos 5000 })
-    ≡ 109 ∷ 97 ∷ 116 ∷ 99 ∷ 104 ∷ 32 ∷ 48 ∷ 32 ∷ 114 ∷ 117 ∷ 108 ∷ 101 ∷ 32 ∷ 48 ∷ 32 ∷ 99 ∷ 101 ∷ 110 ∷ 116 ∷
-    115 ∷ 32 ∷ 53 ∷ 48 ∷ 48 ∷ 48 ∷ 32 ∷ 105 ∷ 116 ∷ 101 ∷ 109 ∷ 115 ∷ 32 ∷ 49 ∷ 32 ∷ 48 ∷ 10 ∷ []
-unfolding decimal digitsBy
-a-match = refl
+record Sample : Type 0 where
+  pub text : List ℕ
+  pub line : String
 
--- "refused 13"
-a-refusal : answerLine (Refused 13)
-    ≡ 114 ∷ 101 ∷ 102 ∷ 117 ∷ 115 ∷ 101 ∷ 100 ∷ 32 ∷ 49 ∷ 51 ∷ 10 ∷ []
-unfolding decimal digitsBy
-a-refusal = refl
+abbrev row : List ℕ → String → Sample
+row t s = record { text = t; line = s }
 
--- "open 3 woken"
-an-open : openLine 3 woken
-    ≡ 111 ∷ 112 ∷ 101 ∷ 110 ∷ 32 ∷ 51 ∷ 32 ∷ 119 ∷ 111 ∷ 107 ∷ 101 ∷ 110 ∷ 10 ∷ []
-unfolding decimal digitsBy
-an-open = refl
+abbrev samples : List Sample
+samples =
+    row (matchLine 0 (record { chord = 0; messages = 1 ∷ 0 ∷ []; cents = pos 5000 }))
+    "match 0 rule 0 cents 5000 items 1 0\n" ∷
+    row (openLine 3 woken) "open 3 woken\n" ∷
+    row (quietLine true) "quiet yes\n" ∷
+    row (signed (negsuc 4)) "-5" ∷
+    row (decimal 0) "0" ∷
+    row (decimal 10) "10" ∷
+    row (decimal 1024) "1024" ∷ []
 
--- "quiet yes"
-a-quiet : quietLine true
-    ≡ 113 ∷ 117 ∷ 105 ∷ 101 ∷ 116 ∷ 32 ∷ 121 ∷ 101 ∷ 115 ∷ 10 ∷ []
+pub sample-lines : map (λ x. x .text) samples ≡ map (λ x. bytes (x .line)) samples
 unfolding decimal digitsBy
-a-quiet = refl
+sample-lines = refl
 
--- "-5"
-a-minus : signed (negsuc 4)
-    ≡ 45 ∷ 53 ∷ []
-unfolding decimal digitsBy
-a-minus = refl
+record Word : Type 0 where
+  pub said : Said
+  pub line : String
 
--- "0"
-a-zero : decimal 0
-    ≡ 48 ∷ []
-unfolding decimal digitsBy
-a-zero = refl
+abbrev says : Said → String → Word
+says w s = record { said = w; line = s }
 
--- "10"
-a-ten : decimal 10
-    ≡ 49 ∷ 48 ∷ []
-unfolding decimal digitsBy
-a-ten = refl
+abbrev all-words : List Word
+all-words =
+    says (Item 0) "item 0\n" ∷
+    says (Looked 1) "looked 1\n" ∷
+    says Missed "missed\n" ∷
+    says (Claimed 2) "claimed 2\n" ∷
+    says (Lost 3) "lost 3\n" ∷
+    says (Reverted 4) "reverted 4\n" ∷
+    says (Matched 5) "matched 5\n" ∷
+    says (Consumed 6) "consumed 6\n" ∷
+    says (Told 7) "told 7\n" ∷
+    says (Woke 8) "woke 8\n" ∷
+    says (Freed 9) "freed 9\n" ∷
+    says (Signalled 10) "signalled 10\n" ∷
+    says Again "again\n" ∷
+    says Ended "ended\n" ∷
+    says Rested "rested\n" ∷
+    says (Answered 1023) "answered 1023\n" ∷
+    says Resumed "resumed\n" ∷
+    says (Refused 13) "refused 13\n" ∷ []
 
--- "1024"
-a-thousand : decimal 1024
-    ≡ 49 ∷ 48 ∷ 50 ∷ 52 ∷ []
-unfolding decimal digitsBy
-a-thousand = refl
+pub word-lines : map (λ x. answerLine (x .said)) all-words ≡ map (λ x. bytes (x .line)) all-words
+unfolding words decimal digitsBy
+word-lines = refl

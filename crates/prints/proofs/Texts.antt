@@ -1,21 +1,15 @@
 -- Laws of texts printed one after the other.
 use mathlib.Core.Path.{_≡_, refl, sym}
 use mathlib.Core.List.{List, [], _∷_, _++_, append-nil, append-assoc}
-use Prim.Native.Nat.{ℕ, suc, _+_, _<_}
+use Prim.Native.Nat.{ℕ, _+_, _<_}
 use native.Mathlib.Omega.{arith}
 use native.Mathlib.Numerals.{add-one}
 use lib.ListN.{length, getD, set, take, length-append}
-use lib.Seq.{sets, length-sets, take-suc}
+use lib.Seq.{length-sets, take-suc}
 use lib.IntN.{ℤ}
 use Rattle.model.specs.Printing.{decimal, signed, spaced, spacedAll, matchText, ruleText, centsText}
+use Rattle.model.proofs.Lists.{sets-append}
 use Rattle.prints.specs.Printed.{Printed}
-
-sets-append : {A : Type 0} (l : List A) (i : ℕ) (xs ys : List A)
-    → sets l i (xs ++ ys) ≡ sets (sets l i xs) (i + length xs) ys
-sets-append l i [] ys = let z : i + 0 ≡ i = omega arith in rw z
-sets-append l i (x ∷ xs) ys =
-    let z : i + suc (length xs) ≡ suc i + length xs = omega arith in
-    rw z (sets-append (set l i x) (suc i) xs ys)
 
 -- two texts, the second at the place after the first
 pub then : {out mid done : List ℕ} {at p r : ℕ} {s t : List ℕ}

@@ -5,6 +5,7 @@ ghost use Prim.Native.Nat.{_+_, _*_, _<_, _≤_};
 ghost use lib.IntN.{natAbs};
 ghost use lib.ListN.{length};
 ghost use Rattle.model.specs.Printing.{decimal, signed, spaced, spacedAll, feed, answerLine, matchLine};
+ghost use Rattle.model.specs.Printing.{wordAt, numberBeside};
 ghost use Rattle.model.specs.Printing.{openLine, quietLine, matchText, ruleText, centsText};
 ghost use Rattle.columns.specs.Columns.{statusOf};
 ghost use Rattle.state.specs.Views.{saidIn};
@@ -14,7 +15,7 @@ use reads::MatchRead;
 use state::Said;
 
 // A byte.
-pub fn put(out: &mut [u8], at: usize, byte: u8) -> usize
+fn put(out: &mut [u8], at: usize, byte: u8) -> usize
     requires { ⌜ at + 1 ≤ length (now out) ⌝ }
     ensures { λ r. ⌜ Printed (now (out .entry)) at (byte ∷ []) r (now (out .exit)) ⌝ }
 {
@@ -23,7 +24,7 @@ pub fn put(out: &mut [u8], at: usize, byte: u8) -> usize
 }
 
 // A text.
-pub fn put_text(out: &mut [u8], at: usize, text: &[u8]) -> usize
+fn put_text(out: &mut [u8], at: usize, text: &[u8]) -> usize
     requires { ⌜ at + length (now text) ≤ length (now out) ⌝ }
     ensures { λ r. ⌜ Printed (now (out .entry)) at (now (text .entry)) r (now (out .exit)) ⌝ }
 {
@@ -47,14 +48,6 @@ fn put_digits(out: &mut [u8], at: usize, n: u64) -> usize
     put(out, next, 48 + (n % 10) as u8)
 }
 
-// A number.
-pub fn put_decimal(out: &mut [u8], at: usize, n: u64) -> usize
-    requires { ⌜ at + 20 ≤ length (now out) ⌝ }
-    ensures { λ r. ⌜ Printed (now (out .entry)) at (decimal n) r (now (out .exit)) ⌝ }
-{
-    put_digits(out, at, n)
-}
-
 // A number without its sign. The least has none that fits, so the number after it is negated.
 fn size(x: i64) -> u64
     ensures { λ r. ⌜ r ≡ natAbs x ⌝ }
@@ -66,7 +59,7 @@ fn size(x: i64) -> u64
 }
 
 // A number with its minus.
-pub fn put_signed(out: &mut [u8], at: usize, x: i64) -> usize
+fn put_signed(out: &mut [u8], at: usize, x: i64) -> usize
     requires { ⌜ at + 20 ≤ length (now out) ⌝ }
     ensures { λ r. ⌜ Printed (now (out .entry)) at (signed x) r (now (out .exit)) ⌝ }
     ensures { λ r. ⌜ r ≤ at + 20 ⌝ }
@@ -99,16 +92,6 @@ fn put_named(out: &mut [u8], at: usize, name: &[u8], n: u16) -> usize
     put_spaced(out, next, n)
 }
 
-// The line of a word with a number.
-fn put_numbered(out: &mut [u8], at: usize, name: &[u8], n: u16) -> usize
-    requires { ⌜ at + length (now name) + 7 ≤ length (now out) ⌝ }
-    ensures { λ r. ⌜ Printed (now (out .entry)) at (now (name .entry) ++ (spaced n ++ feed)) r (now (out .exit)) ⌝ }
-    ensures { λ r. ⌜ r ≤ at + length (now (name .entry)) + 7 ⌝ }
-{
-    let next = put_named(out, at, name, n);
-    put(out, next, b'\n')
-}
-
 // The line of a word alone.
 fn put_alone(out: &mut [u8], at: usize, name: &[u8]) -> usize
     requires { ⌜ at + length (now name) + 1 ≤ length (now out) ⌝ }
@@ -119,32 +102,54 @@ fn put_alone(out: &mut [u8], at: usize, name: &[u8]) -> usize
     put(out, next, b'\n')
 }
 
+// The words by their numbers, nine bytes each.
+const WORDS: [u8; 162] = *b"item     looked   missed   claimed  lost     reverted \
+    matched  consumed told     woke     freed    signalled\
+    again    ended    rested   answered resumed  refused  ";
+
+// How long each word is.
+const LENGTHS: [usize; 18] = [4, 6, 6, 7, 4, 8, 7, 8, 4, 4, 5, 9, 5, 5, 6, 8, 7, 7];
+
+// 1 where a number stands beside the word.
+const NUMBERED: [u8; 18] = [1, 1, 0, 1, 1, 1, 1, 1, 1, 1, 1, 1, 0, 0, 0, 1, 0, 1];
+
+// The word of a number.
+fn put_word(out: &mut [u8], at: usize, word: u8) -> usize
+    requires { ⌜ (at + 9 ≤ length (now out)) × (word < 18) ⌝ }
+    ensures { λ r. ⌜ Printed (now (out .entry)) at (wordAt word .text) r (now (out .exit)) ⌝ }
+    ensures { λ r. ⌜ r ≤ at + 9 ⌝ }
+{
+    let words = WORDS;
+    let len = LENGTHS[word as usize];
+    let start = 9 * (word as usize);
+    put_text(out, at, &words[start..start + len])
+}
+
+// The number beside a word: a refusal's, or that of an item or match.
+fn number_beside(said: Said) -> u16
+    ensures { λ r. ⌜ r ≡ numberBeside (saidIn said) ⌝ }
+{
+    let number = state::number_of(said);
+    if number == 0 {
+        return state::value_of(said);
+    }
+    number as u16
+}
+
 // The line of an answer.
 pub fn put_answer(out: &mut [u8], at: usize, said: Said) -> usize
     requires { ⌜ at + 16 ≤ length (now out) ⌝ }
     ensures { λ r. ⌜ Printed (now (out .entry)) at (answerLine (saidIn said)) r (now (out .exit)) ⌝ }
     ensures { λ r. ⌜ r ≤ at + 16 ⌝ }
 {
-    match said {
-        Said::Item(n) => put_numbered(out, at, b"item", n),
-        Said::Looked(n) => put_numbered(out, at, b"looked", n),
-        Said::Missed => put_alone(out, at, b"missed"),
-        Said::Claimed(n) => put_numbered(out, at, b"claimed", n),
-        Said::Lost(n) => put_numbered(out, at, b"lost", n),
-        Said::Reverted(n) => put_numbered(out, at, b"reverted", n),
-        Said::Matched(k) => put_numbered(out, at, b"matched", k),
-        Said::Consumed(n) => put_numbered(out, at, b"consumed", n),
-        Said::Told(n) => put_numbered(out, at, b"told", n),
-        Said::Woke(n) => put_numbered(out, at, b"woke", n),
-        Said::Freed(n) => put_numbered(out, at, b"freed", n),
-        Said::Signalled(n) => put_numbered(out, at, b"signalled", n),
-        Said::Again => put_alone(out, at, b"again"),
-        Said::Ended => put_alone(out, at, b"ended"),
-        Said::Rested => put_alone(out, at, b"rested"),
-        Said::Answered(k) => put_numbered(out, at, b"answered", k),
-        Said::Resumed => put_alone(out, at, b"resumed"),
-        Said::Refused(f) => put_numbered(out, at, b"refused", f as u16),
+    let word = state::word_of(said);
+    let next = put_word(out, at, word);
+    let numbered = NUMBERED[word as usize] == 1;
+    if numbered {
+        let last = put_spaced(out, next, number_beside(said));
+        return put(out, last, b'\n');
     }
+    put(out, next, b'\n')
 }
 
 // Numbers, each after a space.

@@ -10,7 +10,7 @@ use Rattle.model.specs.Tables.{size}
 use Rattle.model.specs.Layout.{tableRefusal, tableOf}
 use Rattle.model.proofs.TableLaws.{size-few}
 use Rattle.columns.specs.MatchColumns.{MatchColumns, matchIn}
-use Rattle.reads.specs.Reads.{Held, InRange, Readable}
+use Rattle.reads.specs.Reads.{MatchLent, InRange, Readable}
 
 -- numbers by value, and what is past the last
 pub copied-is : (ns : List ℕ) → take (length ns) (paste (replicate 8 0) 0 ns (length ns)) ≡ ns
@@ -27,7 +27,7 @@ rest-is ns =
     (length-take-le (length ns) ns (omega arith))
     ∙ ap (λ (k : ℕ). drop k (replicate 8 0)) z
 
-module _ (s : List ℕ) (accepts : tableRefusal s ≡ 0) (m : MatchColumns) (k : ℕ) (held : Held (tableOf s) m k) where
+module _ (s : List ℕ) (accepts : tableRefusal s ≡ 0) (m : MatchColumns) (k : ℕ) (held : MatchLent (tableOf s) m k) where
   pub numbers-few : length (matchIn (tableOf s) m k .messages) ≤ 8
   unfolding matchIn
   numbers-few =

@@ -26,7 +26,7 @@ abbrev pub readOf : DR.MatchRead → MatchRead
 readOf r = record { chord = r .chord; messages = take (r .len) (r .messages); cents = r .cents }
 
 -- match k is one of the lent, of a chord of the table
-pub record Held (t : Table) (m : MatchColumns) (k : ℕ) : Type 0 where
+pub record MatchLent (t : Table) (m : MatchColumns) (k : ℕ) : Type 0 where
   pub chord-in : k < length (m .chords)
   pub numbers-in : 8 * k + 8 ≤ length (m .messages)
   pub chord-known : getD (m .chords) k 0 < length (t .chords)
@@ -39,7 +39,7 @@ pub record InRange (cents : List ℤ) (ns : List ℕ) : Type 0 where
 
 -- match k is of the first n messages, whose cents are in range
 pub record Readable (t : Table) (m : MatchColumns) (k n : ℕ) (cents : List ℤ) : Type 0 where
-  pub held : Held t m k
+  pub held : MatchLent t m k
   pub cents-in : n ≤ length cents
   pub numbers-below : (j : ℕ) → j < length (matchIn t m k .messages) → getD (matchIn t m k .messages) j 0 < n
   pub in-range : (i : ℕ) → i < n → centsOk (getD cents i (pos 0)) ≡ true

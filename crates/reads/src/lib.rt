@@ -14,9 +14,8 @@ ghost use Rattle.model.specs.Layout.{tableRefusal, tableOf};
 ghost use Rattle.columns.specs.Columns.{messageIn, columnsOf};
 ghost use Rattle.columns.specs.MatchColumns.{matchIn, matchesOf};
 ghost use Rattle.state.specs.Views.{senderIn};
-ghost use Rattle.reads.specs.Reads.{messageOf, readOf, Held, InRange, Readable};
+ghost use Rattle.reads.specs.Reads.{messageOf, readOf, MatchLent, InRange, Readable};
 use state::Sender;
-use state::State;
 
 pub struct MessageRead {
     pub channel: u8,
@@ -65,7 +64,7 @@ pub fn message_read(
 // The numbers of match k's messages.
 fn match_numbers<'a>(table: &[u8], k: u16, chords: &[u8], messages: &'a [u16]) -> &'a [u16]
     requires { ⌜ tableRefusal (now table) ≡ 0 ⌝ }
-    requires { ⌜ Held (tableOf (now table)) (matchesOf (now chords) (now messages)) k ⌝ }
+    requires { ⌜ MatchLent (tableOf (now table)) (matchesOf (now chords) (now messages)) k ⌝ }
     ensures { λ r. ⌜ now r ≡ matchIn (tableOf (now (table .entry)))
         (matchesOf (now (chords .entry)) (now (messages .entry))) k .messages ⌝ }
 {
@@ -95,14 +94,7 @@ fn cents_of(numbers: &[u16], cents: &[i64]) -> i64
 }
 
 // The cents of match k on a board whose first n messages have these cents.
-pub fn match_cents(
-    table: &[u8],
-    k: u16,
-    chords: &[u8],
-    messages: &[u16],
-    n: u16,
-    cents: &[i64],
-) -> i64
+fn match_cents(table: &[u8], k: u16, chords: &[u8], messages: &[u16], n: u16, cents: &[i64]) -> i64
     requires { ⌜ tableRefusal (now table) ≡ 0 ⌝ }
     requires { ⌜ Readable (tableOf (now table)) (matchesOf (now chords) (now messages)) k n (now cents) ⌝ }
     ensures { λ r. ⌜ ((sent : ℕ → MB.Sent)

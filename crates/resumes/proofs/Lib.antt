@@ -1,1 +1,2 @@
+-- Laws of a blocked sender's step.
 pub mod Resuming

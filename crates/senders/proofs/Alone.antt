@@ -1,7 +1,7 @@
 -- Laws of marks and of senders walked from the front: each by itself, and each with those after it.
 use mathlib.Core.Path.{_≡_, refl, sym, ap, _∙_}
 use mathlib.Core.Logic.{_≢_}
-use mathlib.Core.Bool.{Bool, true, false, _&&_, _||_, not}
+use mathlib.Core.Bool.{Bool, true, false, _&&_, not}
 use mathlib.Core.List.{List, [], _∷_, map}
 use Prim.Native.Nat.{ℕ, zero, suc, _+_, _<_, _≤_}
 use native.Mathlib.Numerals.{add-one}
@@ -10,9 +10,9 @@ use borrow.Author.Tests.{eq-eqb, ne-eqb, eqb-true, eqb-false}
 use lib.Dec.{eqb}
 use lib.ListN.{length, getD, set, take, drop, drop-of-length-le}
 use lib.Seq.{drop-cons, take-all}
-use Rattle.model.specs.Basics.{every, pick}
+use Rattle.model.specs.Basics.{every}
 use Rattle.model.specs.Tables.{Table}
-use Rattle.model.specs.Boards.{Sender, isIdle}
+use Rattle.model.specs.Boards.{Sender}
 use Rattle.model.specs.Sound.{owns, noneShared}
 use Rattle.state.specs.declared.Sender as DD
 use Rattle.state.specs.Views.{senderIn, idleIs, jobIn}

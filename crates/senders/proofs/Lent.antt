@@ -1,7 +1,6 @@
 -- A board of lent columns is seen by its counts and its column of channels, and sound messages have known channels.
-use mathlib.Core.Path.{_≡_, refl}
+use mathlib.Core.Path.{_≡_}
 use mathlib.Core.Bool.{true}
-use mathlib.Core.List.{List}
 use Prim.Native.Nat.{ℕ, _<_, _≤_}
 use borrow.Author.Tests.{ltb-true}
 use lib.Dec.{ltb}
@@ -12,17 +11,9 @@ use Rattle.model.specs.Boards.{Board, Message, noMessage}
 use Rattle.model.specs.Sound.{messageOk}
 use Rattle.model.proofs.Tests.{both}
 use Rattle.model.proofs.Lists.{every-nth}
-use Rattle.columns.specs.Columns.{Columns, Unread, columnsBy, messagesFrom, boardBy}
+use Rattle.columns.specs.Columns.{Columns, messagesFrom}
 use Rattle.columns.proofs.Messages.{length-messages, nth-channel}
-use Rattle.senders.specs.Seen.{Seen, Known}
-
-pub seen-by : (channels properties statuses : List ℕ) (n : ℕ) (o : Unread)
-    → Seen (boardBy channels properties statuses n o) n (length (o .matches)) channels
-seen-by channels properties statuses n o = record {
-  count = length-messages (columnsBy channels properties statuses o) 0 n;
-  matches-count = refl;
-  channel = nth-channel (columnsBy channels properties statuses o) n;
-}
+use Rattle.senders.specs.Seen.{Known}
 
 module _ (t : Table) (b : Board) where
   channel-in : (x : Message) → messageOk t b x ≡ true → x .sent .channel < length (t .kinds)

@@ -2,35 +2,30 @@
 use mathlib.Core.Path.{_≡_, refl, sym, ap}
 use mathlib.Core.Logic.{_⊎_, inl, inr}
 use mathlib.Core.Bool.{Bool, true, false, _&&_, not}
-use mathlib.Core.List.{List, [], _∷_}
-use Prim.Native.Nat.{ℕ, zero, suc, _+_, _<_, _≤_}
+use mathlib.Core.List.{List, _∷_}
+use Prim.Native.Nat.{ℕ, suc, _+_, _<_, _≤_}
 use native.Mathlib.Numerals.{add-one}
 use native.Mathlib.Omega.{arith}
 use borrow.Author.Tests.{eq-eqb, ltb-true, ltb-false}
 use lib.Dec.{eqb, leb, ltb}
-use lib.ListN.{length, getD, take}
+use lib.ListN.{length, take, List·getD-eq-default}
 use lib.Seq.{length-take-le}
 use Rattle.model.specs.Basics.{isIn}
 use Rattle.model.specs.Tables.{Table, noChord, chordAt, size, isSync, wakes}
 use Rattle.model.specs.Boards.{Board, Message, noMessage, channelOf}
 use Rattle.model.specs.Steps.{keepIf, toTell}
-use Rattle.model.specs.Layout.{tableRefusal, tableOf}
+use Rattle.model.specs.Layout.{tableRefusal, tableOf, flag}
 use Rattle.model.specs.Sound.{placeOk}
 use Rattle.model.proofs.Tests.{both, tested}
 use Rattle.model.proofs.AcceptedChords.{table-ok}
 use Rattle.state.specs.declared.Phase.the-variants as P
 use Rattle.state.specs.declared.Job as DJ
 use Rattle.state.specs.Views.{phaseIn, jobIn}
-use Rattle.senders.specs.Seen.{Seen, Known, channelIn, inChord, isTold, bit}
-
-beyond : {A : Type 0} (xs : List A) (z : A) (v : ℕ) → length xs ≤ v → getD xs v z ≡ z
-beyond [] z v h = refl
-beyond (x ∷ xs) z zero h = absurd (omega arith)
-beyond (x ∷ xs) z (suc v) h = beyond xs z v (omega arith)
+use Rattle.senders.specs.Seen.{Seen, Known, channelIn, inChord, isTold}
 
 -- a chord that the table does not have has no channels
 pub no-size : (t : Table) (chord : ℕ) → length (t .chords) ≤ chord → size t chord ≡ 0
-no-size t chord h = rw (beyond (t .chords) noChord chord h)
+no-size t chord h = rw (List·getD-eq-default (t .chords) noChord h)
 
 -- the channel that is read is the board's
 pub seen-channel : (b : Board) (n m : ℕ) (ch : List ℕ) → Seen b n m ch → (v : ℕ) → channelOf b v ≡ channelIn ch n v
@@ -41,19 +36,19 @@ seen-channel b n m ch sees v = go (tested (ltb v n))
     go (inl e) = rw e (sees .channel v (ltb-true v n e))
     go (inr e) =
         let l = ltb-false v n e in
-        rw e (ap (λ (x : Message). x .sent .channel) (beyond (b .messages) noMessage v (omega (arith, sees .count))))
+        rw e (ap (λ (x : Message). x .sent .channel) (List·getD-eq-default (b .messages) noMessage (omega (arith, sees .count))))
 
-pub bit-small : (c : Bool) → bit c ≤ 1
-bit-small true = omega arith
-bit-small false = omega arith
+pub flag-le : (c : Bool) → flag c ≤ 1
+flag-le true = omega arith
+flag-le false = omega arith
 
-keep-length : (c : Bool) (n : ℕ) (ns : List ℕ) → length (keepIf c n ns) ≡ bit c + length ns
+keep-length : (c : Bool) (n : ℕ) (ns : List ℕ) → length (keepIf c n ns) ≡ flag c + length ns
 keep-length true n ns = omega arith
 keep-length false n ns = omega arith
 
 -- the messages to tell, one at a time
 pub tell-length : (t : Table) (b : Board) (n m : ℕ) (ch : List ℕ) → Seen b n m ch → (h x : ℕ) (xs : List ℕ)
-    → length (toTell t (b .messages) h (x ∷ xs)) ≡ bit (isTold t ch n h x) + length (toTell t (b .messages) h xs)
+    → length (toTell t (b .messages) h (x ∷ xs)) ≡ flag (isTold t ch n h x) + length (toTell t (b .messages) h xs)
 tell-length t b n m ch sees h x xs =
     rw (← seen-channel b n m ch sees x)
     (keep-length (isSync t (channelOf b x) && not (eqb x h)) x (toTell t (b .messages) h xs))

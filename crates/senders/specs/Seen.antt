@@ -1,6 +1,6 @@
 -- What the test of senders sees of a board: its counts and its messages' channels. And the parts of that test.
 use mathlib.Core.Path.{_≡_}
-use mathlib.Core.Bool.{Bool, true, false, _&&_, _||_, not}
+use mathlib.Core.Bool.{Bool, true, _&&_, _||_, not}
 use mathlib.Core.List.{List, [], _∷_}
 use Prim.Native.Nat.{ℕ, _+_, _<_, _≤_}
 use lib.Dec.{eqb, ltb}
@@ -33,10 +33,6 @@ inChord t chord channel = ltb chord (length (t .chords)) && isIn channel (chordA
 -- message v of a match of the subject is to be told of it
 abbrev pub isTold : Table → List ℕ → ℕ → ℕ → ℕ → Bool
 isTold t channels n subject v = isSync t (channelIn channels n v) && not (eqb v subject)
-
-abbrev pub bit : Bool → ℕ
-bit true = 1
-bit false = 0
 
 -- what no two senders may have in common: the own message plus 1, 0 for an idle sender
 abbrev pub markBy : DD.Sender → ℕ

@@ -9,10 +9,10 @@ ghost use Rattle.model.specs.Basics.{every};
 ghost use Rattle.model.specs.Tables as MT;
 ghost use Rattle.model.specs.Boards as MB;
 ghost use Rattle.model.specs.Steps.{toTell};
-ghost use Rattle.model.specs.Layout.{tableRefusal, tableOf};
+ghost use Rattle.model.specs.Layout.{tableRefusal, tableOf, flag};
 ghost use Rattle.model.specs.Sound.{allBelow, placeOk, jobOk, stateOk, senderOk, noneShared};
 ghost use Rattle.state.specs.Views.{phaseIn, chosenBy, jobIn, stateIn, senderIn};
-ghost use Rattle.senders.specs.Seen.{Seen, Known, channelIn, inChord, isTold, bit, markBy, noneTwice};
+ghost use Rattle.senders.specs.Seen.{Seen, Known, channelIn, inChord, isTold, markBy, noneTwice};
 use state::Job;
 use state::Phase;
 use state::Sender;
@@ -92,7 +92,7 @@ fn is_told(table: &[u8], subject: u16, v: u16, n: u16, channels: &[u8]) -> bool
 // A count with one more where it is so.
 fn counted(count: u8, so: bool) -> u8
     requires { ⌜ count < 255 ⌝ }
-    ensures { λ r. ⌜ r ≡ count + bit so ⌝ }
+    ensures { λ r. ⌜ r ≡ count + flag so ⌝ }
 {
     if so {
         return count + 1;
@@ -290,7 +290,7 @@ fn state_ok(table: &[u8], d: Sender, n: u16, matches: u16, channels: &[u8]) -> b
 }
 
 // Whether the sender is sound on a board of n messages in these channels and of so many matches.
-pub fn sender_ok(table: &[u8], d: Sender, n: u16, matches: u16, channels: &[u8]) -> bool
+fn sender_ok(table: &[u8], d: Sender, n: u16, matches: u16, channels: &[u8]) -> bool
     requires { ⌜ (tableRefusal (now table) ≡ 0) × Known (tableOf (now table)) n (now channels) ⌝ }
     ensures { λ r. ⌜ ((b : MB.Board) → Seen b n matches (now (channels .entry))
         → r ≡ senderOk (tableOf (now (table .entry))) b (senderIn (tableOf (now (table .entry))) d)) ⌝ }
@@ -357,7 +357,7 @@ pub fn none_twice(marks: &[u32]) -> bool
 }
 
 // Whether no two of the senders that are not idle have the same own message.
-pub fn none_shared(senders: [Sender; 32]) -> bool
+fn none_shared(senders: [Sender; 32]) -> bool
     ensures { λ r. ⌜ ((t : MT.Table) → r ≡ noneShared (map (senderIn t) senders)) ⌝ }
 {
     let marks = marks_of(senders);

@@ -9,7 +9,7 @@ use Rattle.model.specs.Tables.{Table}
 use Rattle.model.specs.Boards.{Board, emptyBoard, builtinBackoffs}
 use Rattle.model.specs.Lines.{lineOf, cutAt, ended, linesOf}
 use Rattle.model.specs.Printing.{answerLine}
-use Rattle.model.specs.Sessions.{Session, lineAnswer, lineEnds, fed, inputEnds, played, answersText, afterLines}
+use Rattle.model.specs.Sessions.{Session, lineAnswer, lineEnds, fed, inputEnds, sessionOf, answersText, afterLines}
 use Rattle.sessions.specs.Serves.{session}
 
 -- bytes before the first of the parts
@@ -74,10 +74,10 @@ module _ (t : Table) where
 
   -- the text and the board are those of the lines, answered one after the other
   pub by-lines : (input : List ℕ)
-      → (played t input .text ≡ answersText t (emptyBoard builtinBackoffs) (linesOf input))
-      × (played t input .board ≡ afterLines t (emptyBoard builtinBackoffs) (linesOf input))
+      → (sessionOf t input .text ≡ answersText t (emptyBoard builtinBackoffs) (linesOf input))
+      × (sessionOf t input .board ≡ afterLines t (emptyBoard builtinBackoffs) (linesOf input))
   by-lines input =
       let c = cut-some input in
-      let e : played t input ≡ told [] (emptyBoard builtinBackoffs) (linesOf input)
+      let e : sessionOf t input ≡ told [] (emptyBoard builtinBackoffs) (linesOf input)
       = rw (c .2) (rw (c .2) at (by-parts input [] (emptyBoard builtinBackoffs) [])) in
       (ap (λ (x : Session). x .text) e, ap (λ (x : Session). x .board) e)

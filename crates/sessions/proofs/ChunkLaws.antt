@@ -9,9 +9,9 @@ use lib.ListN.{length-append}
 use Rattle.model.specs.Layout.{tableOf}
 use Rattle.model.specs.Lines.{lineOf}
 use Rattle.model.specs.Sessions.{Session, lineEnds, fed, inputEnds}
+use Rattle.model.proofs.Lists.{to-end}
 use Rattle.boards.specs.Calls.{Held}
 use Rattle.refusals.specs.Calls.{boardOf, refusalOf}
-use Rattle.lines.proofs.Fields.{to-end}
 use Rattle.prints.specs.Printed.{Printed}
 use Rattle.prints.proofs.Texts as texts
 use Rattle.sessions.specs.declared.Carry as DC

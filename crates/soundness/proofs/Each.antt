@@ -1,7 +1,7 @@
 -- Laws of a test of each number below n: a turn, two tests in one, what it says of a number, and lists by their places.
 use mathlib.Core.Path.{_≡_, refl, sym, _∙_}
 use mathlib.Core.Logic.{_⊎_, inl, inr, _≢_}
-use mathlib.Core.Bool.{Bool, true, false, _&&_}
+use mathlib.Core.Bool.{Bool, true, false, _&&_, and-true, and-assoc}
 use mathlib.Core.List.{List, [], _∷_}
 use Prim.Native.Nat.{ℕ, zero, suc, _+_, _<_, _≤_}
 use native.Mathlib.Nat.{zero-add}
@@ -11,14 +11,6 @@ use lib.ListN.{length, getD, take}
 use Rattle.model.specs.Basics.{every}
 use Rattle.model.proofs.Tests.{both, and, never, same?, tested}
 use Rattle.soundness.specs.Tests.{eachBelow}
-
-pub and-true : (u : Bool) → u ≡ (u && true)
-and-true true = refl
-and-true false = refl
-
-and-joined : (a b c : Bool) → ((a && b) && c) ≡ (a && (b && c))
-and-joined true b c = refl
-and-joined false b c = refl
 
 module _ (f : ℕ → Bool) where
   pub each-none : eachBelow 0 f ≡ true
@@ -34,7 +26,7 @@ module _ (f : ℕ → Bool) where
       let a : i + 4 ≡ i + 3 + 1 = omega arith in
       let b : i + 3 ≡ i + 2 + 1 = omega arith in
       let c : i + 2 ≡ i + 1 + 1 = omega arith in
-      rw (a, each-one (i + 3), b, each-one (i + 2), c, each-one (i + 1), each-one i, and-joined, and-joined, and-joined)
+      rw (a, each-one (i + 3), b, each-one (i + 2), c, each-one (i + 1), each-one i, and-assoc, and-assoc, and-assoc)
 
   pub each-at : (n : ℕ) → eachBelow n f ≡ true → (i : ℕ) → i < n → f i ≡ true
   unfolding eachBelow
@@ -61,8 +53,8 @@ module _ (f : ℕ → Bool) where
   -- the first, then those after it
   pub each-cons : (n : ℕ) → eachBelow (suc n) f ≡ (f 0 && eachBelow n (λ i. f (suc i)))
   unfolding eachBelow
-  each-cons zero = and-true (f 0)
-  each-cons (suc n) = rw (each-cons n, and-joined)
+  each-cons zero = sym (and-true (f 0))
+  each-cons (suc n) = rw (each-cons n, and-assoc)
 
 pub each-same : (f g : ℕ → Bool) (n : ℕ) → ((i : ℕ) → i < n → f i ≡ g i) → eachBelow n f ≡ eachBelow n g
 unfolding eachBelow

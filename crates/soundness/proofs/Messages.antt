@@ -1,6 +1,6 @@
 -- The messages tested a column at a time are the messages tested one at a time.
 use mathlib.Core.Path.{_≡_, refl, sym, _∙_}
-use mathlib.Core.Bool.{Bool, true, false, _&&_, _||_, not}
+use mathlib.Core.Bool.{Bool, true, false, _&&_, _||_, not, and-true}
 use Prim.Native.Nat.{ℕ, zero, suc, _≤_}
 use native.Mathlib.Omega.{arith}
 use borrow.Author.Tests.{leb-true}
@@ -11,7 +11,7 @@ use Rattle.model.specs.Boards.{Board, Message}
 use Rattle.model.specs.Sound.{messageOk, noteOk}
 use Rattle.columns.specs.Columns.{Columns, statusOf, messageIn, messagesFrom}
 use Rattle.soundness.specs.Tests.{eachBelow, below, inRange, linkOk, messagesOk}
-use Rattle.soundness.proofs.Each.{and-true, each-same, each-and, each-of, each-made}
+use Rattle.soundness.proofs.Each.{each-same, each-and, each-of, each-made}
 
 -- what a status asks for, by its byte
 note-is : (x : Message) (s : ℕ) → s ≤ 3
@@ -19,7 +19,7 @@ note-is : (x : Message) (s : ℕ) → s ≤ 3
 note-is x zero h = refl
 note-is x (suc zero) h = refl
 note-is x (suc (suc zero)) h = refl
-note-is x (suc (suc (suc zero))) h = and-true (leb 1 (x .match))
+note-is x (suc (suc (suc zero))) h = sym (and-true (leb 1 (x .match)))
 note-is x (suc (suc (suc (suc s)))) h = absurd (omega arith)
 
 -- a message's tests (its status, channel, cents, two links and note) in the columns' order

@@ -7,8 +7,9 @@ ghost use Rattle.model.specs.Tables as MT;
 ghost use Rattle.model.specs.Boards.{Board, Message, noMessage, channelOf, isConsumed, builtinBackoffs, backoffAt};
 ghost use Rattle.model.specs.Jobs as MJ;
 ghost use Rattle.model.specs.Layout.{tableRefusal, tableOf};
+ghost use Rattle.model.specs.Effects.{wordOf, valueOf, numberOf};
 ghost use Rattle.model.specs.Steps as MS;
-ghost use Rattle.state.specs.Views.{jobIn, senderIn, idleIs, canStep};
+ghost use Rattle.state.specs.Views.{jobIn, senderIn, saidIn, idleIs, canStep};
 ghost use Rattle.state.specs.Builders.{inJob, worksBy, inPhase, withRetry, goesIdle, staysBlocked, jobAt};
 
 // Where a job is. The first number is the place: the member that the next step is about, or the rests after the next
@@ -96,6 +97,84 @@ pub struct Effect {
     pub said: Said,
     pub change: Change,
     pub sender: Sender,
+}
+
+// The word by its number.
+pub fn word_of(said: Said) -> u8
+    ensures { λ r. ⌜ (r ≡ wordOf (saidIn said)) × (r < 18) ⌝ }
+{
+    match said {
+        Said::Item(_) => 0,
+        Said::Looked(_) => 1,
+        Said::Missed => 2,
+        Said::Claimed(_) => 3,
+        Said::Lost(_) => 4,
+        Said::Reverted(_) => 5,
+        Said::Matched(_) => 6,
+        Said::Consumed(_) => 7,
+        Said::Told(_) => 8,
+        Said::Woke(_) => 9,
+        Said::Freed(_) => 10,
+        Said::Signalled(_) => 11,
+        Said::Again => 12,
+        Said::Ended => 13,
+        Said::Rested => 14,
+        Said::Answered(_) => 15,
+        Said::Resumed => 16,
+        Said::Refused(_) => 17,
+    }
+}
+
+// The message or match number beside the word; 0 where there is none.
+pub fn value_of(said: Said) -> u16
+    ensures { λ r. ⌜ r ≡ valueOf (saidIn said) ⌝ }
+{
+    match said {
+        Said::Item(n) => n,
+        Said::Looked(n) => n,
+        Said::Missed => 0,
+        Said::Claimed(n) => n,
+        Said::Lost(n) => n,
+        Said::Reverted(n) => n,
+        Said::Matched(n) => n,
+        Said::Consumed(n) => n,
+        Said::Told(n) => n,
+        Said::Woke(n) => n,
+        Said::Freed(n) => n,
+        Said::Signalled(n) => n,
+        Said::Again => 0,
+        Said::Ended => 0,
+        Said::Rested => 0,
+        Said::Answered(n) => n,
+        Said::Resumed => 0,
+        Said::Refused(_) => 0,
+    }
+}
+
+// The refusal; 0 where the call was accepted.
+pub fn number_of(said: Said) -> u8
+    ensures { λ r. ⌜ r ≡ numberOf (saidIn said) ⌝ }
+{
+    match said {
+        Said::Item(_) => 0,
+        Said::Looked(_) => 0,
+        Said::Missed => 0,
+        Said::Claimed(_) => 0,
+        Said::Lost(_) => 0,
+        Said::Reverted(_) => 0,
+        Said::Matched(_) => 0,
+        Said::Consumed(_) => 0,
+        Said::Told(_) => 0,
+        Said::Woke(_) => 0,
+        Said::Freed(_) => 0,
+        Said::Signalled(_) => 0,
+        Said::Again => 0,
+        Said::Ended => 0,
+        Said::Rested => 0,
+        Said::Answered(_) => 0,
+        Said::Resumed => 0,
+        Said::Refused(n) => n,
+    }
 }
 
 // Whether a sender is idle.
@@ -232,7 +311,7 @@ fn job_at(subject: u16, chord: u8, phase: Phase, retry: bool, retries: u8) -> Jo
 }
 
 // A pass over the chords that name the subject's channel, from a chord on.
-pub fn pass_from(table: &[u8], subject: u16, channel: u8, from: u8, retry: bool, retries: u8) -> Job
+fn pass_from(table: &[u8], subject: u16, channel: u8, from: u8, retry: bool, retries: u8) -> Job
     requires { ⌜ tableRefusal (now table) ≡ 0 ⌝ }
     ensures { λ r. ⌜ jobIn (tableOf (now (table .entry))) r
         ≡ MJ.passFrom (tableOf (now (table .entry))) subject channel from retry retries ⌝ }

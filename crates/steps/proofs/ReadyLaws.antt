@@ -18,7 +18,7 @@ use Rattle.state.specs.declared.State as DS
 use Rattle.state.specs.declared.State.the-variants as S
 use Rattle.state.specs.declared.Sender as DD
 use Rattle.state.specs.Views.{phaseIn, chosenBy, jobIn, stateIn, senderIn}
-use Rattle.consumes.specs.Holds.{Held, Left}
+use Rattle.consumes.specs.Holds.{ChoiceLent, Left}
 use Rattle.steps.specs.Ready.{Ready}
 use Rattle.steps.proofs.MessageReads.{pending-read}
 
@@ -81,7 +81,7 @@ module _ (t : Table) (channels properties statuses : List ℕ) (n count : ℕ) (
           i all h in
           omega (arith, job-facts .chosen-in i (omega (arith, a .counted)))
 
-      pub held : Held t (d .job .chosen) channels (size t (d .job .chord)) n
+      pub held : ChoiceLent t (d .job .chosen) channels (size t (d .job .chord)) n
       held = record { lent = r .lent .channels-all; below = chosen-in; known = r .known }
 
       pub left : (k : ℕ)

@@ -5,8 +5,6 @@ ghost use mathlib.Core.List.{List};
 ghost use Prim.Native.Nat.{ℕ, _<_, _≤_};
 ghost use lib.Dec.{eqb};
 ghost use lib.ListN.{length, getD};
-ghost use Rattle.model.specs.Tables as MT;
-ghost use Rattle.model.specs.Boards as MB;
 ghost use Rattle.model.specs.Boards.{builtinBackoffs};
 ghost use Rattle.model.specs.Effects.{does};
 ghost use Rattle.model.specs.Layout.{tableRefusal, tableOf};
@@ -59,7 +57,7 @@ fn is_pending(d: Sender, k: u8, statuses: &[u8]) -> bool
 }
 
 // The effect of a step of a sender at work, by its job's phase.
-pub fn job_step(
+fn job_step(
     table: &[u8],
     d: Sender,
     start: u16,
@@ -112,7 +110,7 @@ pub fn job_step(
 }
 
 // The effect of a step of a blocked sender with a signal, by its own message.
-pub fn blocked_step(
+fn blocked_step(
     table: &[u8],
     d: Sender,
     n: u16,

@@ -7,8 +7,8 @@ use native.Mathlib.Nat.{add-zero}
 use native.Mathlib.Numerals.{add-one}
 use native.Mathlib.Omega.{arith}
 use lib.Dec.{eqb, leb}
-use lib.ListN.{length, getD, take, drop, drop-of-length-le, length-drop}
-use lib.Seq.{drop-cons, drop-drop, getD-drop, take-all}
+use lib.ListN.{length, getD, drop, drop-of-length-le}
+use lib.Seq.{drop-cons, drop-drop, getD-drop}
 use Rattle.model.specs.Basics.{every}
 use Rattle.model.specs.Layout.{chordOk, chordsOk, membersSum, word}
 
@@ -49,7 +49,3 @@ module _ (s : List ℕ) (i n : ℕ) (h : i < n) where
   sum-at =
       let e : n - i ≡ suc (n - (i + 1)) = omega arith in
       rw (e, four, getD-drop (4 * i) s 2 0)
-
--- a part to the end is what is left
-pub to-end : (s : List ℕ) (a : ℕ) → take (length s - a) (drop a s) ≡ drop a s
-to-end s a = take-all (length s - a) (drop a s) (simp length-drop (omega arith))

@@ -1,1 +1,2 @@
+-- Laws of the steps that wake, free and signal.
 pub mod Waking

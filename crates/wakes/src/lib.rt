@@ -31,7 +31,7 @@ fn skip(f: u8, k: u8) -> u8
 }
 
 // The message that a job wakes: the one chosen for the chord's first synchronous channel.
-pub fn woken_of(table: &[u8], j: Job) -> u16
+fn woken_of(table: &[u8], j: Job) -> u16
     requires { ⌜ (tableRefusal (now table) ≡ 0) × (j .chord < length (tableOf (now table) .chords)) ⌝ }
     requires { ⌜ (firstSync (tableOf (now table)) (j .chord) < size (tableOf (now table)) (j .chord))
         × (chosenBy (j .phase) (size (tableOf (now table)) (j .chord))

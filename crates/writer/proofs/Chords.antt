@@ -17,6 +17,7 @@ use Rattle.model.proofs.Lists.{every-nth}
 use Rattle.codec.specs.declared.Chord as DC
 use Rattle.codec.specs.declared.Table as DT
 use Rattle.codec.specs.Views.{firsts, chordIn, tableIn}
+use Rattle.codec.proofs.Views.{firsts-take}
 use Rattle.writer.specs.Writes.{sized}
 
 -- the first n of an array
@@ -31,11 +32,6 @@ nth-firsts d (suc n) [] zero h = refl
 nth-firsts d (suc n) [] (suc i) h = nth-firsts d n [] i (le-of-suc-le-suc h)
 nth-firsts d (suc n) (x ∷ xs) zero h = refl
 nth-firsts d (suc n) (x ∷ xs) (suc i) h = nth-firsts d n xs i (le-of-suc-le-suc h)
-
-firsts-take : {A : Type 0} (d : A) (n : ℕ) (xs : List A) → n ≤ length xs → firsts d n xs ≡ take n xs
-firsts-take d zero xs h = refl
-firsts-take d (suc n) [] h = absurd (not-suc-le-zero h)
-firsts-take d (suc n) (x ∷ xs) h = ap (λ l. x ∷ l) (firsts-take d n xs (le-of-suc-le-suc h))
 
 pub kinds-part : (t : DT.Table) → t .«kinds_len» ≤ length (t .kinds)
     → tableIn t .kinds ≡ take (t .«kinds_len») (t .kinds)

@@ -1,7 +1,7 @@
 -- Which number a written table is refused with: the layout's own rules always hold of it,
 -- so only its counts, its kinds, its chords' sizes and its members decide.
 use mathlib.Core.Path.{_≡_, refl, _∙_}
-use mathlib.Core.Bool.{Bool, true, false, _&&_}
+use mathlib.Core.Bool.{Bool, true, false, _&&_, and-true}
 use mathlib.Core.List.{List, [], _∷_, _++_}
 use Prim.Native.Nat.{ℕ, _+_, _<_, _≤_}
 use native.Mathlib.Nat.{mod-add-div}
@@ -21,10 +21,6 @@ use Rattle.codec.specs.declared.Table as DT
 use Rattle.codec.specs.Views.{tableIn}
 use Rattle.writer.specs.Writes.{countsIn, sized, membersIn, stored}
 use Rattle.writer.proofs.Chords.{length-kinds-in, length-chords-in}
-
-and-true : (b : Bool) → (b && true) ≡ b
-and-true true = refl
-and-true false = refl
 
 every-each : {A : Type 0} (f : A → Bool) (xs ys : List A) → every f (xs ++ ys) ≡ (every f xs && every f ys)
 every-each f [] ys = refl
@@ -108,15 +104,6 @@ module _ (t : DT.Table) where
       leb (length (writtenMembers (tableIn t .chords))) 256)))
   unfolding countsIn
   counts-are = rw (length-kinds-in t, length-chords-in t)
-
-  -- the number that a value's own fields give it, also where a length is over its array's
-  pub value-number : tableRefusal (tableBytes (tableIn t))
-      ≡ unless
-      (leb 1 (t .«kinds_len») && (leb (t .«kinds_len») 16 && (leb (t .«chords_len») 32 &&
-      leb (length (writtenMembers (tableIn t .chords))) 256))) 2
-      (unless (kindsOk (tableIn t .kinds)) 4
-      (unless (every sized (tableIn t .chords)) 5 (unless (membersIn (tableIn t)) 7 0)))
-  value-number = refusal-written (tableIn t) ∙ rw counts-are
 
   pub counts-many : 32 < t .«chords_len» → countsIn (tableIn t) ≡ false
   counts-many h = counts-are ∙ rw (lt-leb (t .«chords_len») 32 h, none-pass)

@@ -11,15 +11,15 @@ use Rattle.model.proofs.Written.{reads-written}
 use Rattle.model.proofs.Survive.{tables-survive}
 use Rattle.model.proofs.Tests.{first-none}
 use Rattle.codec.specs.declared.Table as DT
-use Rattle.codec.specs.Views.{tableIn, readOf}
+use Rattle.codec.specs.Views.{tableIn, tableRead}
 use Rattle.codec.proofs.Views.{read-seen}
 use Rattle.writer.specs.Writes.{stored}
 use Rattle.writer.proofs.Refusals.{none-refused, all-written}
 
 -- accepted bytes, read and written into a buffer that is long enough, are the bytes again
 pub read-written : (s : List ℕ) → allBytes s ≡ true → tableRefusal s ≡ 0 → (out : List ℕ) → length s ≤ length out
-    → (writeRefusal (tableIn (readOf s .table)) out ≡ 0)
-    × (written (tableIn (readOf s .table)) out ≡ stored s out)
+    → (writeRefusal (tableIn (tableRead s .table)) out ≡ 0)
+    × (written (tableIn (tableRead s .table)) out ≡ stored s out)
 read-written s b e out h =
     let v = tableOf s in
     let w : tableBytes v ≡ s = tables-survive .back s b e in
@@ -29,8 +29,8 @@ read-written s b e out h =
 -- a table that is written, in the part of the buffer that it takes, reads as the table
 pub written-read : (t : DT.Table) (out : List ℕ) → writeRefusal (tableIn t) out ≡ 0 →
     let s = take (length (tableBytes (tableIn t))) (written (tableIn t) out) in
-    (readOf s .number ≡ 0) × (tableIn (readOf s .table) ≡ tableIn t)
-unfolding writeRefusal readOf
+    (tableRead s .number ≡ 0) × (tableIn (tableRead s .table) ≡ tableIn t)
+unfolding writeRefusal tableRead
 written-read t out e =
     let v = tableIn t in
     let a = first-none (tableRefusal (tableBytes v)) _ e .0 in

@@ -1,26 +1,20 @@
 -- Laws of a table's bytes stored chord by chord: the entries and the members left, stored from here on,
 -- give what storing all of them gave.
 use mathlib.Core.Path.{_≡_, refl, sym, _∙_}
-use mathlib.Core.List.{List, [], _∷_, _++_}
+use mathlib.Core.List.{List, _++_}
 use Prim.Native.Nat.{ℕ, suc, _+_, _*_, _<_, _≤_}
 use native.Mathlib.Omega.{arith}
-use lib.ListN.{length, getD, set, drop, length-append}
+use lib.ListN.{length, getD, drop, length-append}
 use lib.Seq.{sets, sets-eq}
 use Rattle.model.specs.Tables.{Chord, Table}
 use Rattle.model.specs.Layout.{tableBytes, writtenHeader, writtenChords, writtenMembers}
-use Rattle.model.proofs.Written.{whole-written}
+use Rattle.model.proofs.Written.{whole-written, length-entries}
+use Rattle.model.proofs.Lists.{sets-append}
 use Rattle.codec.specs.declared.Chord as DC
 use Rattle.codec.specs.declared.Table as DT
 use Rattle.codec.specs.Views.{chordIn, tableIn}
 use Rattle.writer.specs.Writes.{entryBytes, stored}
 use Rattle.writer.proofs.Chords.{chords-left, length-channels-in, length-kinds-in, length-chords-in, zeroChord}
-
-sets-append : {A : Type 0} (l : List A) (i : ℕ) (xs ys : List A)
-    → sets l i (xs ++ ys) ≡ sets (sets l i xs) (i + length xs) ys
-sets-append l i [] ys = let z : i + 0 ≡ i = omega arith in rw z
-sets-append l i (x ∷ xs) ys =
-    let z : i + suc (length xs) ≡ suc i + length xs = omega arith in
-    rw z (sets-append (set l i x) (suc i) xs ys)
 
 equal-in : (c : DC.Chord) → chordIn c .equal ≡ c .equal
 unfolding chordIn
@@ -47,10 +41,6 @@ module _ (t : DT.Table) (i : ℕ) (h : i < t .«chords_len») where
     members-next = rw (chords-left t i h, sets-append, length-channels-in x)
 
 -- the four sections stored in turn are the table's bytes, and what is past them is kept
-length-entries : (next : ℕ) (cs : List Chord) → length (writtenChords next cs) ≡ 4 * length cs
-length-entries next [] = refl
-length-entries next (c ∷ cs) = omega (arith, length-entries (next + length (c .channels)) cs)
-
 pub length-written : (t : DT.Table) → length (tableBytes (tableIn t))
     ≡ 12 + t .«kinds_len» + 4 * t .«chords_len» + length (writtenMembers (tableIn t .chords))
 length-written t =

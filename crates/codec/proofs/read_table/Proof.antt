@@ -3,7 +3,7 @@ use mathlib.Core.List.{List}
 use Prim.Native.Nat.{ℕ}
 use Rattle.model.specs.Layout.{tableRefusal, tableOf}
 use Rattle.codec.specs.declared.Read as DR
-use Rattle.codec.specs.Views.{tableIn, readOf}
+use Rattle.codec.specs.Views.{tableIn, tableRead}
 use Rattle.codec.proofs.Views.{read-seen}
 use mathlib.Core.Path.{_≡_, sym, _∙_}
 use borrow.Author.Tests.{ne-eqb}
@@ -15,8 +15,8 @@ none : (c : tie.Else1) → tableRefusal (c .before .before .before .args .bytes 
 none c = sym (c .before .table-refusal .ensures) ∙ c .if1 .left
 
 -- what was read, seen as a table
-seen : (s : List ℕ) (r : DR.Read) → r ≡ readOf s
-    → (r ≡ readOf s) × (tableRefusal s ≡ 0 → tableIn (r .table) ≡ tableOf s)
+seen : (s : List ℕ) (r : DR.Read) → r ≡ tableRead s
+    → (r ≡ tableRead s) × (tableRefusal s ≡ 0 → tableIn (r .table) ≡ tableOf s)
 seen s r e = (e, λ z. rw e (read-seen s z))
 
 table-refusal-requires : tie.Need-table-refusal-requires
@@ -26,7 +26,7 @@ empty-table-requires : tie.Need-empty-table-requires
 empty-table-requires c κs = search needs
 
 returns : tie.Need-returns
-unfolding readOf
+unfolding tableRead
 returns c =
     let t = c .before .before in
     let r = t .table-refusal .ensures in
@@ -37,7 +37,7 @@ table-read-requires : tie.Need-table-read-requires
 table-read-requires c κs = none c
 
 returns-2 : tie.Need-returns-2
-unfolding readOf
+unfolding tableRead
 returns-2 c =
     let s = c .before .before .before .before in
     seen (s .args .bytes .now) _ (rw (none (c .before), c .table-read .ensures))

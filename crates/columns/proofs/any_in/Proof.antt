@@ -1,12 +1,12 @@
 -- `columns::any_in` meets its contract: what is found so far, or in what is left.
-use mathlib.Core.Bool.{_||_}
+use mathlib.Core.Bool.{_||_, or-assoc, or-false}
 use mathlib.Core.Path.{_≡_, refl, sym, _∙_}
 use Prim.Native.Nat.{_≤_, _-_}
 use native.Mathlib.Numerals.{add-one}
 use native.Mathlib.Omega.{arith}
 use borrow.Author.Needs.{needs}
 use Rattle.columns.specs.Firsts.{firstFrom, found, ofKind}
-use Rattle.columns.proofs.Firsts.{or-joined, or-false, found-pick, first-step, first-end}
+use Rattle.columns.proofs.Firsts.{found-pick, first-step, first-end}
 use Rattle.columns.proofs.any_in.Statement.{statement}
 use Rattle.columns.proofs.any_in.Tie as tie
 
@@ -43,7 +43,7 @@ loop-again c =
       search needs,
       p .loop .inv .1
           ∙ rw (first-step q i (a .to) (omega arith), add-one i, found-pick (q i) i)
-          (or-joined (p .loop .any) (q i) _),
+          (sym (or-assoc (p .loop .any) (q i) _)),
     )
 
 returns : tie.Need-returns Inv-loop μ-loop

@@ -1,3 +1,4 @@
+-- `columns::block_end` meets its contract: a whole block, or what is left.
 use mathlib.Core.Logic.{inl, inr}
 use mathlib.Core.Path.{refl}
 use borrow.Author.Needs.{needs}

@@ -1,3 +1,4 @@
+-- `columns::in_block` meets its contract: the lowest bit of a block's word.
 use mathlib.Core.Path.{_≡_}
 use Prim.Native.Nat.{_-_}
 use borrow.Author.Needs.{needs}

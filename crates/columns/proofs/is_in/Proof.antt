@@ -1,3 +1,4 @@
+-- `columns::is_in` meets its contract: what is left decides. The measure is the number left.
 use mathlib.Core.Path.{_≡_, sym, _∙_}
 use Prim.Native.Nat.{_≤_, _-_}
 use native.Mathlib.Omega.{arith}

@@ -1,3 +1,4 @@
+-- `columns::lowest` meets its contract: the first that passes.
 use mathlib.Core.Path.{_∙_}
 use borrow.Author.Needs.{needs}
 use Rattle.columns.specs.Columns.{columnsBy}

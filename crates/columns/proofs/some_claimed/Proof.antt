@@ -1,3 +1,4 @@
+-- `columns::some_claimed` meets its contract: a first one was found.
 use borrow.Author.Needs.{needs}
 use Rattle.columns.specs.Columns.{columnsBy}
 use Rattle.columns.proofs.Firsts.{found-is}

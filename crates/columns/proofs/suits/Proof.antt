@@ -1,9 +1,9 @@
-use mathlib.Core.Bool.{_||_, not}
+-- `columns::suits` meets its contract, by the first of its tests that fails.
+use mathlib.Core.Bool.{_||_, not, and-false, and-true}
 use lib.Dec.{eqb}
 use lib.ListN.{getD}
 use borrow.Author.Needs.{needs}
 use borrow.Author.Tests.{eq-eqb, ne-eqb}
-use Rattle.columns.proofs.Walks.{and-false, and-true}
 use Rattle.columns.proofs.suits.Statement.{statement}
 use Rattle.columns.proofs.suits.Tie as tie
 

@@ -1,3 +1,4 @@
+-- `columns::takes` meets its contract: the two tests in one.
 use borrow.Author.Needs.{needs}
 use Rattle.columns.specs.Firsts.{taking}
 use Rattle.columns.proofs.takes.Statement.{statement}

@@ -1,3 +1,4 @@
+-- `columns::word_at` meets its contract: the bytes of the kinds, as a word.
 use mathlib.Core.Path.{_∙_}
 use native.Mathlib.Omega.{arith}
 use borrow.Author.Needs.{needs}

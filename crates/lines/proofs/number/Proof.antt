@@ -7,7 +7,7 @@ use native.Mathlib.Omega.{arith}
 use borrow.Author.Tests.{not-true, not-false}
 use lib.ListN.{length, getD, drop, drop-of-length-le}
 use Rattle.model.specs.Basics.{every}
-use Rattle.model.specs.Lines.{isDigit, valueFrom, valueOf}
+use Rattle.model.specs.Lines.{isDigit, valueFrom, digitsValue}
 use Rattle.lines.proofs.Digits.{digit-range, digits-no, digits-next, value-next, value-over}
 use Rattle.lines.proofs.Digits.{none-empty, none-digit, none-over, some-number}
 use borrow.Author.Needs.{needs}
@@ -20,7 +20,7 @@ Inv-loop s most n₀ i₀ n i =
     × (i ≤ length s)
     × (n ≤ most)
     × (every isDigit s ≡ every isDigit (drop i s))
-    × (valueOf s ≡ valueFrom n (drop i s))
+    × (digitsValue s ≡ valueFrom n (drop i s))
 
 abbrev μ-loop : tie.MeasureT-loop
 μ-loop s most n₀ i₀ n i = length s - i

@@ -1,10 +1,11 @@
 -- `lines::read_add` meets its contract: four fields, cut one after the other.
+use Rattle.model.proofs.Lists.{to-end}
 use mathlib.Core.Path.{sym}
 use mathlib.Core.List.{List}
 use Prim.Native.Nat.{ℕ, _+_, _≤_}
 use native.Mathlib.Omega.{arith}
 use lib.ListN.{length}
-use Rattle.lines.proofs.Fields.{Cut, field-more, field-last, add-more, to-end}
+use Rattle.lines.proofs.Fields.{Cut, field-more, field-last, add-more}
 use borrow.Author.Needs.{needs}
 use Rattle.lines.proofs.read_add.Statement.{statement}
 use Rattle.lines.proofs.read_add.Tie as tie

@@ -13,7 +13,7 @@ use Rattle.merging.specs.Merges.{mapOk, countsFit, mergedOf}
 use Rattle.merging.proofs.MergedAccepted.{map-says}
 use Rattle.merging.proofs.WriteLaws.{fits-room, write-refusal-is, written-is, first-refused}
 use Rattle.merging.proofs.WriteLaws.{second-refused, map-refused, counts-refused, none-refused}
-use Rattle.codec.specs.Views.{readOf}
+use Rattle.codec.specs.Views.{tableRead}
 use Rattle.codec.specs.declared.Read as DR
 use Rattle.writer.proofs.Chords.{length-kinds-in, length-chords-in}
 use Rattle.merger.proofs.Walks.{new-count}
@@ -48,7 +48,7 @@ read4 c = read3 (c .before .before)
 
 -- what the tests that were passed say
 number-is : (c : tie.After-read-table) → c .read-table .result .number ≡ tableRefusal (first c)
-unfolding readOf
+unfolding tableRead
 number-is c = ap (λ (r : DR.Read). r .number) (c .read-table .ensures .0)
 
 first-ok : (c : tie.Else1) → tableRefusal (first (c .before)) ≡ 0

@@ -6,7 +6,7 @@ use mathlib.Core.List.{[]}
 use Prim.Native.Nat.{_≤_, _<_, _-_, _+_}
 use native.Mathlib.Omega.{arith}
 use lib.ListN.{length, getD, drop, drop-of-length-le, length-set, getD-replicate}
-use Rattle.merging.specs.Merges.{noneTwice}
+use Rattle.merging.specs.Merges.{joinedOnce}
 use Rattle.merger.proofs.Walks.{Seen, seen-more, twice-here, twice-later}
 use borrow.Author.Needs.{needs}
 use Rattle.merger.proofs.none_twice.Statement.{statement}
@@ -14,7 +14,7 @@ use Rattle.merger.proofs.none_twice.Tie as tie
 
 abbrev Inv-loop : tie.InvT-loop
 Inv-loop map seen₀ i₀ seen i =
-    (i ≤ length map) × (noneTwice (drop i map) ≡ true) × (length seen ≡ 256) × Seen seen (drop i map)
+    (i ≤ length map) × (joinedOnce (drop i map) ≡ true) × (length seen ≡ 256) × Seen seen (drop i map)
 
 abbrev μ-loop : tie.MeasureT-loop
 μ-loop map seen₀ i₀ seen i = i

@@ -1,4 +1,3 @@
-use borrow.Author.Needs.{needs}
 -- `prints::put_text` meets its contract: the bytes so far are printed. The measure is the number of bytes left.
 use mathlib.Core.Path.{_≡_}
 use Prim.Native.Nat.{_≤_, _-_, _+_}
@@ -7,6 +6,7 @@ use lib.ListN.{length, take}
 use lib.Seq.{take-all}
 use Rattle.prints.specs.Printed.{Printed}
 use Rattle.prints.proofs.Texts.{none, kept, text-next}
+use borrow.Author.Needs.{needs}
 use Rattle.prints.proofs.put_text.Statement.{statement}
 use Rattle.prints.proofs.put_text.Tie as tie
 

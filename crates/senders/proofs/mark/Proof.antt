@@ -1,3 +1,4 @@
+-- `senders::mark` meets its contract, by the state.
 use mathlib.Core.Path.{sym, _∙_}
 use borrow.Author.Needs.{needs}
 use Rattle.senders.proofs.mark.Statement.{statement}

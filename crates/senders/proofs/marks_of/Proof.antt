@@ -4,7 +4,7 @@ use mathlib.Core.List.{map}
 use Prim.Native.Nat.{_≤_, _-_}
 use native.Mathlib.Omega.{arith}
 use borrow.Author.Needs.{needs}
-use lib.ListN.{length, take, set, length-set}
+use lib.ListN.{length, take, length-set}
 use Rattle.senders.specs.Seen.{markBy}
 use Rattle.senders.proofs.Alone.{mapped-step, mapped-end}
 use Rattle.senders.proofs.marks_of.Statement.{statement}

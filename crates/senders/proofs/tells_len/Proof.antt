@@ -5,11 +5,11 @@ use Prim.Native.Nat.{ℕ, _+_, _≤_, _-_}
 use native.Mathlib.Omega.{arith}
 use lib.ListN.{length, getD, take, drop}
 use Rattle.model.specs.Boards.{Board}
-use Rattle.model.specs.Layout.{tableOf}
+use Rattle.model.specs.Layout.{tableOf, flag}
 use Rattle.model.specs.Steps.{toTell}
-use Rattle.senders.specs.Seen.{Seen, isTold, bit}
+use Rattle.senders.specs.Seen.{Seen, isTold}
 use Rattle.senders.proofs.Walks.{left-whole, left-step, left-none}
-use Rattle.senders.proofs.Places.{tell-length, bit-small}
+use Rattle.senders.proofs.Places.{tell-length, flag-le}
 use borrow.Author.Needs.{needs}
 use Rattle.senders.proofs.tells_len.Statement.{statement}
 use Rattle.senders.proofs.tells_len.Tie as tie
@@ -61,8 +61,8 @@ loop-again c =
     let t = tableOf (a .table .now) in
     let x = getD (a .t3) (p .loop .i) 0 in
     let so = isTold t (a .channels .now) (a .n) (a .subject) x in
-    let few = bit-small so in
-    let sum : c .counted .result ≡ p .loop .count + bit so = rw (← q .is-told .ensures) (c .counted .ensures) in (
+    let few = flag-le so in
+    let sum : c .counted .result ≡ p .loop .count + flag so = rw (← q .is-told .ensures) (c .counted .ensures) in (
       search needs,
       omega arith,
       λ b m sees.

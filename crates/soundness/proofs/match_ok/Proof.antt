@@ -1,8 +1,8 @@
 -- `soundness::match_ok` meets its contract: the part that is tested starts with the match's numbers.
 use native.Mathlib.Omega.{arith}
 use lib.ListN.{length-drop}
-use Rattle.table.proofs.Walks.{to-end}
 use Rattle.model.proofs.TableLaws.{size-few}
+use Rattle.model.proofs.Lists.{to-end}
 use borrow.Author.Needs.{needs}
 use Rattle.soundness.proofs.match_ok.Statement.{statement}
 use Rattle.soundness.proofs.match_ok.Tie as tie

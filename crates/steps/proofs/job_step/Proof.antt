@@ -21,6 +21,13 @@ use borrow.Author.Needs.{needs}
 use Rattle.steps.proofs.job_step.Statement.{statement}
 use Rattle.steps.proofs.job_step.Tie as tie
 
+-- the start of the function, from the read of the subject's channel and from the match on the phase
+abbrev entry : tie.After-shared-slice-known5 → tie.Start
+entry c = c .before .before .before .before .before .before .before
+
+abbrev start : tie.After-shared-slice-known6 → tie.Start
+start c = entry (c .before)
+
 abbrev tab : tie.Start → Table
 tab s = tableOf (s .args .table .now)
 
@@ -79,13 +86,13 @@ cast-at c = search needs
 
 shared-slice-read-channel : tie.Need-shared-slice-read-channel
 shared-slice-read-channel c =
-    let s = c .before .before .before .before .before .before .before in
+    let s = entry c in
     let h = subject-in s in
     omega (arith, s .pre .1 .0 .lent .channels-all)
 
 shared-slice-read-opened : tie.Need-shared-slice-read-opened
 shared-slice-read-opened c =
-    let s = c .before .before .before .before .before .before .before .before in
+    let s = start c in
     let h = subject-in s in
     omega (arith, s .pre .1 .0 .lent .statuses-all)
 
@@ -95,7 +102,7 @@ enum-known-phase c = search needs
 look-step-requires : tie.Need-look-step-requires
 look-step-requires c κs =
     let q = c .before in
-    let s = q .before .before .before .before .before .before .before .before .before .before in
+    let s = start (q .before .before) in
     let g = q .phase .given in
     let p = place s (P.Look (g .0 .0)) (g .1) in
     ((s .pre .0 .0, p .0 .chord-in), ((g .1, p .1), ((subject-in s, s .pre .1 .0 .lent), s .pre .1 .1)))
@@ -103,7 +110,7 @@ look-step-requires c κs =
 returns : tie.Need-returns
 returns c =
     let q = c .before .before in
-    let s = q .before .before .before .before .before .before .before .before .before .before in
+    let s = start (q .before .before) in
     let g = q .phase .given in
     λ o em eb. step-is s o (P.Look (g .0 .0)) (g .1)
     (c .look-step .ensures o)
@@ -114,7 +121,7 @@ enum-known-phase-2 c = search needs
 is-pending-requires : tie.Need-is-pending-requires
 is-pending-requires c κs =
     let q = c .before in
-    let s = q .before .before .before .before .before .before .before .before .before .before in
+    let s = start (q .before .before) in
     let g = q .phase2 .given in
     let p = place s (P.Claim (g .0 .0)) (g .1) in
     let l = few s (p .0 .chord-in) in
@@ -125,7 +132,7 @@ is-pending-requires c κs =
 claim-step-requires : tie.Need-claim-step-requires
 claim-step-requires c κs =
     let q = c .before .before in
-    let s = q .before .before .before .before .before .before .before .before .before .before in
+    let s = start (q .before .before) in
     let g = q .phase2 .given in
     let p = place s (P.Claim (g .0 .0)) (g .1) in
     ((s .pre .0 .0, p .0 .chord-in), ((g .1, p .1), (s .pre .1 .0 .known _ (subject-in s), s .pre .1 .0 .few)))
@@ -133,7 +140,7 @@ claim-step-requires c κs =
 returns-2 : tie.Need-returns-2
 returns-2 c =
     let q = c .before .before .before in
-    let s = q .before .before .before .before .before .before .before .before .before .before in
+    let s = start (q .before .before) in
     let g = q .phase2 .given in
     λ o em eb. step-is s o (P.Claim (g .0 .0)) (g .1)
     (c .claim-step .ensures (board s o) (channel-is s o)
@@ -147,7 +154,7 @@ enum-known-phase-3 c = search needs
 revert-step-requires : tie.Need-revert-step-requires
 revert-step-requires c κs =
     let q = c .before in
-    let s = q .before .before .before .before .before .before .before .before .before .before in
+    let s = start (q .before .before) in
     let g = q .phase3 .given in
     let p = place s (P.Revert (g .0 .0) (g .0 .1 .0)) (g .1) in
     ((s .pre .0 .0, p .0 .chord-in), (g .1, omega (arith, p .1, p .2)))
@@ -155,7 +162,7 @@ revert-step-requires c κs =
 returns-3 : tie.Need-returns-3
 returns-3 c =
     let q = c .before .before in
-    let s = q .before .before .before .before .before .before .before .before .before .before in
+    let s = start (q .before .before) in
     let g = q .phase3 .given in
     λ o em eb. step-is s o (P.Revert (g .0 .0) (g .0 .1 .0)) (g .1)
     (c .revert-step .ensures (board s o) (channel-is s o))
@@ -164,13 +171,12 @@ enum-known-phase-4 : tie.Need-enum-known-phase-4
 enum-known-phase-4 c = search needs
 
 sees-requires : tie.Need-sees-requires
-sees-requires c κs = sees-asks (c .before .before .before .before .before .before .before .before .before .before
-    .before)
+sees-requires c κs = sees-asks (start (c .before .before .before))
 
 consume-step-requires : tie.Need-consume-step-requires
 consume-step-requires c κs =
     let q = c .before .before in
-    let s = q .before .before .before .before .before .before .before .before .before .before in
+    let s = start (q .before .before) in
     let g = q .phase4 .given in
     let p = place s (P.Consume (g .0 .0) (g .0 .1 .0)) (g .1) in (
       (s .pre .0 .0, p .0 .chord-in),
@@ -186,7 +192,7 @@ returns-4 : tie.Need-returns-4
 returns-4 c =
     let v = c .before in
     let q = v .before .before in
-    let s = q .before .before .before .before .before .before .before .before .before .before in
+    let s = start (q .before .before) in
     let g = q .phase4 .given in
     let saw = v .sees .ensures (s .args .properties .now) in
     λ o em eb. step-is s o (P.Consume (g .0 .0) (g .0 .1 .0)) (g .1)
@@ -197,13 +203,12 @@ enum-known-phase-5 : tie.Need-enum-known-phase-5
 enum-known-phase-5 c = search needs
 
 sees-requires-2 : tie.Need-sees-requires-2
-sees-requires-2 c κs = sees-asks (c .before .before .before .before .before .before .before .before .before .before
-    .before)
+sees-requires-2 c κs = sees-asks (start (c .before .before .before))
 
 tell-step-requires : tie.Need-tell-step-requires
 tell-step-requires c κs =
     let q = c .before .before in
-    let s = q .before .before .before .before .before .before .before .before .before .before in
+    let s = start (q .before .before) in
     let g = q .phase5 .given in
     let p = place s (P.Tell (g .0 .0)) (g .1) in
     let a = all s (P.Tell (g .0 .0)) (g .1) refl in (
@@ -219,7 +224,7 @@ returns-5 : tie.Need-returns-5
 returns-5 c =
     let v = c .before in
     let q = v .before .before in
-    let s = q .before .before .before .before .before .before .before .before .before .before in
+    let s = start (q .before .before) in
     let g = q .phase5 .given in
     let saw = v .sees2 .ensures (s .args .properties .now) in
     λ o em eb. step-is s o (P.Tell (g .0 .0)) (g .1)
@@ -231,7 +236,7 @@ enum-told c = search needs
 
 wake-step-requires : tie.Need-wake-step-requires
 wake-step-requires c κs =
-    let s = c .before .before .before .before .before .before .before .before .before .before in
+    let s = start (c .before .before) in
     let g = c .enum-told .given in
     let p = place s P.Wake (g .1) in
     let f = wakes-first (tab s) (s .args .d .job .chord) (channelOf (ready s) (s .args .d .job .subject)) (p .1) .0 in
@@ -240,7 +245,7 @@ wake-step-requires c κs =
 returns-6 : tie.Need-returns-6
 returns-6 c =
     let q = c .before in
-    let s = q .before .before .before .before .before .before .before .before .before .before in
+    let s = start (q .before .before) in
     let g = q .enum-told .given in
     λ o em eb. step-is s o P.Wake (g .1)
     (c .wake-step .ensures (board s o))
@@ -251,7 +256,7 @@ enum-known-phase-6 c = search needs
 free-step-requires : tie.Need-free-step-requires
 free-step-requires c κs =
     let q = c .before in
-    let s = q .before .before .before .before .before .before .before .before .before .before in
+    let s = start (q .before .before) in
     let g = q .phase6 .given in
     let p = place s (P.Free (g .0 .0)) (g .1) in
     let f = wakes-first (tab s) (s .args .d .job .chord) (channelOf (ready s) (s .args .d .job .subject)) (p .1) .0 in
@@ -260,7 +265,7 @@ free-step-requires c κs =
 returns-7 : tie.Need-returns-7
 returns-7 c =
     let q = c .before .before in
-    let s = q .before .before .before .before .before .before .before .before .before .before in
+    let s = start (q .before .before) in
     let g = q .phase6 .given in
     λ o em eb. step-is s o (P.Free (g .0 .0)) (g .1)
     (c .free-step .ensures (board s o))
@@ -269,12 +274,12 @@ enum-told-2 : tie.Need-enum-told-2
 enum-told-2 c = search needs
 
 sees-requires-3 : tie.Need-sees-requires-3
-sees-requires-3 c κs = sees-asks (c .before .before .before .before .before .before .before .before .before .before)
+sees-requires-3 c κs = sees-asks (start (c .before .before))
 
 signal-step-requires : tie.Need-signal-step-requires
 signal-step-requires c κs =
     let q = c .before in
-    let s = q .before .before .before .before .before .before .before .before .before .before in
+    let s = start (q .before .before) in
     let g = q .enum-told2 .given in
     let p = place s P.Signal (g .1) in
     let f = wakes-first (tab s) (s .args .d .job .chord) (channelOf (ready s) (s .args .d .job .subject)) (p .1) .0 in
@@ -284,7 +289,7 @@ returns-8 : tie.Need-returns-8
 returns-8 c =
     let v = c .before in
     let q = v .before in
-    let s = q .before .before .before .before .before .before .before .before .before .before in
+    let s = start (q .before .before) in
     let g = q .enum-told2 .given in
     let saw = v .sees3 .ensures (s .args .properties .now) in
     λ o em eb. step-is s o P.Signal (g .1)
@@ -295,7 +300,7 @@ enum-told-3 : tie.Need-enum-told-3
 enum-told-3 c = search needs
 
 sees-requires-4 : tie.Need-sees-requires-4
-sees-requires-4 c κs = sees-asks (c .before .before .before .before .before .before .before .before .before .before)
+sees-requires-4 c κs = sees-asks (start (c .before .before))
 
 pass-end-step-requires : tie.Need-pass-end-step-requires
 pass-end-step-requires c κs = search needs
@@ -304,7 +309,7 @@ returns-9 : tie.Need-returns-9
 returns-9 c =
     let v = c .before in
     let q = v .before in
-    let s = q .before .before .before .before .before .before .before .before .before .before in
+    let s = start (q .before .before) in
     let g = q .enum-told3 .given in
     let saw = v .sees4 .ensures (s .args .properties .now) in
     λ o em eb. step-is s o P.PassEnd (g .1)
@@ -321,7 +326,7 @@ backoff-step-requires c κs = search needs
 returns-10 : tie.Need-returns-10
 returns-10 c =
     let q = c .before .before in
-    let s = q .before .before .before .before .before .before .before .before .before .before in
+    let s = start (q .before .before) in
     let g = q .phase7 .given in
     λ o em eb. step-is s o (P.Backoff (g .0 .0)) (g .1)
     (c .backoff-step .ensures (board s o) (channel-is s o))
