@@ -2,7 +2,6 @@
 ghost use mathlib.Core.Path.{_≡_};
 ghost use Prim.Native.Nat.{_+_, _*_, _<_, _≤_};
 ghost use lib.ListN.{length, getD};
-ghost use Rattle.model.specs.Effects.{wordOf, valueOf, numberOf};
 ghost use Rattle.columns.specs.Columns.{Passed};
 ghost use Rattle.state.specs.Views.{saidIn};
 ghost use Rattle.boards.specs.Calls.{callIn};
@@ -58,91 +57,13 @@ pub fn play(
     }
 }
 
-// The word by its number.
-fn word_of(said: Said) -> u8
-    ensures { λ r. ⌜ r ≡ wordOf (saidIn said) ⌝ }
-{
-    match said {
-        Said::Item(_) => 0,
-        Said::Looked(_) => 1,
-        Said::Missed => 2,
-        Said::Claimed(_) => 3,
-        Said::Lost(_) => 4,
-        Said::Reverted(_) => 5,
-        Said::Matched(_) => 6,
-        Said::Consumed(_) => 7,
-        Said::Told(_) => 8,
-        Said::Woke(_) => 9,
-        Said::Freed(_) => 10,
-        Said::Signalled(_) => 11,
-        Said::Again => 12,
-        Said::Ended => 13,
-        Said::Rested => 14,
-        Said::Answered(_) => 15,
-        Said::Resumed => 16,
-        Said::Refused(_) => 17,
-    }
-}
-
-// The message or match number beside the word; 0 where there is none.
-fn value_of(said: Said) -> u16
-    ensures { λ r. ⌜ r ≡ valueOf (saidIn said) ⌝ }
-{
-    match said {
-        Said::Item(n) => n,
-        Said::Looked(n) => n,
-        Said::Missed => 0,
-        Said::Claimed(n) => n,
-        Said::Lost(n) => n,
-        Said::Reverted(n) => n,
-        Said::Matched(n) => n,
-        Said::Consumed(n) => n,
-        Said::Told(n) => n,
-        Said::Woke(n) => n,
-        Said::Freed(n) => n,
-        Said::Signalled(n) => n,
-        Said::Again => 0,
-        Said::Ended => 0,
-        Said::Rested => 0,
-        Said::Answered(n) => n,
-        Said::Resumed => 0,
-        Said::Refused(_) => 0,
-    }
-}
-
-// The refusal; 0 where the call was accepted.
-fn number_of(said: Said) -> u8
-    ensures { λ r. ⌜ r ≡ numberOf (saidIn said) ⌝ }
-{
-    match said {
-        Said::Item(_) => 0,
-        Said::Looked(_) => 0,
-        Said::Missed => 0,
-        Said::Claimed(_) => 0,
-        Said::Lost(_) => 0,
-        Said::Reverted(_) => 0,
-        Said::Matched(_) => 0,
-        Said::Consumed(_) => 0,
-        Said::Told(_) => 0,
-        Said::Woke(_) => 0,
-        Said::Freed(_) => 0,
-        Said::Signalled(_) => 0,
-        Said::Again => 0,
-        Said::Ended => 0,
-        Said::Rested => 0,
-        Said::Answered(_) => 0,
-        Said::Resumed => 0,
-        Said::Refused(n) => n,
-    }
-}
-
 // An answer as one number.
 pub fn answer_number(said: Said) -> u32
     ensures { λ r. ⌜ r ≡ answerNumber (saidIn said) ⌝ }
 {
-    let word = word_of(said) as u32;
-    let value = value_of(said) as u32;
-    let number = number_of(said) as u32;
+    let word = state::word_of(said) as u32;
+    let value = state::value_of(said) as u32;
+    let number = state::number_of(said) as u32;
     word * 65536 + (value + number)
 }
 

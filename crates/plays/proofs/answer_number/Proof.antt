@@ -33,7 +33,7 @@ add-result-2 c = search needs
 
 returns : tie.Need-returns
 unfolding answerNumber
-returns c = cc (c .number-of .ensures, c .before .value-of .ensures, c .before .before .word-of .ensures)
+returns c = cc (c .number-of .ensures, c .before .value-of .ensures, c .before .before .word-of .ensures .0)
 
 pub answer-number-spec : {M : Type 1} → statement M
 answer-number-spec =
