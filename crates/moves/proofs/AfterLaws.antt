@@ -15,7 +15,7 @@ use Rattle.state.specs.declared.Change.the-variants as G
 use Rattle.refusals.specs.Judged.{statusesOk, Lengths}
 use Rattle.refusals.specs.Calls.{SameFrom}
 use Rattle.refusals.proofs.CallLaws.{status-written}
-use Rattle.applies.specs.Writes.{Sure, statusBy, statusesBy, matchedBy, wakersBy, chordsBy, matchMessagesBy, matchesBy}
+use Rattle.writes.specs.Writes.{Sure, statusBy, statusesBy, matchedBy, wakersBy, chordsBy, matchMessagesBy, matchesBy}
 
 -- a turn's status is one
 status-small : (u : DU.Turn) → statusBy u ≤ 3

@@ -27,8 +27,8 @@ use Rattle.refusals.proofs.CallLaws.{plays-it}
 use Rattle.adds.proofs.RefusalLaws.{refusal-is}
 use Rattle.adds.proofs.MessageLaws.{Room, written}
 use Rattle.adds.proofs.AddLaws.{withMessage, added-is}
-use Rattle.applies.specs.Writes.{Sure}
-use Rattle.applies.proofs.ApplyLaws.{Whole, applied}
+use Rattle.writes.specs.Writes.{Sure}
+use Rattle.writes.proofs.ApplyLaws.{Whole, applied}
 use Rattle.writes.specs.declared.Move as DM
 use Rattle.writes.specs.Moves.{movedHeld}
 use Rattle.moves.specs.Refused.{callRefusal}

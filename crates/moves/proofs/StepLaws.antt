@@ -35,8 +35,8 @@ use Rattle.refusals.specs.Calls.{boardOf, refusalOf, Plays}
 use Rattle.refusals.proofs.Refusals.{lent-whole, board-sound, sound-board, messages-few, matches-few}
 use Rattle.refusals.proofs.CallLaws.{plays-nothing}
 use Rattle.steps.specs.Ready.{Ready}
-use Rattle.applies.specs.Writes.{Sure, ChordsFit}
-use Rattle.applies.proofs.SureLaws.{in-range-sure}
+use Rattle.writes.specs.Writes.{Sure, ChordsFit}
+use Rattle.writes.proofs.SureLaws.{in-range-sure}
 
 -- a step by columns that are equal to others
 module _ {ch pr st ch′ pr′ st′ : List ℕ} (a : ch ≡ ch′) (b : pr ≡ pr′) (c : st ≡ st′) where

@@ -231,6 +231,18 @@ pub fn is_idle(s: &[u16], i: u8) -> bool
     s[at] == 0
 }
 
+// Eight message numbers, from a place on.
+pub fn put_chosen(messages: &mut [u16], at: usize, chosen: [u16; 8])
+    requires { ⌜ at + 8 ≤ length (now messages) ⌝ }
+    ensures { λ r. ⌜ now (messages .exit) ≡ paste (now (messages .entry)) at chosen 8 ⌝ }
+{
+    let mut i = 0;
+    while i < 8 {
+        messages[at + i] = chosen[i];
+        i += 1;
+    }
+}
+
 // A sender's numbers from a place on.
 pub fn put_sender(d: Sender, s: &mut [u16], at: usize)
     requires { ⌜ at + 21 ≤ length (now s) ⌝ }
@@ -254,7 +266,7 @@ pub fn put_sender(d: Sender, s: &mut [u16], at: usize)
     s[at + 10] = phase_second(phase);
     s[at + 11] = flag_number(job.retry);
     s[at + 12] = job.retries as u16;
-    applies::put_chosen(s, at + 13, chosen);
+    put_chosen(s, at + 13, chosen);
 }
 
 // The senders' numbers, one after another.

@@ -9,7 +9,7 @@ use Rattle.state.specs.declared.Change as DG
 use Rattle.state.specs.declared.Change.the-variants as G
 use Rattle.state.specs.declared.Sender as DD
 use Rattle.boards.specs.declared.Board as DB
-use Rattle.applies.specs.Writes.{Sure, SignalFits, signalBy, signalledBy, sendersBy, matchesBy}
+use Rattle.writes.specs.Writes.{Sure, SignalFits, signalBy, signalledBy, sendersBy, matchesBy}
 use Rattle.writes.specs.declared.Move as DM
 use Rattle.writes.specs.Moves.{messagesBy, movedBoard}
 

@@ -9,7 +9,7 @@ use lib.Seq.{paste}
 use native.Mathlib.Omega.{arith}
 use Rattle.state.specs.declared.Sender as DD
 use Rattle.boards.specs.declared.Board as DB
-use Rattle.applies.specs.Writes.{signalBy, signalledBy, matchesBy}
+use Rattle.writes.specs.Writes.{signalBy, signalledBy, matchesBy}
 use Rattle.writes.specs.declared.Move as DM
 use Rattle.writes.specs.Moves.{messagesBy, movedBoard}
 use Rattle.writes.proofs.ChangeLaws.{signal-none, signal-some, moved-by}

@@ -15,8 +15,8 @@ use Rattle.state.specs.declared.Sender as DD
 use Rattle.state.specs.Views.{idleIs}
 use Rattle.boards.specs.declared.Board as DB
 use Rattle.boards.specs.Boards.{zeroSender}
-use Rattle.applies.specs.Writes.{signalledBy}
-use Rattle.applies.proofs.SignalLaws.{mapped-step, mapped-end}
+use Rattle.writes.specs.Writes.{signalledBy}
+use Rattle.writes.proofs.SignalledSenders.{mapped-step, mapped-end}
 use Rattle.rows.specs.Fits.{SenderFits, SendersFit, BoardFits}
 use Rattle.rows.specs.Flat.{stateNumber, senderNumbers, sendersNumbers, boardNumbers, flatOk}
 use Rattle.rows.specs.Decoded.{boardFrom}

@@ -11,7 +11,7 @@ use Rattle.model.proofs.Tests.{same?}
 use Rattle.columns.specs.Columns.{Passed}
 use Rattle.state.specs.declared.Change as DG
 use Rattle.state.specs.declared.Change.the-variants as G
-use Rattle.applies.specs.Writes.{statusesBy}
+use Rattle.writes.specs.Writes.{statusesBy}
 use Rattle.writes.specs.Moves.{putIf, turnedFrom}
 
 -- below the message that is added, and below the one that a change turns, the statuses are as they were

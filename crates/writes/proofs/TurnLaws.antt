@@ -17,7 +17,7 @@ use Rattle.boards.specs.Layout.{Lists, lists, chordsIn, membersIn, bytesLen, li
 use Rattle.boards.specs.Layout.{statusesAt, wakersAt, chordsAt, membersAt}
 use Rattle.boards.proofs.PartLaws.{set-here, set-before, set-after, getD-part, length-part}
 use Rattle.boards.proofs.PartLaws.{splice-here, splice-below, length-splice}
-use Rattle.applies.specs.Writes.{statusBy, matchBy, wakerBy}
+use Rattle.writes.specs.Writes.{statusBy, matchBy, wakerBy}
 use Rattle.writes.specs.Written.{Written}
 
 -- what a turn of message n writes

@@ -1,4 +1,5 @@
--- A move, and what it leaves.
+-- What a move is, and what it writes.
+pub mod Writes
 pub mod Moves
-pub mod Written
 pub mod Signals
+pub mod Written

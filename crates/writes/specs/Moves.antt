@@ -10,8 +10,8 @@ use Rattle.state.specs.declared.Change as DG
 use Rattle.state.specs.declared.Change.the-variants as G
 use Rattle.boards.specs.declared.Board as DB
 use Rattle.boards.specs.Calls.{Held, held}
-use Rattle.applies.specs.Writes.{Sure, sendersBy, matchesBy}
-use Rattle.applies.specs.Writes.{statusesBy, matchedBy, wakersBy, chordsBy, matchMessagesBy}
+use Rattle.writes.specs.Writes.{Sure, sendersBy, matchesBy}
+use Rattle.writes.specs.Writes.{statusesBy, matchedBy, wakersBy, chordsBy, matchMessagesBy}
 use Rattle.writes.specs.declared.Move as DM
 
 -- a column with a at place n, where a message is added

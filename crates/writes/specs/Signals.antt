@@ -6,7 +6,7 @@ use lib.Dec.{eqb}
 use lib.ListN.{getD, set}
 use Rattle.model.specs.Basics.{pick}
 use Rattle.boards.specs.declared.Board as DB
-use Rattle.applies.specs.Writes.{signalledBy}
+use Rattle.writes.specs.Writes.{signalledBy}
 
 -- the sender whose numbers are from a place on is not idle, and own is its own message plus 1
 abbrev pub ownedAt : List ℕ → ℕ → ℕ → Bool

@@ -7,7 +7,7 @@ use Rattle.columns.specs.MatchColumns.{MatchColumns, matchesOf}
 use Rattle.state.specs.declared.Change as DG
 use Rattle.state.specs.declared.Job as DJ
 use Rattle.boards.specs.Layout.{Lists, columnsIn, matchesIn}
-use Rattle.applies.specs.Writes.{statusesBy, matchedBy, wakersBy, chordsBy, matchMessagesBy}
+use Rattle.writes.specs.Writes.{statusesBy, matchedBy, wakersBy, chordsBy, matchMessagesBy}
 
 -- the columns after a change, and the matches with match k
 abbrev pub columnsAfter : DG.Change → Columns → Columns

@@ -14,7 +14,8 @@ ghost use Rattle.boards.specs.Layout.{chordsAt, membersAt, statusesIn, chordsIn
 ghost use Rattle.rows.specs.Flat.{flatOk};
 ghost use Rattle.rows.specs.Decoded.{boardFrom};
 ghost use Rattle.refusals.specs.Held.{heldOf};
-ghost use Rattle.applies.specs.Writes.{statusBy, matchBy, wakerBy, WakerFits, Sure, statusesBy};
+ghost use Rattle.writes.specs.Writes.{statusBy, matchBy, wakerBy, WakerFits, Sure, statusesBy, matchesBy};
+ghost use Rattle.writes.specs.Writes.{SignalFits, signalBy};
 ghost use Rattle.writes.specs.Moves.{putIf, messagesBy, turnedFrom, movedBoard, movedHeld, Fits};
 ghost use Rattle.writes.specs.Signals.{signalAt, signalledBoard};
 ghost use Rattle.writes.specs.Written.{Written};
@@ -86,6 +87,46 @@ fn put_added(
     put_message(n, x, bytes, links, keys, cents);
 }
 
+// The status that a turn leaves.
+fn status_after(u: Turn) -> u8
+    ensures { λ r. ⌜ r ≡ statusBy u ⌝ }
+{
+    match u {
+        Turn::Claims => 1,
+        Turn::Frees => 0,
+        Turn::Consumes(_) => 3,
+        Turn::WakesBy(_) => 2,
+        Turn::Resumes => 0,
+    }
+}
+
+// The match that a message notes after a turn, plus 1.
+fn match_after(u: Turn, m: u16) -> u16
+    ensures { λ r. ⌜ r ≡ matchBy u m ⌝ }
+{
+    match u {
+        Turn::Claims => m,
+        Turn::Frees => m,
+        Turn::Consumes(k) => k,
+        Turn::WakesBy(_) => m,
+        Turn::Resumes => m,
+    }
+}
+
+// The waker that a message notes after a turn, plus 1.
+fn waker_after(u: Turn, w: u16) -> u16
+    requires { ⌜ WakerFits u ⌝ }
+    ensures { λ r. ⌜ r ≡ wakerBy u w ⌝ }
+{
+    match u {
+        Turn::Claims => w,
+        Turn::Frees => w,
+        Turn::Consumes(_) => w,
+        Turn::WakesBy(h) => h + 1,
+        Turn::Resumes => w,
+    }
+}
+
 // Message n turns.
 fn turn_message(n: u16, u: Turn, bytes: &mut [u8], links: &mut [u16])
     requires { ⌜ (n < 1024) × (length (now bytes) ≡ bytesLen) × (length (now links) ≡ linksLen) × WakerFits u ⌝ }
@@ -94,12 +135,23 @@ fn turn_message(n: u16, u: Turn, bytes: &mut [u8], links: &mut [u16])
         (wakersAt + n) (wakerBy u (getD (now (links .entry)) (wakersAt + n) 0))) ⌝ }
 {
     let k = n as usize;
-    let s = applies::status_after(u);
-    let m = applies::match_after(u, links[k]);
-    let w = applies::waker_after(u, links[boards::WAKERS + k]);
+    let s = status_after(u);
+    let m = match_after(u, links[k]);
+    let w = waker_after(u, links[boards::WAKERS + k]);
     bytes[boards::STATUSES + k] = s;
     links[k] = m;
     links[boards::WAKERS + k] = w;
+}
+
+// Match k: its chord and its eight message numbers.
+fn put_match(chords: &mut [u8], messages: &mut [u16], k: u16, chord: u8, chosen: [u16; 8])
+    requires { ⌜ (k < length (now chords)) × (8 * k + 8 ≤ length (now messages)) ⌝ }
+    ensures { λ r. ⌜ (now (chords .exit) ≡ set (now (chords .entry)) k chord)
+        × (now (messages .exit) ≡ paste (now (messages .entry)) (8 * k) chosen 8) ⌝ }
+{
+    let n = k as usize;
+    rows::put_chosen(messages, 8 * n, chosen);
+    chords[n] = chord;
 }
 
 // Match k is recorded.
@@ -110,7 +162,7 @@ fn record_match(k: u16, chord: u8, chosen: [u16; 8], bytes: &mut [u8], links: &m
         × (now (links .exit) ≡ splice membersAt 8192 (paste (membersIn (now (links .entry))) (8 * k) chosen 8)
         (now (links .entry))) ⌝ }
 {
-    applies::record_match(
+    put_match(
         &mut bytes[boards::CHORDS..boards::BYTES_LEN],
         &mut links[boards::MEMBERS..boards::LINKS_LEN],
         k,
@@ -182,6 +234,32 @@ fn put_signal(s: &mut [u16], own: u16)
     }
 }
 
+// The message whose sender a change signals, plus 1; 0 for none.
+fn signals(c: Change) -> u16
+    requires { ⌜ SignalFits c ⌝ }
+    ensures { λ r. ⌜ r ≡ signalBy c ⌝ }
+{
+    match c {
+        Change::None => 0,
+        Change::Turn(_, _) => 0,
+        Change::Record(_) => 0,
+        Change::Signal(n) => n + 1,
+    }
+}
+
+// How many matches there are after a change.
+fn matches_after(c: Change, k: u16) -> u16
+    requires { ⌜ k ≤ 1024 ⌝ }
+    ensures { λ r. ⌜ r ≡ matchesBy c k ⌝ }
+{
+    match c {
+        Change::None => k,
+        Change::Turn(_, _) => k,
+        Change::Record(_) => k + 1,
+        Change::Signal(_) => k,
+    }
+}
+
 // Writes the move m of the sender at a place: the sender, the counts, and a signal.
 fn put_moved(m: Move, i: u8, s: &mut [u16])
     requires { ⌜ (flatOk (now s) ≡ true) × (i < 32) × (getD (now s) 0 0 ≤ 1024) × (getD (now s) 1 0 ≤ 1024)
@@ -195,8 +273,8 @@ fn put_moved(m: Move, i: u8, s: &mut [u16])
     let c = m.change;
     rows::put_sender(d, s, 2 + 21 * (i as usize));
     s[0] = messages_after(m.adds, n);
-    s[1] = applies::matches_after(c, k);
-    let x = applies::signals(c);
+    s[1] = matches_after(c, k);
+    let x = signals(c);
     if x == 0 {
         return;
     }

@@ -6,7 +6,7 @@ use lib.ListN.{length, set, length-set, length-map}
 use Rattle.state.specs.declared.Turn.the-variants as U
 use Rattle.state.specs.declared.Change.the-variants as G
 use Rattle.boards.specs.Layout.{lists, bytesLen, linksLen}
-use Rattle.applies.specs.Writes.{Sure, WakerFits}
+use Rattle.writes.specs.Writes.{Sure, WakerFits}
 use Rattle.writes.proofs.TurnLaws.{turnedBytes, turnedLinks, turn-written, record-written, none-written}
 use Rattle.writes.proofs.TurnLaws.{signal-written, written-by}
 use Rattle.writes.proofs.write_change.Statement.{statement}

@@ -1,2 +1,0 @@
--- Laws of an opened board.
-pub mod OpenLaws

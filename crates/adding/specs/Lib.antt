@@ -1,2 +1,0 @@
--- The empty board.
-pub mod Opens

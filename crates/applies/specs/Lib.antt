@@ -1,2 +1,0 @@
--- What an effect writes.
-pub mod Writes

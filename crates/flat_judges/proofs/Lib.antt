@@ -1,2 +1,0 @@
--- Laws of the refusal over numbers and columns.
-pub mod FlatLaws

@@ -1,2 +1,0 @@
--- A signal on the board's plain numbers.
-pub mod Signals

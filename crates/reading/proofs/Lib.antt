@@ -1,3 +1,0 @@
--- Laws of the reads.
-pub mod ReadLaws
-pub mod AcceptedLaws

@@ -1,2 +1,0 @@
--- What the reads answer on any bytes and numbers.
-pub mod Answers

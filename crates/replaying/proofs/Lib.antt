@@ -1,2 +1,0 @@
--- A replay is the model's schedule.
-pub mod ScheduleLaws

@@ -1,2 +1,0 @@
--- What a call does, and what is held after it.
-pub mod Moves
