@@ -1,8 +1,8 @@
-// An add: its refusals, its sender, and the record that it writes.
+// An add: its refusals, and its sender.
 ghost use mathlib.Core.Path.{_≡_};
 ghost use mathlib.Core.List.{List};
 ghost use Prim.Native.Nat.{_<_};
-ghost use lib.ListN.{length, getD, set};
+ghost use lib.ListN.{getD};
 ghost use Rattle.model.specs.Boards as MB;
 ghost use Rattle.model.specs.Layout.{tableRefusal, tableOf};
 ghost use Rattle.model.specs.Adds.{centsOk, newSender};
@@ -58,35 +58,4 @@ pub fn new_sender(table: &[u8], n: u16, channel: u8) -> Sender
         matched: 0,
         job: job,
     }
-}
-
-// Writes message n: pending, of no match and with no waker.
-pub fn put_message(
-    n: u16,
-    channel: u8,
-    property: u32,
-    amount: i64,
-    channels: &mut [u8],
-    properties: &mut [u32],
-    cents: &mut [i64],
-    statuses: &mut [u8],
-    matched: &mut [u16],
-    wakers: &mut [u16],
-)
-    requires { ⌜ (n < length (now channels)) × (n < length (now properties)) × (n < length (now cents)) ⌝ }
-    requires { ⌜ (n < length (now statuses)) × (n < length (now matched)) × (n < length (now wakers)) ⌝ }
-    ensures { λ r. ⌜ (now (channels .exit) ≡ set (now (channels .entry)) n channel)
-        × (now (properties .exit) ≡ set (now (properties .entry)) n property)
-        × (now (cents .exit) ≡ set (now (cents .entry)) n amount)
-        × (now (statuses .exit) ≡ set (now (statuses .entry)) n 0)
-        × (now (matched .exit) ≡ set (now (matched .entry)) n 0)
-        × (now (wakers .exit) ≡ set (now (wakers .entry)) n 0) ⌝ }
-{
-    let k = n as usize;
-    channels[k] = channel;
-    properties[k] = property;
-    cents[k] = amount;
-    statuses[k] = 0;
-    matched[k] = 0;
-    wakers[k] = 0;
 }

@@ -1,4 +1,4 @@
--- Laws of marks and of senders walked from the front: each by itself, and each with those after it.
+-- Laws of marks walked from the front: each with those after it.
 use mathlib.Core.Path.{_≡_, refl, sym, ap, _∙_}
 use mathlib.Core.Logic.{_≢_}
 use mathlib.Core.Bool.{Bool, true, false, _&&_, not}
@@ -106,17 +106,3 @@ module _ (t : Table) where
         others-is (d .own) ds,
         ih,
       )
-
--- Senders, each by itself
-
-module _ {A : Type 0} (view : A → Sender) (s : List A) where
-  module _ (f : Sender → Bool) where
-    pub each-no : (z : A) (i : ℕ) → i < length s → f (view (getD s i z)) ≡ false → every f (map view (drop i s)) ≡ false
-    each-no z i h e = rw (drop-cons s i z h, e)
-
-    pub each-yes : (z : A) (i : ℕ) → i < length s → f (view (getD s i z)) ≡ true
-        → every f (map view (drop i s)) ≡ every f (map view (drop (i + 1) s))
-    each-yes z i h e = rw (drop-cons s i z h, add-one i, e)
-
-    pub each-end : (i : ℕ) → length s ≤ i → every f (map view (drop i s)) ≡ true
-    each-end i h = rw (drop-of-length-le s h)

@@ -1,22 +1,19 @@
 // The part of the soundness test that is about senders, on any numbers that they may hold.
 ghost use mathlib.Core.Path.{_≡_};
 ghost use mathlib.Core.Bool.{true, _&&_, not};
-ghost use mathlib.Core.List.{map};
 ghost use Prim.Native.Nat.{ℕ, _+_, _<_, _≤_};
 ghost use lib.Dec.{ltb};
 ghost use lib.ListN.{length, take, drop};
-ghost use Rattle.model.specs.Basics.{every};
 ghost use Rattle.model.specs.Tables as MT;
 ghost use Rattle.model.specs.Boards as MB;
 ghost use Rattle.model.specs.Steps.{toTell};
 ghost use Rattle.model.specs.Layout.{tableRefusal, tableOf, flag};
-ghost use Rattle.model.specs.Sound.{allBelow, placeOk, jobOk, stateOk, senderOk, noneShared};
-ghost use Rattle.state.specs.Views.{phaseIn, chosenBy, jobIn, stateIn, senderIn};
-ghost use Rattle.senders.specs.Seen.{Seen, Known, channelIn, inChord, isTold, markBy, noneTwice};
+ghost use Rattle.model.specs.Sound.{allBelow, placeOk, jobOk};
+ghost use Rattle.state.specs.Views.{phaseIn, chosenBy, jobIn, senderIn};
+ghost use Rattle.senders.specs.Seen.{Seen, Known, channelIn, inChord, isTold, noneTwice};
 use state::Job;
 use state::Phase;
 use state::Sender;
-use state::State;
 
 // Whether the first len numbers are below n.
 fn chosen_below(chosen: [u16; 8], len: u8, n: u16) -> bool
@@ -267,62 +264,6 @@ pub fn job_ok(table: &[u8], d: Sender, n: u16, matches: u16, channels: &[u8]) ->
     chosen & place_ok(table, j, n, matches, channels)
 }
 
-// Whether the sender, if it is not idle, has its own message, and its job is sound. An idle sender's job may hold
-// anything.
-fn state_ok(table: &[u8], d: Sender, n: u16, matches: u16, channels: &[u8]) -> bool
-    requires { ⌜ (tableRefusal (now table) ≡ 0) × Known (tableOf (now table)) n (now channels) ⌝ }
-    ensures { λ r. ⌜ ((b : MB.Board) → Seen b n matches (now (channels .entry))
-        → r ≡ stateOk (tableOf (now (table .entry))) b (senderIn (tableOf (now (table .entry))) d)
-        (stateIn (d .state) (jobIn (tableOf (now (table .entry))) (d .job)))) ⌝ }
-{
-    let state = d.state;
-    match state {
-        State::Idle => {
-            return true;
-        }
-        State::Working => {
-            return (1 <= d.own) & job_ok(table, d, n, matches, channels);
-        }
-        State::Blocked => {
-            return 1 <= d.own;
-        }
-    }
-}
-
-// Whether the sender is sound on a board of n messages in these channels and of so many matches.
-fn sender_ok(table: &[u8], d: Sender, n: u16, matches: u16, channels: &[u8]) -> bool
-    requires { ⌜ (tableRefusal (now table) ≡ 0) × Known (tableOf (now table)) n (now channels) ⌝ }
-    ensures { λ r. ⌜ ((b : MB.Board) → Seen b n matches (now (channels .entry))
-        → r ≡ senderOk (tableOf (now (table .entry))) b (senderIn (tableOf (now (table .entry))) d)) ⌝ }
-{
-    let state = state_ok(table, d, n, matches, channels);
-    (d.own <= n) & ((d.waker <= n) & ((d.reply <= matches) & ((d.matched <= matches) & state)))
-}
-
-// What no two senders may have in common: the own message plus 1, 0 for an idle sender.
-fn mark(d: Sender) -> u32
-    ensures { λ r. ⌜ r ≡ markBy d ⌝ }
-{
-    let s = d.state;
-    if state::is_idle(s) {
-        return 0;
-    }
-    d.own as u32 + 1
-}
-
-// The marks of all senders.
-fn marks_of(senders: [Sender; 32]) -> [u32; 32]
-    ensures { λ r. ⌜ r ≡ map markBy senders ⌝ }
-{
-    let mut r = [0u32; 32];
-    let mut i: usize = 0;
-    while i < 32 {
-        r[i] = mark(senders[i]);
-        i += 1;
-    }
-    r
-}
-
 // Whether mark i is 0 or none of those after it.
 fn is_alone(marks: &[u32], i: usize) -> bool
     requires { ⌜ i < length (now marks) ⌝ }
@@ -354,49 +295,4 @@ pub fn none_twice(marks: &[u32]) -> bool
         i += 1;
     }
     true
-}
-
-// Whether no two of the senders that are not idle have the same own message.
-fn none_shared(senders: [Sender; 32]) -> bool
-    ensures { λ r. ⌜ ((t : MT.Table) → r ≡ noneShared (map (senderIn t) senders)) ⌝ }
-{
-    let marks = marks_of(senders);
-    none_twice(&marks)
-}
-
-// Whether each sender is sound by itself.
-fn each_ok(table: &[u8], senders: [Sender; 32], n: u16, matches: u16, channels: &[u8]) -> bool
-    requires { ⌜ (tableRefusal (now table) ≡ 0) × Known (tableOf (now table)) n (now channels) ⌝ }
-    ensures { λ r. ⌜ ((b : MB.Board) → Seen b n matches (now (channels .entry))
-        → r ≡ every (senderOk (tableOf (now (table .entry))) b)
-        (map (senderIn (tableOf (now (table .entry)))) senders)) ⌝ }
-{
-    let mut i: usize = 0;
-    while i < 32 {
-        if !sender_ok(table, senders[i], n, matches, channels) {
-            return false;
-        }
-        i += 1;
-    }
-    true
-}
-
-// Whether the senders are sound on a board of n messages in these channels and of so many matches.
-pub fn senders_ok(
-    table: &[u8],
-    senders: [Sender; 32],
-    n: u16,
-    matches: u16,
-    channels: &[u8],
-) -> bool
-    requires { ⌜ (tableRefusal (now table) ≡ 0) × Known (tableOf (now table)) n (now channels) ⌝ }
-    ensures { λ r. ⌜ ((b : MB.Board) → Seen b n matches (now (channels .entry))
-        → r ≡ (every (senderOk (tableOf (now (table .entry))) b)
-        (map (senderIn (tableOf (now (table .entry)))) senders)
-        && noneShared (map (senderIn (tableOf (now (table .entry)))) senders))) ⌝ }
-{
-    if each_ok(table, senders, n, matches, channels) {
-        return none_shared(senders);
-    }
-    false
 }

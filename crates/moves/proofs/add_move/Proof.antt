@@ -2,7 +2,6 @@
 use mathlib.Core.Path.{refl}
 use Prim.Native.Nat.{_<_}
 use native.Mathlib.Omega.{arith}
-use borrow.Author.Needs.{needs}
 use Rattle.model.proofs.AcceptedChords.{table-ok}
 use Rattle.moves.proofs.MoveLaws.{add-move}
 use Rattle.moves.proofs.add_move.Statement.{statement}

@@ -4,14 +4,14 @@ use mathlib.Core.Bool.{true}
 use Prim.Native.Nat.{_<_}
 use native.Mathlib.Omega.{arith}
 use borrow.Author.Needs.{needs}
-use lib.ListN.{length, getD}
+use lib.ListN.{getD}
 use Rattle.model.specs.Layout.{tableOf}
 use Rattle.model.specs.Effects.{numberOf}
 use Rattle.state.specs.Views.{saidIn, idleIs, canStep}
 use Rattle.boards.specs.declared.Call as DC
 use Rattle.boards.specs.declared.Call.the-variants as G
 use Rattle.boards.specs.Boards.{zeroSender}
-use Rattle.boards.specs.Calls.{Held, sentIn, callIn}
+use Rattle.boards.specs.Calls.{Held, callIn}
 use Rattle.boards.specs.Layout.{lists}
 use Rattle.rows.specs.Decoded.{boardFrom}
 use Rattle.rows.proofs.WalkLaws.{all-numbers}

@@ -1,8 +1,5 @@
 -- `moves::step_move` meets its contract: the effect of a sender that may step.
 use mathlib.Core.Path.{_≡_, refl, sym, ap, subst, _∙_}
-use mathlib.Core.Bool.{true}
-use mathlib.Core.List.{List}
-use Prim.Native.Nat.{ℕ}
 use native.Mathlib.Omega.{arith}
 use borrow.Author.Needs.{needs}
 use lib.IntN.{pos}
@@ -23,8 +20,6 @@ use Rattle.rows.proofs.WalkLaws.{all-numbers}
 use Rattle.refusals.specs.Held.{heldOf}
 use Rattle.refusals.specs.Calls.{boardOf, refusalOf}
 use Rattle.refusals.proofs.Refusals.{table-accepted, messages-few}
-use Rattle.refusals.proofs.HeldLaws.{columns-sized}
-use Rattle.steps.specs.Ready.{Ready}
 use Rattle.moves.proofs.StepLaws.{SenderIs, others, ready-by, effect-by, is-ready, does-it, is-sure}
 use Rattle.moves.proofs.StepLaws.{effect-accepted}
 use Rattle.moves.proofs.MoveLaws.{sender-is, step-move}
