@@ -89,5 +89,10 @@ module _ (m : DR.MatchRead) (l : length (m .messages) ≡ 8) (k : m .len ≤ 8)
       2 (toZ w64 (ofZ w64 (m .cents)))
       ≡ stored (matchNumbers (readOf m)) out
   match-put out h chord cents =
-      rw (match-spelled, number-back (m .chord) (omega arith), number-back (m .len) (omega arith), cents-back (m .cents) cents)
+      rw (
+        match-spelled,
+        number-back (m .chord) (omega arith),
+        number-back (m .len) (omega arith),
+        cents-back (m .cents) cents,
+      )
       (three-put out (map pos (m .messages)) _ _ _ h (length-map (m .messages) pos ∙ l))

@@ -27,7 +27,8 @@ returns : tie.Need-returns
 returns c =
     let q = c .before in
     let s = start q in
-    read-refused (s .args .table .now) (given s) (ofMessage (s .args .n)) (s .args .out .now) _ (q .read-message .ensures .0) (c .if1 .taken)
+    read-refused (s .args .table .now) (given s) (ofMessage (s .args .n)) (s .args .out .now) _
+    (q .read-message .ensures .0) (c .if1 .taken)
 
 returns-2 : tie.Need-returns-2
 returns-2 c =

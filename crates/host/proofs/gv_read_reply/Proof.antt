@@ -29,7 +29,8 @@ returns : tie.Need-returns
 returns c =
     let q = c .before in
     let s = start q in
-    read-refused (s .args .table .now) (given s) (ofReply (s .args .sender)) (s .args .out .now) _ (q .read-reply .ensures .0) (c .if1 .taken)
+    read-refused (s .args .table .now) (given s) (ofReply (s .args .sender)) (s .args .out .now) _
+    (q .read-reply .ensures .0) (c .if1 .taken)
 
 returns-2 : tie.Need-returns-2
 returns-2 c =
