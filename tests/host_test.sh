@@ -102,7 +102,7 @@ try "a million calls and 200,000 merges compared" "$differential" --calls 100000
 sed 's/^/  /' "$work/said"
 # Every word is answered in these 2,000 calls.
 try "the comparison under valgrind" careful "$differential" --calls 2000 --merges 1000 --seed 10
-for fault in column read merge law; do
+for fault in list refusal read reading merge law; do
     try "a fault put in: $fault" finds "$fault"
 done
 

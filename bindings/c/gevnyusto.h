@@ -3,7 +3,7 @@
  * Every list is a pointer, not null and aligned, and a length in elements. A list that a call may write overlaps no
  * other list of that call. Whatever the numbers are, a call returns a plain number and alters nothing when it refuses.
  *
- * A refusal: 1 to 7 for the table, 30 for a board or columns that are not sound or of another length, 31 for a buffer
+ * A refusal: 1 to 7 for the table, 30 for a board that is not sound or lists of another length, 31 for a buffer
  * that is too short; 8 no such sender, 9 sender not idle, 10 no such channel, 11 cents out of range, 12 messages full,
  * 13 sender idle, or blocked without signal, 14 no such message, 15 no such match, 17 wrong map of a merge, 18 merged
  * table too large.
@@ -18,7 +18,10 @@
 extern "C" {
 #endif
 
-/* The board: 674 numbers. 0 messages, 1 matches, then 21 numbers for each of the 32 senders, at 2 + 21 * sender:
+/* A board is five lists, lent to a call in this order; of another length, or with other numbers than those of a sound
+ * board, they are refused 30, after the table's own.
+ *
+ * board: 0 messages, 1 matches, then 21 numbers for each of the 32 senders, at 2 + 21 * sender:
  *   0 state (0 idle, 1 working, 2 blocked)   1 signalled (0, 1)
  *   2 own message, 3 waker, 4 reply, 5 match of the own message: each a number plus 1, 0 for none
  *   6 subject   7 chord
@@ -26,15 +29,24 @@ extern "C" {
  *   9 the phase's place (0 for wake, signal, pass end)
  *   10 the phase's second number (revert: claims made; consume: match plus 1; else 0)
  *   11 retry (0, 1)   12 retries   13 to 20 the eight chosen messages
- * Other numbers than those of a board are refused 30, after the table's own. */
+ * bytes: a channel for each message; from GV_STATUSES a status (0 pending, 1 claimed, 2 woken, 3 consumed) for each;
+ *   from GV_CHORDS a chord for each match
+ * links: for each message the match that it notes plus 1, 0 for none; from GV_WAKERS its waker plus 1, 0 for none;
+ *   from GV_MEMBERS eight messages for each match
+ * keys: a property number for each message
+ * cents: cents for each message */
 #define GV_BOARD 674
+#define GV_BYTES 3072
+#define GV_LINKS 10240
+#define GV_KEYS 1024
+#define GV_CENTS 1024
+#define GV_STATUSES 1024
+#define GV_CHORDS 2048
+#define GV_WAKERS 1024
+#define GV_MEMBERS 2048
 #define GV_SENDERS 32
-
-/* The columns, one number for each message: channel, property, cents, status (0 pending, 1 claimed, 2 woken,
- * 3 consumed), match plus 1, waker plus 1; and for each match its chord and eight messages. */
 #define GV_MESSAGES 1024
 #define GV_MATCHES 1024
-#define GV_MATCH_MESSAGES 8192
 
 /* An answer: word * 65536 + value. The value is a message or a match, for GV_REFUSED the refusal, else 0. */
 #define GV_WORD(answer) ((answer) >> 16)
@@ -61,65 +73,59 @@ uint8_t gv_merge_tables(
     const uint8_t *first, size_t first_len, const uint8_t *second, size_t second_len,
     const uint8_t *map, size_t map_len, uint8_t *out, size_t out_len);
 
-/* Writes an empty board; the columns may hold anything. 0, 1 to 7, or 30 for a board of another length. */
+/* Writes an empty board; the other lists may hold anything. 0, 1 to 7, or 30 for a board of another length. */
 uint8_t gv_open(const uint8_t *table, size_t table_len, uint16_t *board, size_t board_len);
 
-/* The columns of a call that may write them. An add leaves chords and messages as they are, a step channels,
+/* The lists of a call that may write them. An add leaves the matches' chords and messages as they are, a step channels,
  * properties and cents. */
-#define GV_COLUMNS \
-    uint8_t *channels, size_t channels_len, uint32_t *properties, size_t properties_len, \
-    int64_t *cents, size_t cents_len, uint8_t *statuses, size_t statuses_len, \
-    uint16_t *matched, size_t matched_len, uint16_t *wakers, size_t wakers_len, \
-    uint8_t *chords, size_t chords_len, uint16_t *messages, size_t messages_len
+#define GV_LISTS \
+    uint16_t *board, size_t board_len, uint8_t *bytes, size_t bytes_len, uint16_t *links, size_t links_len, \
+    uint32_t *keys, size_t keys_len, int64_t *cents, size_t cents_len
 
 /* Adds a message: an answer. */
 uint32_t gv_add(
-    const uint8_t *table, size_t table_len, uint16_t *board, size_t board_len, GV_COLUMNS,
+    const uint8_t *table, size_t table_len, GV_LISTS,
     uint16_t sender, uint16_t channel, uint32_t property, int64_t amount);
 
 /* Takes one step of a sender: an answer. */
-uint32_t gv_step(
-    const uint8_t *table, size_t table_len, uint16_t *board, size_t board_len, GV_COLUMNS, uint16_t sender);
+uint32_t gv_step(const uint8_t *table, size_t table_len, GV_LISTS, uint16_t sender);
 
-/* Plays a list of calls, one after another, on a board that is tested once: call i is kinds[i] (0 a step, else an
- * add), callers[i], and for an add targets[i], numbers[i], amounts[i]; its answer goes to answers[i].
- * 0, 1 to 7, 30 also for lists of calls that are not of one length, or 31 for too few answers. */
+/* Plays a list of calls, one after another, on a board that is tested once. Call i is calls[3 * i] (GV_STEP a step, any
+ * other an add), its sender calls[3 * i + 1], and for an add channel calls[3 * i + 2], property numbers[i] and
+ * amounts[i] cents; its answer goes to answers[i]. There are amounts_len calls.
+ * 0, 1 to 7, 30 also for a calls_len other than 3 * amounts_len or a numbers_len other than amounts_len, or 31 for too
+ * few answers. */
+#define GV_STEP 0
+#define GV_ADD 1
 uint8_t gv_replay(
-    const uint8_t *table, size_t table_len, uint16_t *board, size_t board_len,
-    const uint8_t *kinds, size_t kinds_len, const uint16_t *callers, size_t callers_len,
-    const uint16_t *targets, size_t targets_len, const uint32_t *numbers, size_t numbers_len,
-    const int64_t *amounts, size_t amounts_len, uint32_t *answers, size_t answers_len, GV_COLUMNS);
+    const uint8_t *table, size_t table_len, GV_LISTS, const uint16_t *calls, size_t calls_len,
+    const uint32_t *numbers, size_t numbers_len, const int64_t *amounts, size_t amounts_len,
+    uint32_t *answers, size_t answers_len);
 
-/* The columns of a call that only reads. */
-#define GV_READ_COLUMNS \
-    const uint8_t *channels, size_t channels_len, const uint32_t *properties, size_t properties_len, \
-    const int64_t *cents, size_t cents_len, const uint8_t *statuses, size_t statuses_len, \
-    const uint16_t *matched, size_t matched_len, const uint16_t *wakers, size_t wakers_len, \
-    const uint8_t *chords, size_t chords_len, const uint16_t *messages, size_t messages_len
+/* The lists of a call that only reads. */
+#define GV_READ_LISTS \
+    const uint16_t *board, size_t board_len, const uint8_t *bytes, size_t bytes_len, \
+    const uint16_t *links, size_t links_len, const uint32_t *keys, size_t keys_len, \
+    const int64_t *cents, size_t cents_len
 
 /* Reads: 0 and the numbers from the start of out, or a refusal: 1 to 7, 30, the read's own, then 31. */
 
 /* Message: channel, property, cents, status, match plus 1, waker plus 1. */
 #define GV_MESSAGE_NUMBERS 6
 uint8_t gv_read_message(
-    const uint8_t *table, size_t table_len, const uint16_t *board, size_t board_len, GV_READ_COLUMNS,
-    uint16_t message, int64_t *out, size_t out_len);
+    const uint8_t *table, size_t table_len, GV_READ_LISTS, uint16_t message, int64_t *out, size_t out_len);
 
 /* Match: chord, how many messages, cents, and eight messages, 0 past the last. */
 #define GV_MATCH_NUMBERS 11
 uint8_t gv_read_match(
-    const uint8_t *table, size_t table_len, const uint16_t *board, size_t board_len, GV_READ_COLUMNS,
-    uint16_t match, int64_t *out, size_t out_len);
+    const uint8_t *table, size_t table_len, GV_READ_LISTS, uint16_t match, int64_t *out, size_t out_len);
 
 /* A sender's reply: its match plus 1, 0 for none. */
 uint8_t gv_read_reply(
-    const uint8_t *table, size_t table_len, const uint16_t *board, size_t board_len, GV_READ_COLUMNS,
-    uint16_t sender, int64_t *out, size_t out_len);
+    const uint8_t *table, size_t table_len, GV_READ_LISTS, uint16_t sender, int64_t *out, size_t out_len);
 
 /* Whether no sender has a step to take: 1 or 0. */
-uint8_t gv_quiet(
-    const uint8_t *table, size_t table_len, const uint16_t *board, size_t board_len, GV_READ_COLUMNS,
-    int64_t *out, size_t out_len);
+uint8_t gv_quiet(const uint8_t *table, size_t table_len, GV_READ_LISTS, int64_t *out, size_t out_len);
 
 #ifdef __cplusplus
 }

@@ -8,16 +8,13 @@
 
 /* Channel 0 leaves, channel 1 waits; chord 0 joins one of each with equal property numbers. */
 static const uint8_t table[20] = {2, 0, 1, 0, 2, 0, 12, 0, 14, 0, 18, 0, 0, 1, 0, 0, 2, 1, 0, 1};
-static uint16_t board[674];
-static uint8_t channels[1024], statuses[1024], chords[1024];
-static uint32_t properties[1024];
-static int64_t cents[1024];
-static uint16_t matched[1024], wakers[1024], messages[8192];
+static uint16_t board[GV_BOARD], links[GV_LINKS];
+static uint8_t bytes[GV_BYTES];
+static uint32_t keys[GV_KEYS];
+static int64_t cents[GV_CENTS];
 
-#define BOARD table, sizeof table, board, 674
-#define COLUMNS                                                                                                        \
-    channels, 1024, properties, 1024, cents, 1024, statuses, 1024, matched, 1024, wakers, 1024, chords, 1024,          \
-        messages, 8192
+#define TABLE table, sizeof table
+#define LISTS board, GV_BOARD, bytes, GV_BYTES, links, GV_LINKS, keys, GV_KEYS, cents, GV_CENTS
 
 static const char *const words[18] = {"item",     "looked", "missed", "claimed",   "lost",  "reverted",
                                       "matched",  "consumed", "told", "woke",      "freed", "signalled",
@@ -36,7 +33,7 @@ static int say(uint16_t sender, uint32_t answer) {
 
 /* Steps a sender until a step is refused. */
 static void run(uint16_t sender) {
-    while (!say(sender, gv_step(BOARD, COLUMNS, sender))) {
+    while (!say(sender, gv_step(TABLE, LISTS, sender))) {
     }
 }
 
@@ -48,24 +45,24 @@ static int refused(uint8_t number) {
 
 int main(void) {
     int64_t slip, quiet, match[11];
-    if (refused(gv_open(BOARD)))
+    if (refused(gv_open(TABLE, board, GV_BOARD)))
         return 1;
     puts("sender 0 waits at channel 1 for property 7");
-    say(0, gv_add(BOARD, COLUMNS, 0, 1, 7, 0));
+    say(0, gv_add(TABLE, LISTS, 0, 1, 7, 0));
     run(0);
     puts("sender 1 leaves 5000 cents for property 7");
-    say(1, gv_add(BOARD, COLUMNS, 1, 0, 7, 5000));
+    say(1, gv_add(TABLE, LISTS, 1, 0, 7, 5000));
     run(1);
     puts("sender 0 was signalled");
     run(0);
-    if (refused(gv_read_reply(BOARD, COLUMNS, 0, &slip, 1)) || slip == 0)
+    if (refused(gv_read_reply(TABLE, LISTS, 0, &slip, 1)) || slip == 0)
         return 1;
-    if (refused(gv_read_match(BOARD, COLUMNS, (uint16_t)(slip - 1), match, 11)))
+    if (refused(gv_read_match(TABLE, LISTS, (uint16_t)(slip - 1), match, 11)))
         return 1;
     printf("match %d rule %d cents %lld items", (int)(slip - 1), (int)match[0], (long long)match[2]);
     for (int64_t at = 0; at < match[1]; at++)
         printf(" %d", (int)match[3 + at]);
-    if (refused(gv_quiet(BOARD, COLUMNS, &quiet, 1)))
+    if (refused(gv_quiet(TABLE, LISTS, &quiet, 1)))
         return 1;
     printf("\nquiet %s\n", quiet ? "yes" : "no");
     return 0;

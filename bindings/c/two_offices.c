@@ -14,19 +14,16 @@ static const uint8_t second[21] = {3, 0, 1, 0, 2, 0, 12, 0, 15, 0, 19, 0, 0, 1, 
 static const uint8_t map[3] = {0, GV_NEW, GV_NEW}, wrong_map[3] = {1, GV_NEW, GV_NEW};
 static uint8_t merged[GV_TABLE_BYTES];
 
-struct board {
-    uint16_t numbers[GV_BOARD];
-    uint8_t channels[GV_MESSAGES], statuses[GV_MESSAGES], chords[GV_MATCHES];
-    uint32_t properties[GV_MESSAGES];
-    int64_t cents[GV_MESSAGES];
-    uint16_t matched[GV_MESSAGES], wakers[GV_MESSAGES], messages[GV_MATCH_MESSAGES];
+struct lists {
+    uint16_t board[GV_BOARD], links[GV_LINKS];
+    uint8_t bytes[GV_BYTES];
+    uint32_t keys[GV_KEYS];
+    int64_t cents[GV_CENTS];
 };
-static struct board one, two;
+static struct lists one, two;
 
-#define LENT(b) \
-    (b).numbers, GV_BOARD, (b).channels, GV_MESSAGES, (b).properties, GV_MESSAGES, (b).cents, GV_MESSAGES, \
-    (b).statuses, GV_MESSAGES, (b).matched, GV_MESSAGES, (b).wakers, GV_MESSAGES, (b).chords, GV_MATCHES, \
-    (b).messages, GV_MATCH_MESSAGES
+#define LENT(l) \
+    (l).board, GV_BOARD, (l).bytes, GV_BYTES, (l).links, GV_LINKS, (l).keys, GV_KEYS, (l).cents, GV_CENTS
 
 static const char *const words[18] = {
     "item", "looked", "missed", "claimed", "lost", "reverted", "matched", "consumed", "told", "woke", "freed",
@@ -75,7 +72,7 @@ int main(void) {
         return 1;
     printf("merged: %u channels, %u chords, %u members in %u bytes\n", (unsigned)merged[0], (unsigned)merged[2],
            (unsigned)merged[4], (unsigned)merged_len());
-    if (gv_open(first, sizeof first, one.numbers, GV_BOARD) || gv_open(merged, merged_len(), two.numbers, GV_BOARD))
+    if (gv_open(first, sizeof first, one.board, GV_BOARD) || gv_open(merged, merged_len(), two.board, GV_BOARD))
         return 1;
     puts("sender 0 waits at channel 1, sender 1 leaves 5000 cents at channel 0");
     add(0, 1, 0);

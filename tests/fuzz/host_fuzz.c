@@ -13,28 +13,51 @@
 #include "../../bindings/c/gevnyusto.h"
 
 enum list {
-    TABLE, BOARD, CHANNELS, PROPERTIES, CENTS, STATUSES, MATCHED, WAKERS, CHORDS, MESSAGES,
-    KINDS, CALLERS, TARGETS, NUMBERS, AMOUNTS, ANSWERS, OUT, SECOND, MAP, MERGED, LISTS
+    TABLE, BOARD, BYTES, LINKS, KEYS, CENTS, ROWS, NUMBERS, AMOUNTS, ANSWERS, OUT, SECOND, MAP, MERGED, LISTS
 };
 enum call { REFUSAL, OPEN, ADD, STEP, REPLAY, READ_MESSAGE, READ_MATCH, READ_REPLY, QUIET, MERGE, CALLS };
-enum { PAGE = 4096, MOST_BYTES = 16388, REPLAYED = 24, MOST_CHANNELS = 16 };
+enum { PAGE = 4096, MOST_BYTES = 20488, REPLAYED = 24, MOST_CHANNELS = 16 };
 
-/* The lists that a call may write, by their bits. */
-#define BIT(list) (1u << (list))
-#define MESSAGE_BITS (BIT(BOARD) | BIT(STATUSES) | BIT(MATCHED) | BIT(WAKERS))
-#define ADD_BITS (MESSAGE_BITS | BIT(CHANNELS) | BIT(PROPERTIES) | BIT(CENTS))
-#define STEP_BITS (MESSAGE_BITS | BIT(CHORDS) | BIT(MESSAGES))
-static const unsigned written[CALLS] = {
-    0, BIT(BOARD), ADD_BITS, STEP_BITS, ADD_BITS | STEP_BITS | BIT(ANSWERS), BIT(OUT), BIT(OUT), BIT(OUT), BIT(OUT),
-    BIT(MERGED)
+/* Which numbers of a list a call may write. */
+struct range {
+    size_t from, to;
+};
+#define ALL {0, SIZE_MAX}
+static const struct range written[CALLS][LISTS] = {
+    [OPEN] = {[BOARD] = ALL},
+    [ADD] = {[BOARD] = ALL, [BYTES] = {0, GV_CHORDS}, [LINKS] = {0, GV_MEMBERS}, [KEYS] = ALL, [CENTS] = ALL},
+    [STEP] = {[BOARD] = ALL, [BYTES] = {GV_STATUSES, GV_BYTES}, [LINKS] = ALL},
+    [REPLAY] = {[BOARD] = ALL, [BYTES] = ALL, [LINKS] = ALL, [KEYS] = ALL, [CENTS] = ALL, [ANSWERS] = ALL},
+    [READ_MESSAGE] = {[OUT] = ALL},
+    [READ_MATCH] = {[OUT] = ALL},
+    [READ_REPLY] = {[OUT] = ALL},
+    [QUIET] = {[OUT] = ALL},
+    [MERGE] = {[MERGED] = ALL},
 };
 
 static const uint8_t table_p[20] = {2, 0, 1, 0, 2, 0, 12, 0, 14, 0, 18, 0, 0, 1, 0, 0, 2, 1, 0, 1};
-static const size_t element[LISTS] = {1, 2, 1, 4, 8, 1, 2, 2, 1, 2, 1, 2, 2, 4, 8, 4, 8, 1, 1, 1};
+static const size_t element[LISTS] = {1, 2, 1, 2, 4, 8, 2, 4, 8, 4, 8, 1, 1, 1};
 static const size_t right[LISTS] = {
-    sizeof table_p, GV_BOARD, GV_MESSAGES, GV_MESSAGES, GV_MESSAGES, GV_MESSAGES, GV_MESSAGES, GV_MESSAGES,
-    GV_MATCHES, GV_MATCH_MESSAGES, REPLAYED, REPLAYED, REPLAYED, REPLAYED, REPLAYED, REPLAYED, GV_MATCH_NUMBERS,
-    GV_TABLE_BYTES, MOST_CHANNELS, GV_TABLE_BYTES
+    sizeof table_p, GV_BOARD, GV_BYTES, GV_LINKS, GV_KEYS, GV_CENTS, 3 * REPLAYED, REPLAYED, REPLAYED, REPLAYED,
+    GV_MATCH_NUMBERS, GV_TABLE_BYTES, MOST_CHANNELS, GV_TABLE_BYTES
+};
+
+/* The parts of the lists that are edited. */
+enum { PARTS = 10 };
+static const struct part {
+    enum list list;
+    size_t from, count;
+} parts[PARTS] = {
+    {TABLE, 0, sizeof table_p},
+    {BOARD, 0, GV_BOARD},
+    {BYTES, 0, GV_MESSAGES},
+    {BYTES, GV_STATUSES, GV_MESSAGES},
+    {BYTES, GV_CHORDS, GV_MATCHES},
+    {LINKS, 0, GV_MESSAGES},
+    {LINKS, GV_WAKERS, GV_MESSAGES},
+    {LINKS, GV_MEMBERS, 8 * GV_MATCHES},
+    {KEYS, 0, GV_MESSAGES},
+    {CENTS, 0, GV_MESSAGES},
 };
 
 /* What a call is lent: the contents and lengths, and its plain numbers. */
@@ -108,31 +131,28 @@ static void lay(const struct lent *lent, int at_end) {
 #define U16(list) (uint16_t *)(void *)at[list], lent->length[list]
 #define U32(list) (uint32_t *)(void *)at[list], lent->length[list]
 #define I64(list) (int64_t *)(void *)at[list], lent->length[list]
-#define LENT_BOARD U8(TABLE), U16(BOARD)
-#define LENT_COLUMNS \
-    U8(CHANNELS), U32(PROPERTIES), I64(CENTS), U8(STATUSES), U16(MATCHED), U16(WAKERS), U8(CHORDS), U16(MESSAGES)
+#define LENT U8(TABLE), U16(BOARD), U8(BYTES), U16(LINKS), U32(KEYS), I64(CENTS)
 
 static uint32_t make_call(const struct lent *lent, enum call call) {
     switch (call) {
     case REFUSAL:
         return gv_table_refusal(U8(TABLE));
     case OPEN:
-        return gv_open(LENT_BOARD);
+        return gv_open(U8(TABLE), U16(BOARD));
     case ADD:
-        return gv_add(LENT_BOARD, LENT_COLUMNS, lent->first, lent->channel, lent->property, lent->amount);
+        return gv_add(LENT, lent->first, lent->channel, lent->property, lent->amount);
     case STEP:
-        return gv_step(LENT_BOARD, LENT_COLUMNS, lent->first);
+        return gv_step(LENT, lent->first);
     case REPLAY:
-        return gv_replay(LENT_BOARD, U8(KINDS), U16(CALLERS), U16(TARGETS), U32(NUMBERS), I64(AMOUNTS), U32(ANSWERS),
-                         LENT_COLUMNS);
+        return gv_replay(LENT, U16(ROWS), U32(NUMBERS), I64(AMOUNTS), U32(ANSWERS));
     case READ_MESSAGE:
-        return gv_read_message(LENT_BOARD, LENT_COLUMNS, lent->first, I64(OUT));
+        return gv_read_message(LENT, lent->first, I64(OUT));
     case READ_MATCH:
-        return gv_read_match(LENT_BOARD, LENT_COLUMNS, lent->first, I64(OUT));
+        return gv_read_match(LENT, lent->first, I64(OUT));
     case READ_REPLY:
-        return gv_read_reply(LENT_BOARD, LENT_COLUMNS, lent->first, I64(OUT));
+        return gv_read_reply(LENT, lent->first, I64(OUT));
     case QUIET:
-        return gv_quiet(LENT_BOARD, LENT_COLUMNS, I64(OUT));
+        return gv_quiet(LENT, I64(OUT));
     default:
         return gv_merge_tables(U8(TABLE), U8(SECOND), U8(MAP), U8(MERGED));
     }
@@ -178,16 +198,14 @@ static int is_own_refusal(enum call call, uint32_t refusal) {
     }
 }
 
-/* Whether the lists of the board that the call is lent have the right lengths, and those of a replay one length. */
+/* Whether the lists of the board that the call is lent have the right lengths, and those of a replay as many rows. */
 static int has_lengths(const struct lent *lent, enum call call) {
-    int last = call == REFUSAL || call == MERGE ? TABLE : call == OPEN ? BOARD : MESSAGES;
+    int last = call == REFUSAL || call == MERGE ? TABLE : call == OPEN ? BOARD : CENTS;
+    size_t calls = lent->length[AMOUNTS];
     for (int list = BOARD; list <= last; list++)
         if (lent->length[list] != right[list])
             return 0;
-    for (int list = KINDS; call == REPLAY && list <= AMOUNTS; list++)
-        if (lent->length[list] != lent->length[KINDS])
-            return 0;
-    return 1;
+    return call != REPLAY || (lent->length[ROWS] == 3 * calls && lent->length[NUMBERS] == calls);
 }
 
 /* What the header says of the number: the table first, for a merge the second too, then lengths and board, then the
@@ -211,13 +229,14 @@ static void demand_documented(const struct lent *lent, enum call call, uint32_t 
 static void demand_answers(const struct lent *lent) {
     uint32_t answers[REPLAYED + 1];
     memcpy(answers, at[ANSWERS], bytes_of(lent, ANSWERS));
-    for (size_t i = 0; i < lent->length[KINDS]; i++) {
-        enum call call = lent->bytes[KINDS][i] != 0 ? ADD : STEP;
+    const uint16_t *rows = (const uint16_t *)(const void *)lent->bytes[ROWS];
+    for (size_t i = 0; i < lent->length[AMOUNTS]; i++) {
+        enum call call = rows[3 * i] != GV_STEP ? ADD : STEP;
         uint32_t refusal = refusal_of(call, answers[i]);
         demand(refusal ? is_own_refusal(call, refusal) : is_answer(call == ADD, answers[i]), "no answer of a replay",
                REPLAY, answers[i]);
     }
-    size_t past = lent->length[KINDS] * sizeof answers[0];
+    size_t past = lent->length[AMOUNTS] * sizeof answers[0];
     demand(memcmp(at[ANSWERS] + past, lent->bytes[ANSWERS] + past, bytes_of(lent, ANSWERS) - past) == 0,
            "answers past the last call", REPLAY, 0);
 }
@@ -239,20 +258,29 @@ static void demand_merged(const struct lent *lent) {
            "bytes past the merged table", MERGE, 0);
 }
 
-/* Only what the call may write has changed, and nothing if it refused. */
-static void demand_kept(const struct lent *lent, enum call call, uint32_t answer) {
-    unsigned writes = refusal_of(call, answer) == 0 ? written[call] : 0;
-    for (int list = 0; list < LISTS; list++)
-        if ((writes & BIT(list)) == 0)
-            demand(memcmp(at[list], lent->bytes[list], bytes_of(lent, list)) == 0, "a list has changed", call, answer);
+/* Whether these numbers of a list are as they were lent. */
+static int is_kept(const struct lent *lent, int list, size_t from, size_t to) {
+    size_t start = from * element[list];
+    return from >= to || memcmp(at[list] + start, lent->bytes[list] + start, (to - from) * element[list]) == 0;
 }
 
-/* After a call that wrote the board it is accepted, if its columns have their lengths. */
+/* Only what the call may write has changed, and nothing if it refused. */
+static void demand_kept(const struct lent *lent, enum call call, uint32_t answer) {
+    int refused = refusal_of(call, answer) != 0;
+    for (int list = 0; list < LISTS; list++) {
+        struct range range = written[call][list];
+        size_t from = refused ? 0 : range.from, to = refused ? 0 : range.to;
+        demand(is_kept(lent, list, 0, from) && is_kept(lent, list, to, lent->length[list]), "a list has changed", call,
+               answer);
+    }
+}
+
+/* After a call that wrote the board it is accepted, if the other lists have their lengths. */
 static void demand_sound(const struct lent *lent, enum call call, uint32_t answer) {
     int64_t quiet = -1;
-    if (refusal_of(call, answer) != 0 || (written[call] & BIT(BOARD)) == 0 || !has_lengths(lent, STEP))
+    if (refusal_of(call, answer) != 0 || written[call][BOARD].to == 0 || !has_lengths(lent, STEP))
         return;
-    demand(gv_quiet(LENT_BOARD, LENT_COLUMNS, &quiet, 1) == 0, "the board left is refused", call, answer);
+    demand(gv_quiet(LENT, &quiet, 1) == 0, "the board left is refused", call, answer);
     demand(quiet == 0 || quiet == 1, "quiet is not 0 or 1", call, answer);
     demand(call != OPEN || quiet == 1, "an opened board is not quiet", call, answer);
 }
@@ -324,7 +352,7 @@ static void put_table(struct lent *lent, uint8_t kind) {
     table[17] ^= kind >> 2 & 1;
 }
 
-/* An empty board with columns of any one byte, or a board that is almost full; and a schedule played on it. */
+/* An empty board with lists of any one byte, or a board that is almost full; and a schedule played on it. */
 static void reach(struct lent *lent) {
     uint8_t kind = take(), byte = take();
     uint16_t almost = GV_MESSAGES - 2;
@@ -333,7 +361,7 @@ static void reach(struct lent *lent) {
     put_table(lent, kind);
     memcpy(lent->length, right, sizeof right);
     lay(lent, 1);
-    demand(gv_open(LENT_BOARD) == 0, "table P is refused", OPEN, 0);
+    demand(gv_open(U8(TABLE), U16(BOARD)) == 0, "table P is refused", OPEN, 0);
     if (kind & 8)
         memcpy(at[BOARD], &almost, sizeof almost);
     for (int calls = take() % 64; calls > 0; calls--)
@@ -341,11 +369,15 @@ static void reach(struct lent *lent) {
     keep(lent);
 }
 
-/* One element of the list becomes another number. */
-static void edit(struct lent *lent, int list) {
-    size_t place = number() % right[list];
-    uint64_t value = number();
+/* A number of a list. */
+static void put(struct lent *lent, int list, size_t place, uint64_t value) {
     memcpy(lent->bytes[list] + place * element[list], &value, element[list]);
+}
+
+/* One number of the part becomes another. */
+static void edit(struct lent *lent, struct part part) {
+    size_t place = part.from + number() % part.count;
+    put(lent, part.list, place, number());
 }
 
 /* A table of so many leaving channels and chords, each of the channel of its number as often as the input says. */
@@ -378,21 +410,24 @@ static void fill_merge(struct lent *lent) {
     if (room < GV_TABLE_BYTES)
         lent->length[MERGED] = room;
     for (int edits = take() % 4; edits > 0; edits--) {
-        static const int lists[3] = {TABLE, SECOND, MAP};
-        edit(lent, lists[take() % 3]);
+        static const enum list lists[3] = {TABLE, SECOND, MAP};
+        enum list list = lists[take() % 3];
+        edit(lent, (struct part){list, 0, right[list]});
     }
 }
 
 /* The lists of a replay, filled from the input. */
 static void fill_replay(struct lent *lent) {
     size_t calls = take() % (REPLAYED + 1);
-    for (int list = KINDS; list <= ANSWERS; list++)
-        lent->length[list] = calls;
-    for (size_t i = 0; i < calls; i++)
-        for (int list = KINDS; list <= AMOUNTS; list++) {
-            uint64_t value = list == KINDS ? take() % 4 : number();
-            memcpy(lent->bytes[list] + i * element[list], &value, element[list]);
-        }
+    for (int list = ROWS; list <= ANSWERS; list++)
+        lent->length[list] = list == ROWS ? 3 * calls : calls;
+    for (size_t i = 0; i < calls; i++) {
+        put(lent, ROWS, 3 * i, take() % 4);
+        put(lent, ROWS, 3 * i + 1, number());
+        put(lent, ROWS, 3 * i + 2, number());
+        put(lent, NUMBERS, i, number());
+        put(lent, AMOUNTS, i, number());
+    }
 }
 
 /* One length off by one, or 0. */
@@ -413,7 +448,7 @@ int LLVMFuzzerTestOneInput(const uint8_t *data, size_t size) {
     enum call call = take() % CALLS;
     reach(&lent);
     for (int edits = take() % 6; edits > 0; edits--)
-        edit(&lent, take() % (MESSAGES + 1));
+        edit(&lent, parts[take() % PARTS]);
     lent.first = (uint16_t)number();
     lent.channel = (uint16_t)number();
     lent.property = (uint32_t)number();

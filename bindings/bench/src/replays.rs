@@ -6,30 +6,30 @@ use crate::tables;
 use crate::timing::{REPLAY_ROUNDS, Times, least, timed};
 use crate::world::{Proved, restore};
 use reference::board::CONSUMED;
-use reference::{Board, Call, Phase, State, calls};
+use reference::{Board, Call, Phase, Rows, State, calls};
 
 const SPEED: Target = Target::AtLeast(0.7);
 
-/// A replay from a board; the columns keep what the round before left, where they were empty.
-fn times(table: &[u8], board: &Board, calls: &Schedule) -> Times {
+/// A replay from a board; the other lists keep what the round before left, where they were empty.
+fn times(table: &[u8], board: &Board, rows: &Rows) -> Times {
     let saved = Proved::of(board);
     let (mut proved, mut plain) = (saved.clone(), board.clone());
-    let (mut said, mut answers) = (vec![0; calls.len()], vec![0; calls.len()]);
+    let (mut said, mut answers) = (vec![0; rows.len()], vec![0; rows.len()]);
     let best = least(
         REPLAY_ROUNDS,
         || {
             if board.messages > 0 {
                 proved.restore(&saved);
             }
-            proved.numbers.copy_from_slice(&saved.numbers);
-            timed(|| assert_eq!(proved.replay(table, calls, &mut said), 0))
+            proved.lists.board.copy_from_slice(&saved.lists.board);
+            timed(|| assert_eq!(proved.replay(table, rows, &mut said), 0))
         },
         || {
             if board.messages > 0 {
                 restore(&mut plain, board);
             }
             (plain.messages, plain.matches, plain.senders) = (board.messages, board.matches, board.senders);
-            timed(|| calls::replay(table, &mut plain, calls.lent(), &mut answers).unwrap())
+            timed(|| calls::replay(table, &mut plain, rows, &mut answers).unwrap())
         },
     );
     assert_eq!(said, answers);
@@ -44,18 +44,18 @@ pub fn matches() {
         ("pairs, 32 senders, 16 properties", &pairs, in_turn(&pairs, 32, side)),
         ("triples, 3 senders", &triples, in_turn(&triples, 3, |sender, _| (sender, 0))),
         ("contended morning, 32 senders", &morning, by_chance(&morning, 4, 1)),
-        ("steps of idle senders, refused", &pairs, steps_of_each(256)),
+        ("steps of idle senders, refused", &pairs, Schedule { rows: steps_of_each(256), matches: 0 }),
     ];
     let measured: Vec<_> =
-        lists.iter().map(|(name, table, list)| (name, list, times(table, &Board::default(), list))).collect();
+        lists.iter().map(|(name, table, list)| (name, list, times(table, &Board::default(), &list.rows))).collect();
     heading("2 replay", "ns a call", "speed");
     for (name, list, whole) in &measured {
-        let (name, count) = (format!("{name} ({} calls)", list.len()), list.len() as f64);
+        let (name, count) = (format!("{name} ({} calls)", list.rows.len()), list.rows.len() as f64);
         row(&name, whole.map(|ns| ns / count), 1.0 / whole.ratio(), SPEED);
     }
     heading("  the same", "thousand calls a second", "speed");
     for (name, list, whole) in &measured {
-        row(name, whole.map(|ns| list.len() as f64 * 1e6 / ns), 1.0 / whole.ratio(), SPEED);
+        row(name, whole.map(|ns| list.rows.len() as f64 * 1e6 / ns), 1.0 / whole.ratio(), SPEED);
     }
     heading("  the same", "thousand matches a second", "speed");
     for (at, (name, list, whole)) in measured.iter().enumerate().filter(|(_, (_, list, _))| list.matches > 0) {
@@ -95,18 +95,18 @@ fn looking(others: Others) -> Board {
 }
 
 /// So many steps of each sender, one sender after another.
-fn steps_of_each(count: usize) -> Schedule {
-    let mut schedule = Schedule::default();
+fn steps_of_each(count: usize) -> Rows {
+    let mut rows = Rows::default();
     for sender in 0..32 {
-        (0..count).for_each(|_| schedule.push(Call::Step { sender }));
+        (0..count).for_each(|_| rows.push(Call::Step { sender }));
     }
-    schedule
+    rows
 }
 
 /// Nanoseconds of each of so many looks of each sender, less a replay of none.
 fn look_times(table: &[u8], board: &Board, count: usize) -> Times {
     let whole = times(table, board, &steps_of_each(count));
-    let tests = times(table, board, &Schedule::default());
+    let tests = times(table, board, &Rows::default());
     let of = |whole: f64, tests: f64| (whole - tests) / (32 * count) as f64;
     Times { proved: of(whole.proved, tests.proved), plain: of(whole.plain, tests.plain) }
 }

@@ -1,52 +1,22 @@
 //! Lists of calls, made by plain Rust before anything is timed.
 
 use crate::random::Random;
-use reference::{Answer, Board, Call, Replay, State, Table};
+use reference::{Answer, Board, Call, Rows, State, Table};
 
 const MESSAGES: u16 = 1024;
 
-/// Calls in columns, and the matches that they make.
+/// Calls in rows, and the matches that they make.
 #[derive(Default)]
 pub struct Schedule {
-    pub kinds: Vec<u8>,
-    pub callers: Vec<u16>,
-    pub targets: Vec<u16>,
-    pub numbers: Vec<u32>,
-    pub amounts: Vec<i64>,
+    pub rows: Rows,
     pub matches: u16,
 }
 
 impl Schedule {
-    pub fn len(&self) -> usize {
-        self.kinds.len()
-    }
-
-    pub fn lent(&self) -> Replay<'_> {
-        Replay {
-            kinds: &self.kinds,
-            callers: &self.callers,
-            targets: &self.targets,
-            numbers: &self.numbers,
-            amounts: &self.amounts,
-        }
-    }
-
-    pub fn push(&mut self, call: Call) {
-        let (kind, caller, target, number, amount) = match call {
-            Call::Add { sender, channel, property, cents } => (1, sender, channel, property, cents),
-            Call::Step { sender } => (0, sender, 0, 0, 0),
-        };
-        self.kinds.push(kind);
-        self.callers.push(caller);
-        self.targets.push(target);
-        self.numbers.push(number);
-        self.amounts.push(amount);
-    }
-
     /// Plays an accepted call and notes it.
     fn play(&mut self, table: &Table, board: &mut Board, call: Call) {
         assert!(!matches!(board.core_call(table, call), Answer::Refused(_)));
-        self.push(call);
+        self.rows.push(call);
     }
 }
 

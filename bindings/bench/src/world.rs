@@ -1,69 +1,45 @@
-//! One board in both forms: the host library's numbers and columns, and plain Rust's.
+//! One board in both forms: the host library's lists, and plain Rust's.
 
-use crate::schedule::Schedule;
 use gevnyusto::host;
-use reference::{Board, Call, calls};
+use reference::{Board, Call, Lists, Rows, calls};
 use std::hint::black_box;
 
 #[derive(Clone)]
 pub struct Proved {
-    pub numbers: Vec<u16>,
-    pub columns: host::Columns,
+    pub lists: host::Lists,
 }
 
 impl Proved {
     pub fn of(board: &Board) -> Proved {
-        let from = &board.columns;
-        let columns = host::Columns {
-            channels: from.channels.to_vec(),
-            properties: from.properties.to_vec(),
-            cents: from.cents.to_vec(),
-            statuses: from.statuses.to_vec(),
-            matched: from.matched.to_vec(),
-            wakers: from.wakers.to_vec(),
-            chords: from.chords.to_vec(),
-            messages: from.messages.as_flattened().to_vec(),
-        };
-        Proved { numbers: board.to_numbers().to_vec(), columns }
+        let Lists { board, bytes, links, keys, cents } = Lists::of(board);
+        Proved { lists: host::Lists { board, bytes, links, keys, cents } }
     }
 
     pub fn restore(&mut self, saved: &Proved) {
-        let (to, from) = (&mut self.columns, &saved.columns);
-        self.numbers.copy_from_slice(&saved.numbers);
-        to.channels.copy_from_slice(&from.channels);
-        to.properties.copy_from_slice(&from.properties);
+        let (to, from) = (&mut self.lists, &saved.lists);
+        to.board.copy_from_slice(&from.board);
+        to.bytes.copy_from_slice(&from.bytes);
+        to.links.copy_from_slice(&from.links);
+        to.keys.copy_from_slice(&from.keys);
         to.cents.copy_from_slice(&from.cents);
-        to.statuses.copy_from_slice(&from.statuses);
-        to.matched.copy_from_slice(&from.matched);
-        to.wakers.copy_from_slice(&from.wakers);
-        to.chords.copy_from_slice(&from.chords);
-        to.messages.copy_from_slice(&from.messages);
     }
 
     pub fn call(&mut self, table: &[u8], call: Call) -> u32 {
-        let (board, columns) = (black_box(&mut self.numbers), black_box(&mut self.columns));
+        let lists = black_box(&mut self.lists);
         match black_box(call) {
-            Call::Add { sender, channel, property, cents } => {
-                host::add(table, board, columns, sender, channel, property, cents)
-            }
-            Call::Step { sender } => host::step(table, board, columns, sender),
+            Call::Add { sender, channel, property, cents } => host::add(table, lists, sender, channel, property, cents),
+            Call::Step { sender } => host::step(table, lists, sender),
         }
     }
 
     /// The refusal number, 0 for none; what is read is not looked at.
     pub fn quiet(&self, table: &[u8]) -> u8 {
-        host::quiet(black_box(table), black_box(&self.numbers), black_box(&self.columns), &mut [0])
+        host::quiet(black_box(table), black_box(&self.lists), &mut [0])
     }
 
-    pub fn replay(&mut self, table: &[u8], calls: &Schedule, answers: &mut [u32]) -> u8 {
-        let list = host::Replay {
-            kinds: &calls.kinds,
-            callers: &calls.callers,
-            targets: &calls.targets,
-            numbers: &calls.numbers,
-            amounts: &calls.amounts,
-        };
-        host::replay(table, &mut self.numbers, list, answers, &mut self.columns)
+    pub fn replay(&mut self, table: &[u8], rows: &Rows, answers: &mut [u32]) -> u8 {
+        let calls = host::Replay { calls: &rows.calls, numbers: &rows.numbers, amounts: &rows.amounts };
+        host::replay(table, &mut self.lists, calls, answers)
     }
 }
 

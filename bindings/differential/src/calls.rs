@@ -1,7 +1,7 @@
 //! The calls that are compared, over either implementation.
 
-use crate::world::World;
 pub use reference::Call;
+use reference::{Lists, Rows};
 
 #[derive(Clone, Copy, Debug)]
 pub enum Read {
@@ -26,9 +26,9 @@ impl Read {
 pub trait Calls {
     fn table_refusal(&mut self, table: &[u8]) -> u8;
     fn open(&mut self, table: &[u8], board: &mut [u16]) -> u8;
-    fn call(&mut self, table: &[u8], world: &mut World, call: Call) -> u32;
-    fn replay(&mut self, table: &[u8], world: &mut World, calls: &Plain, answers: &mut [u32]) -> u8;
-    fn read(&mut self, table: &[u8], world: &World, read: Read, out: &mut [i64]) -> u8;
+    fn call(&mut self, table: &[u8], lists: &mut Lists, call: Call) -> u32;
+    fn replay(&mut self, table: &[u8], lists: &mut Lists, rows: &Rows, answers: &mut [u32]) -> u8;
+    fn read(&mut self, table: &[u8], lists: &mut Lists, read: Read, out: &mut [i64]) -> u8;
     fn merge(&mut self, merge: &Merge, out: &mut [u8]) -> u8;
 }
 
@@ -38,31 +38,4 @@ pub struct Merge {
     pub first: Vec<u8>,
     pub second: Vec<u8>,
     pub map: Vec<u8>,
-}
-
-/// The calls of a replay in columns.
-#[derive(Clone)]
-pub struct Plain {
-    pub kinds: Vec<u8>,
-    pub callers: Vec<u16>,
-    pub targets: Vec<u16>,
-    pub numbers: Vec<u32>,
-    pub amounts: Vec<i64>,
-}
-
-pub fn plain(calls: &[Call]) -> Plain {
-    let parts: Vec<(u8, u16, u16, u32, i64)> = calls
-        .iter()
-        .map(|call| match *call {
-            Call::Add { sender, channel, property, cents } => (1, sender, channel, property, cents),
-            Call::Step { sender } => (0, sender, 0, 0, 0),
-        })
-        .collect();
-    Plain {
-        kinds: parts.iter().map(|part| part.0).collect(),
-        callers: parts.iter().map(|part| part.1).collect(),
-        targets: parts.iter().map(|part| part.2).collect(),
-        numbers: parts.iter().map(|part| part.3).collect(),
-        amounts: parts.iter().map(|part| part.4).collect(),
-    }
 }

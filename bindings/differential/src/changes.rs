@@ -2,74 +2,77 @@
 
 use crate::invariant::senders;
 use crate::random::Random;
-use crate::world::World;
 use reference::board::{MESSAGES, MOST_CENTS};
-use reference::{SENDER_NUMBERS, Sender, State, Table};
+use reference::lists::{CHORDS, MEMBERS, STATUSES, WAKERS};
+use reference::{Lists, SENDER_NUMBERS, Sender, State, Table};
 
-/// Changes one number anywhere to any value, and says which.
-pub fn change_any(world: &mut World, random: &mut Random) -> String {
+/// Changes one number anywhere to any value; says in which of `PARTS`, and what.
+pub fn change_any(lists: &mut Lists, random: &mut Random) -> (usize, String) {
     let value = match random.below(3) {
         0 => random.next() as u16,
         1 => random.below(12) as u16,
         _ => random.below(MESSAGES + 2) as u16,
     };
-    let at = random.below(usize::from(world.board[0]).clamp(1, MESSAGES));
-    let match_at = random.below(usize::from(world.board[1]).clamp(1, MESSAGES));
+    let (at, match_at) = (place(lists.board[0], random), place(lists.board[1], random));
     let cents = random.pick(&[MOST_CENTS + 1, -MOST_CENTS - 1, i64::MIN, i64::MAX, 5]);
-    let columns = &mut world.columns;
-    match random.below(12) {
-        0 => put("channel", &mut columns.channels, at, value as u8),
-        1 => put("status", &mut columns.statuses, at, value as u8),
-        2 => put("cents", &mut columns.cents, at, cents),
-        3 => put("match of message", &mut columns.matched, at, value),
-        4 => put("waker of message", &mut columns.wakers, at, value),
-        5 => put("chord of match", &mut columns.chords, match_at, value as u8),
-        6 => put("messages of matches", &mut columns.messages, 8 * match_at + random.below(8), value),
+    match random.below(13) {
+        0 => (1, put(&mut lists.bytes, at, value as u8)),
+        1 => (2, put(&mut lists.bytes, STATUSES + at, value as u8)),
+        2 => (3, put(&mut lists.bytes, CHORDS + match_at, value as u8)),
+        3 => (4, put(&mut lists.links, at, value)),
+        4 => (5, put(&mut lists.links, WAKERS + at, value)),
+        5 => (6, put(&mut lists.links, MEMBERS + 8 * match_at + random.below(8), value)),
+        6 => (7, put(&mut lists.keys, at, value.into())),
+        7 => (8, put(&mut lists.cents, at, cents)),
         _ => {
-            let at = random.below(world.board.len());
-            put("board number", &mut world.board, at, value)
+            let at = random.below(lists.board.len());
+            (0, put(&mut lists.board, at, value))
         }
     }
 }
 
-fn put<T: std::fmt::Display + Copy>(what: &str, numbers: &mut [T], at: usize, value: T) -> String {
+/// Mostly below the count, and of records that there are.
+fn place(count: u16, random: &mut Random) -> usize {
+    if random.chance(10) { random.below(MESSAGES) } else { random.below(usize::from(count).clamp(1, MESSAGES)) }
+}
+
+fn put<T: std::fmt::Display + Copy>(numbers: &mut [T], at: usize, value: T) -> String {
     numbers[at] = value;
-    format!("{what} {at} changed to {value}")
+    format!("at {at} changed to {value}")
 }
 
 /// As many matches as a board takes, or one fewer.
-pub fn many_matches(world: &mut World, random: &mut Random, table: &Table) {
-    world.board[1] = (MESSAGES - random.below(2)) as u16;
-    let messages = usize::from(world.board[0]).min(MESSAGES);
-    world.columns.chords.fill_with(|| random.below(table.chord_count.into()) as u8);
-    world.columns.messages.fill_with(|| random.below(messages) as u16);
+pub fn many_matches(lists: &mut Lists, random: &mut Random, table: &Table) {
+    lists.board[1] = (MESSAGES - random.below(2)) as u16;
+    let messages = usize::from(lists.board[0]).min(MESSAGES);
+    lists.bytes[CHORDS..].fill_with(|| random.below(table.chord_count.into()) as u8);
+    lists.links[MEMBERS..].fill_with(|| random.below(messages) as u16);
 }
 
-pub fn change_message(world: &mut World, random: &mut Random, table: &Table) {
-    let (messages, matches) = (usize::from(world.board[0]).min(MESSAGES), usize::from(world.board[1]));
+pub fn change_message(lists: &mut Lists, random: &mut Random, table: &Table) {
+    let (messages, matches) = (usize::from(lists.board[0]).min(MESSAGES), usize::from(lists.board[1]));
     if messages == 0 {
         return;
     }
     let at = random.below(messages);
-    let columns = &mut world.columns;
     match random.below(6) {
-        0 => columns.channels[at] = random.below(table.channel_count.into()) as u8,
-        1 => columns.properties[at] = random.below(3) as u32,
-        2 => columns.matched[at] = random.below(matches + 1) as u16,
-        3 => columns.wakers[at] = random.below(messages + 1) as u16,
+        0 => lists.bytes[at] = random.below(table.channel_count.into()) as u8,
+        1 => lists.keys[at] = random.below(3) as u32,
+        2 => lists.links[at] = random.below(matches + 1) as u16,
+        3 => lists.links[WAKERS + at] = random.below(messages + 1) as u16,
         4 => {
-            columns.statuses[at] = random.below(4) as u8;
-            columns.wakers[at] = 1 + random.below(messages) as u16;
-            columns.matched[at] = matches.min(1 + random.below(MESSAGES)) as u16;
+            lists.bytes[STATUSES + at] = random.below(4) as u8;
+            lists.links[WAKERS + at] = 1 + random.below(messages) as u16;
+            lists.links[at] = matches.min(1 + random.below(MESSAGES)) as u16;
         }
-        _ => columns.statuses[at] = random.below(4) as u8,
+        _ => lists.bytes[STATUSES + at] = random.below(4) as u8,
     }
 }
 
-pub fn change_sender(world: &mut World, random: &mut Random, table: &Table, sender: usize) {
-    let (messages, matches) = (usize::from(world.board[0]).clamp(1, MESSAGES), usize::from(world.board[1]));
-    let owned_by_other = world.board[2 + SENDER_NUMBERS * random.below(32) + 2];
-    let numbers = &mut world.board[2 + SENDER_NUMBERS * sender..][..SENDER_NUMBERS];
+pub fn change_sender(lists: &mut Lists, random: &mut Random, table: &Table, sender: usize) {
+    let (messages, matches) = (usize::from(lists.board[0]).clamp(1, MESSAGES), usize::from(lists.board[1]));
+    let owned_by_other = lists.board[2 + SENDER_NUMBERS * random.below(32) + 2];
+    let numbers = &mut lists.board[2 + SENDER_NUMBERS * sender..][..SENDER_NUMBERS];
     let message = random.below(messages) as u16;
     match random.below(13) {
         0 => numbers[0] = random.below(3) as u16,
@@ -104,24 +107,24 @@ fn put_phase(numbers: &mut [u16], random: &mut Random, matches: usize) {
 
 /// A job at some place of a chord, with messages of its channels; its own message may be another than the one in hand,
 /// and the chosen ones may be other senders' own.
-pub fn put_job(world: &mut World, random: &mut Random, table: &Table, sender: usize) {
-    let (messages, matches) = (usize::from(world.board[0]).min(MESSAGES), usize::from(world.board[1]));
+pub fn put_job(lists: &mut Lists, random: &mut Random, table: &Table, sender: usize) {
+    let (messages, matches) = (usize::from(lists.board[0]).min(MESSAGES), usize::from(lists.board[1]));
     let number = random.below(table.chord_count.into()) as u8;
     let members = table.chord(number).members();
     let mut chosen = [0; 8];
     for (message, &channel) in chosen.iter_mut().zip(members) {
-        *message = if random.chance(40) { others_own(world, random) } else { random.below(messages) as u16 };
+        *message = if random.chance(40) { others_own(lists, random) } else { random.below(messages) as u16 };
         if random.chance(80) {
-            world.columns.channels[usize::from(*message)] = channel;
+            lists.bytes[usize::from(*message)] = channel;
         }
     }
     if random.chance(50) {
         let own = chosen[random.below(members.len())];
-        give_to_idle(world, random, sender, own);
+        give_to_idle(lists, random, sender, own);
     }
     let subject = chosen[random.below(members.len())];
     let own = if random.chance(50) { subject } else { chosen[random.below(members.len())] };
-    let numbers = &mut world.board[2 + SENDER_NUMBERS * sender..][..SENDER_NUMBERS];
+    let numbers = &mut lists.board[2 + SENDER_NUMBERS * sender..][..SENDER_NUMBERS];
     numbers[0] = 1;
     numbers[2] = own + 1;
     numbers[3] = if own == subject && random.chance(50) { numbers[3] } else { subject + 1 };
@@ -134,18 +137,18 @@ pub fn put_job(world: &mut World, random: &mut Random, table: &Table, sender: us
 }
 
 /// A message that a sender, not idle, owns.
-fn others_own(world: &World, random: &mut Random) -> u16 {
+fn others_own(lists: &Lists, random: &mut Random) -> u16 {
     let owned = |sender: &Sender| sender.own.filter(|_| sender.state != State::Idle);
-    let owned: Vec<u16> = senders(world).iter().filter_map(owned).filter(|&own| own < world.board[0]).collect();
+    let owned: Vec<u16> = senders(lists).iter().filter_map(owned).filter(|&own| own < lists.board[0]).collect();
     if owned.is_empty() { 0 } else { random.pick(&owned) }
 }
 
 /// An idle sender may still hold the number of a message that another owns.
-fn give_to_idle(world: &mut World, random: &mut Random, except: usize, message: u16) {
-    let senders = senders(world);
+fn give_to_idle(lists: &mut Lists, random: &mut Random, except: usize, message: u16) {
+    let senders = senders(lists);
     let idle = |i: &usize| *i != except && senders[*i].state == State::Idle;
     let idle: Vec<usize> = (0..senders.len()).filter(idle).collect();
     if !idle.is_empty() {
-        world.board[2 + SENDER_NUMBERS * random.pick(&idle) + 2] = message + 1;
+        lists.board[2 + SENDER_NUMBERS * random.pick(&idle) + 2] = message + 1;
     }
 }

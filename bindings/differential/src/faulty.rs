@@ -1,11 +1,13 @@
 //! The reference with a fault put in, to see that the comparison finds it.
 
-use crate::calls::{Call, Calls, Merge, Plain, Read};
+use crate::calls::{Call, Calls, Merge, Read};
 use crate::plain_rust::Reference;
-use crate::world::World;
+use reference::lists::STATUSES;
+use reference::{Lists, Rows};
 
 /// Kinds of faults by name.
-pub const FAULTS: [&str; 9] = ["answer", "column", "board", "refusal", "read", "replay", "table", "merge", "law"];
+pub const FAULTS: [&str; 10] =
+    ["answer", "list", "board", "refusal", "read", "reading", "replay", "table", "merge", "law"];
 
 pub struct Faulty {
     inner: Reference,
@@ -33,36 +35,39 @@ impl Calls for Faulty {
         self.inner.open(table, board)
     }
 
-    fn call(&mut self, table: &[u8], world: &mut World, call: Call) -> u32 {
+    fn call(&mut self, table: &[u8], lists: &mut Lists, call: Call) -> u32 {
         self.calls += 1;
-        let answer = self.inner.call(table, world, call);
-        if self.due("column") && answer >> 16 == 3 {
-            world.columns.statuses[answer as u16 as usize] = 0;
+        let answer = self.inner.call(table, lists, call);
+        if self.due("list") && answer >> 16 == 3 {
+            lists.bytes[STATUSES + usize::from(answer as u16)] = 0;
         }
         if self.due("board") && answer >> 16 == 12 {
-            world.board[2 + 21 * sender_of(call) + 12] += 1;
+            lists.board[2 + 21 * sender_of(call) + 12] += 1;
         }
         if self.due("refusal") && answer >> 16 == 17 {
-            world.columns.wakers[1023] ^= 1;
+            lists.links.iter_mut().last().into_iter().for_each(|link| *link ^= 1);
         }
         if self.due("law") && answer >> 16 == 13 {
-            leave_chord_count(&mut world.board[2 + 21 * sender_of(call)..][..21], table);
+            leave_chord_count(&mut lists.board[2 + 21 * sender_of(call)..][..21], table);
         }
         if self.due("answer") && answer >> 16 == 13 { 12 << 16 } else { answer }
     }
 
-    fn replay(&mut self, table: &[u8], world: &mut World, calls: &Plain, answers: &mut [u32]) -> u8 {
-        let refusal = self.inner.replay(table, world, calls, answers);
+    fn replay(&mut self, table: &[u8], lists: &mut Lists, rows: &Rows, answers: &mut [u32]) -> u8 {
+        let refusal = self.inner.replay(table, lists, rows, answers);
         if self.due("replay") && refusal == 0 {
             answers[0] += 1;
         }
         refusal
     }
 
-    fn read(&mut self, table: &[u8], world: &World, read: Read, out: &mut [i64]) -> u8 {
-        let refusal = self.inner.read(table, world, read, out);
+    fn read(&mut self, table: &[u8], lists: &mut Lists, read: Read, out: &mut [i64]) -> u8 {
+        let refusal = self.inner.read(table, lists, read, out);
         if self.due("read") && refusal == 0 {
             out[0] += 1;
+        }
+        if self.due("reading") && refusal == 0 {
+            lists.cents[1023] ^= 1;
         }
         refusal
     }

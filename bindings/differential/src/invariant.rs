@@ -1,9 +1,9 @@
 //! What holds on every board of a schedule, checked on the plain numbers.
 
 use crate::pair::Checked;
-use crate::world::World;
 use reference::board::{CLAIMED, CONSUMED, PENDING, WOKEN};
-use reference::{Phase, SENDER_NUMBERS, Sender, State, Table};
+use reference::lists::{CHORDS, MEMBERS, STATUSES, WAKERS};
+use reference::{Lists, Phase, SENDER_NUMBERS, Sender, State, Table};
 use std::collections::HashMap;
 
 /// The channel, property and cents of each message, as the adds said; and which are in a match.
@@ -14,8 +14,8 @@ pub struct Pool {
     matches: usize,
 }
 
-pub fn senders(world: &World) -> Vec<Sender> {
-    world.board[2..].chunks_exact(SENDER_NUMBERS).filter_map(Sender::from_numbers).collect()
+pub fn senders(lists: &Lists) -> Vec<Sender> {
+    lists.board[2..].chunks_exact(SENDER_NUMBERS).filter_map(Sender::from_numbers).collect()
 }
 
 impl Pool {
@@ -44,31 +44,30 @@ impl Pool {
     }
 
     /// The board against the pool, and the invariant of the board itself.
-    pub fn check(&self, table: &Table, world: &World) -> Checked<()> {
+    pub fn check(&self, table: &Table, lists: &Lists) -> Checked<()> {
         let counts = (self.added.len(), self.matches);
-        ensure((world.board[0].into(), world.board[1].into()) == counts, || format!("counts are not {counts:?}"))?;
-        let senders = senders(world);
-        self.check_messages(table, world, &senders)?;
+        ensure((lists.board[0].into(), lists.board[1].into()) == counts, || format!("counts are not {counts:?}"))?;
+        let senders = senders(lists);
+        self.check_messages(table, lists, &senders)?;
         check_owners(&senders)?;
-        if senders.iter().all(Sender::at_rest) { self.check_quiet(table, world) } else { Ok(()) }
+        if senders.iter().all(Sender::at_rest) { self.check_quiet(table, lists) } else { Ok(()) }
     }
 
-    fn check_messages(&self, table: &Table, world: &World, senders: &[Sender]) -> Checked<()> {
+    fn check_messages(&self, table: &Table, lists: &Lists, senders: &[Sender]) -> Checked<()> {
         let mut holders = vec![0u8; self.added.len()];
         for sender in senders {
             for message in held_by(table, sender) {
                 holders[usize::from(message)] += 1;
             }
         }
-        let columns = &world.columns;
         for (message, &holding) in holders.iter().enumerate() {
-            let sent = (columns.channels[message], columns.properties[message], columns.cents[message]);
+            let sent = (lists.bytes[message], lists.keys[message], lists.cents[message]);
             ensure(sent == self.added[message], || format!("message {message} is not as it was sent"))?;
-            let status = columns.statuses[message];
+            let status = lists.bytes[STATUSES + message];
             let fine = match status {
                 CLAIMED => holding == 1,
-                WOKEN => !self.matched[message] && holding == 0 && columns.wakers[message] != 0,
-                CONSUMED => self.matched[message] && holding == 0 && in_its_match(table, world, message),
+                WOKEN => !self.matched[message] && holding == 0 && lists.links[WAKERS + message] != 0,
+                CONSUMED => self.matched[message] && holding == 0 && in_its_match(table, lists, message),
                 _ => !self.matched[message] && holding == 0,
             };
             ensure(fine, || format!("message {message} has status {status}, {holding} holders"))?;
@@ -77,9 +76,9 @@ impl Pool {
     }
 
     /// On a quiet board nothing is claimed or woken, and no chord can be met from the pool.
-    fn check_quiet(&self, table: &Table, world: &World) -> Checked<()> {
+    fn check_quiet(&self, table: &Table, lists: &Lists) -> Checked<()> {
         let pending = |status: &u8| *status == PENDING || *status == CONSUMED;
-        let statuses = &world.columns.statuses[..self.added.len()];
+        let statuses = &lists.bytes[STATUSES..][..self.added.len()];
         ensure(statuses.iter().all(pending), || "a quiet board has a claimed or woken message".to_string())?;
         let mut groups: HashMap<u32, [usize; 16]> = HashMap::new();
         let mut all = [0; 16];
@@ -100,12 +99,12 @@ impl Pool {
     }
 }
 
-fn in_its_match(table: &Table, world: &World, message: usize) -> bool {
-    let Some(number) = world.columns.matched[message].checked_sub(1).filter(|&k| k < world.board[1]) else {
+fn in_its_match(table: &Table, lists: &Lists, message: usize) -> bool {
+    let Some(number) = lists.links[message].checked_sub(1).filter(|&k| k < lists.board[1]) else {
         return false;
     };
-    let len = table.chord(world.columns.chords[usize::from(number)]).len;
-    world.columns.messages[8 * usize::from(number)..][..len.into()].contains(&(message as u16))
+    let len = table.chord(lists.bytes[CHORDS + usize::from(number)]).len;
+    lists.links[MEMBERS + 8 * usize::from(number)..][..len.into()].contains(&(message as u16))
 }
 
 fn check_owners(senders: &[Sender]) -> Checked<()> {

@@ -2,13 +2,13 @@
 //! is answered alike under the first table and the merged one, and leaves the same board.
 
 use crate::calls::{Call, Calls, Merge, Read};
+use crate::difference::difference;
 use crate::merges::{merged_len, whole};
 use crate::pair::Checked;
 use crate::random::Random;
 use crate::schedule::Habits;
 use crate::strays::lent_anything;
-use crate::world::World;
-use reference::Table;
+use reference::{Lists, Table};
 
 const MATCHED: u32 = 6;
 /// Where a schedule that leaves the law adds to as well.
@@ -40,8 +40,8 @@ struct Boards<'a> {
     side: &'a mut dyn Calls,
     tables: &'a Tables,
     table: Table,
-    first: World,
-    merged: World,
+    first: Lists,
+    merged: Lists,
 }
 
 /// A schedule inside the law, and one that leaves it, over tables of their own.
@@ -141,13 +141,13 @@ impl Boards<'_> {
         (one, self.side.call(&self.tables.merged, &mut self.merged, call))
     }
 
-    /// The answers, every number of the boards and columns, and the reads.
+    /// The answers, every number of the lists, and the reads.
     fn compare(&mut self, random: &mut Random, one: u32, two: u32) -> Checked<()> {
         if one != two {
             return Err(format!("answers {one} and {two}"));
         }
         if self.first != self.merged {
-            return Err(self.first.difference(&self.merged, None).unwrap_or_default());
+            return Err(difference(&self.first, &self.merged, None).unwrap_or_default());
         }
         let message = random.below(usize::from(self.first.board[0]) + 2) as u16;
         let number = random.below(usize::from(self.first.board[1]) + 2) as u16;
@@ -160,8 +160,8 @@ impl Boards<'_> {
 
     fn compare_read(&mut self, read: Read) -> Checked<()> {
         let (mut one, mut two) = ([-1; 12], [-1; 12]);
-        let first = self.side.read(&self.tables.first, &self.first, read, &mut one);
-        let second = self.side.read(&self.tables.merged, &self.merged, read, &mut two);
+        let first = self.side.read(&self.tables.first, &mut self.first, read, &mut one);
+        let second = self.side.read(&self.tables.merged, &mut self.merged, read, &mut two);
         let same = (first, one) == (second, two);
         if same { Ok(()) } else { Err(format!("{read:?}: {first} {one:?} and {second} {two:?}")) }
     }

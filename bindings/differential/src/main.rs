@@ -2,8 +2,8 @@
 //!
 //!     differential [--calls N] [--merges N] [--seed S] [--fault KIND]
 //!
-//! Random schedules, with excursions to sound boards that no schedule reaches and to damaged boards and tables. From
-//! 100,000 calls on, every word and the refusals 8 to 13 must occur.
+//! Random schedules, with excursions to sound boards that no schedule reaches, to damaged lists and tables, and to lists
+//! of another length. From 100,000 calls on, every word, the refusals 8 to 13 and every sort of damage must occur.
 //!
 //! Then merges of random tables, whole and damaged, and for every hundred of them two schedules that are played under a
 //! table and under a merged one: one inside request 1's law, which is answered alike, and one that leaves it. From
@@ -14,6 +14,7 @@
 
 mod calls;
 mod changes;
+mod difference;
 mod faulty;
 mod grounds;
 mod invariant;
@@ -25,8 +26,8 @@ mod plain_rust;
 mod proved;
 mod random;
 mod schedule;
+mod seen;
 mod strays;
-mod world;
 
 use calls::Calls;
 use grounds::Met;
@@ -38,8 +39,8 @@ use std::process::ExitCode;
 
 const HELP: &str = "\
 usage: differential [--calls N] [--merges N] [--seed S] [--fault KIND]
-From 100,000 calls on, every word and the refusals 8 to 13 must occur; from 100,000 merges on, every ground of a refusal
-and answers that differ outside the law.";
+From 100,000 calls on, every word, the refusals 8 to 13 and every sort of damage must occur; from 100,000 merges on,
+every ground of a refusal and answers that differ outside the law.";
 
 /// So many calls are enough for every word to occur, so many merges for every ground.
 const COVERING: u64 = 100_000;
@@ -113,13 +114,15 @@ fn play_law(tally: &mut law::Tally, options: &Options) -> Result<(), String> {
     })
 }
 
-/// Every word and the refusals 8 to 13 must have been answered, if there were calls enough.
+/// Every word and the refusals 8 to 13 must have been answered, and every list damaged, if there were calls enough.
 fn missing(tally: &Tally) -> Option<String> {
     if tally.calls < COVERING {
         return None;
     }
     let word = (0..17).find(|&word| tally.words[word] == 0).map(|word| WORDS[word].to_string());
-    word.or((8..=13).find(|&number| tally.refusals[number] == 0).map(|number| format!("refused {number}")))
+    let refusal = (8..=13).find(|&number| tally.refusals[number] == 0).map(|number| format!("refused {number}"));
+    let mut damages = tally.seen.counts().into_iter().flat_map(|(_, counts)| counts);
+    word.or(refusal).or_else(|| damages.find(|(_, times)| *times == 0).map(|(what, _)| what))
 }
 
 /// The same of merges: every ground of a refusal, and what the law's test is to see.
@@ -138,6 +141,10 @@ fn print_counts(tally: &Tally) {
     println!("refused in schedules: {}", refusals.collect::<Vec<_>>().join(", "));
     let Tally { unreached, damaged, reads, replays, .. } = tally;
     println!("unreached sound boards: {unreached} calls; damaged: {damaged} calls; {reads} reads, {replays} replays");
+    for (sort, counts) in tally.seen.counts() {
+        let counts: Vec<String> = counts.into_iter().map(|(what, times)| format!("{what} {times}")).collect();
+        println!("{sort}: {}", counts.join(", "));
+    }
 }
 
 fn print_merges(tally: &Tally, met: &Met) {

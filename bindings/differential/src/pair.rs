@@ -1,8 +1,9 @@
 //! Two implementations side by side: every call goes to both, and what each says and leaves is compared.
 
-use crate::calls::{Call, Calls, Merge, Plain, Read};
-use crate::world::World;
-use reference::Table;
+use crate::calls::{Call, Calls, Merge, Read};
+use crate::difference::difference;
+use crate::seen::Seen;
+use reference::{Lists, Rows, Table};
 
 const REFUSED: u32 = 17;
 
@@ -19,12 +20,14 @@ pub struct Tally {
     pub reads: u64,
     pub replays: u64,
     pub merges: u64,
+    pub seen: Seen,
 }
 
 impl Default for Tally {
     fn default() -> Tally {
         let (words, refusals) = ([0; 18], [0; 256]);
-        Tally { calls: 0, words, refusals, unreached: 0, damaged: 0, reads: 0, replays: 0, merges: 0 }
+        let seen = Seen::default();
+        Tally { calls: 0, words, refusals, unreached: 0, damaged: 0, reads: 0, replays: 0, merges: 0, seen }
     }
 }
 
@@ -32,24 +35,24 @@ pub struct Pair {
     left: Box<dyn Calls>,
     right: Box<dyn Calls>,
     pub table: Vec<u8>,
-    pub ours: World,
-    pub theirs: World,
-    ours_before: World,
-    theirs_before: World,
+    pub ours: Lists,
+    pub theirs: Lists,
+    ours_before: Lists,
+    theirs_before: Lists,
     pub tally: Tally,
 }
 
 impl Pair {
     pub fn new(left: Box<dyn Calls>, right: Box<dyn Calls>) -> Pair {
-        let world = World::new();
+        let lists = Lists::default();
         Pair {
             left,
             right,
             table: Vec::new(),
-            ours: world.clone(),
-            theirs: world.clone(),
-            ours_before: world.clone(),
-            theirs_before: world,
+            ours: lists.clone(),
+            theirs: lists.clone(),
+            ours_before: lists.clone(),
+            theirs_before: lists,
             tally: Tally::default(),
         }
     }
@@ -58,7 +61,7 @@ impl Pair {
         Table::read(&self.table).ok()
     }
 
-    /// Opens a board for that table in both worlds.
+    /// Opens a board for that table in the lists of both.
     pub fn open(&mut self, table: Vec<u8>) -> Checked<u8> {
         self.table = table;
         let (one, two) = (self.left.table_refusal(&self.table), self.right.table_refusal(&self.table));
@@ -68,17 +71,17 @@ impl Pair {
         let two = self.right.open(&self.table, &mut self.theirs.board);
         same("refusal of open", one, two)?;
         if one == 0 {
-            self.compare_worlds()?
+            self.compare_lists()?
         } else {
-            self.unchanged()?
+            self.unchanged("refused opens")?
         }
         Ok(one)
     }
 
-    /// Both worlds as given.
-    pub fn set(&mut self, world: &World) {
-        self.ours.copy(world);
-        self.theirs.copy(world);
+    /// The lists of both as given.
+    pub fn set(&mut self, lists: &Lists) {
+        self.ours.copy(lists);
+        self.theirs.copy(lists);
     }
 
     pub fn call(&mut self, call: Call) -> Checked<u32> {
@@ -93,9 +96,9 @@ impl Pair {
             return Err(format!("answer: {} and {}", shown(one), shown(two)));
         }
         if one >> 16 == REFUSED {
-            self.unchanged()?
+            self.unchanged("refused calls")?
         } else {
-            self.compare_worlds()?
+            self.compare_lists()?
         }
         self.tally.calls += 1;
         Ok(one)
@@ -114,24 +117,28 @@ impl Pair {
         }
     }
 
-    fn unchanged(&self) -> Checked<()> {
-        let ours = self.ours_before.difference(&self.ours, None).map(|change| format!("ours: {change}"));
-        let theirs = || self.theirs_before.difference(&self.theirs, None).map(|change| format!("theirs: {change}"));
-        ours.or_else(theirs).map_or(Ok(()), |change| Err(format!("a refused call changed {change}")))
+    /// Every list is as it was before those calls.
+    fn unchanged(&mut self, calls: &str) -> Checked<()> {
+        self.tally.seen.note(calls);
+        let ours = difference(&self.ours_before, &self.ours, None).map(|change| format!("ours: {change}"));
+        let theirs = || difference(&self.theirs_before, &self.theirs, None).map(|change| format!("theirs: {change}"));
+        ours.or_else(theirs).map_or(Ok(()), |change| Err(format!("{calls} change {change}")))
     }
 
-    fn compare_worlds(&self) -> Checked<()> {
-        self.ours.difference(&self.theirs, self.parsed().as_ref()).map_or(Ok(()), Err)
+    fn compare_lists(&self) -> Checked<()> {
+        difference(&self.ours, &self.theirs, self.parsed().as_ref()).map_or(Ok(()), Err)
     }
 
     /// Reads with room for `room` numbers; returns what was read.
     pub fn read(&mut self, read: Read, room: usize) -> Checked<(u8, Vec<i64>)> {
         let (mut one, mut two) = (vec![-1; room], vec![-1; room]);
-        let first = self.left.read(&self.table, &self.ours, read, &mut one);
-        let second = self.right.read(&self.table, &self.theirs, read, &mut two);
+        self.keep_before();
+        let first = self.left.read(&self.table, &mut self.ours, read, &mut one);
+        let second = self.right.read(&self.table, &mut self.theirs, read, &mut two);
         self.tally.reads += 1;
         let what = format!("{read:?} with room for {room}");
         same(&what, first, second)?;
+        self.unchanged("reads")?;
         if let Read::Match(_) = read
             && first == 0
         {
@@ -146,21 +153,21 @@ impl Pair {
         Ok((first, one))
     }
 
-    /// Plays the calls again on the worlds as they are, into answers with that much room.
-    pub fn replay(&mut self, calls: &Plain, room: usize) -> Checked<(u8, Vec<u32>)> {
+    /// Plays the calls on the lists as they are, into answers with that much room.
+    pub fn replay(&mut self, rows: &Rows, room: usize) -> Checked<(u8, Vec<u32>)> {
         let (mut one, mut two) = (vec![u32::MAX; room], vec![u32::MAX; room]);
         self.keep_before();
-        let first = self.left.replay(&self.table, &mut self.ours, calls, &mut one);
-        let second = self.right.replay(&self.table, &mut self.theirs, calls, &mut two);
+        let first = self.left.replay(&self.table, &mut self.ours, rows, &mut one);
+        let second = self.right.replay(&self.table, &mut self.theirs, rows, &mut two);
         self.tally.replays += 1;
         same("refusal of replay", first, second)?;
         if let Some(at) = (0..room).find(|&at| one[at] != two[at]) {
             return Err(format!("replayed answer {at}: {} and {}", shown(one[at]), shown(two[at])));
         }
         if first == 0 {
-            self.compare_worlds()?
+            self.compare_lists()?
         } else {
-            self.unchanged()?
+            self.unchanged("refused replays")?
         }
         Ok((first, one))
     }

@@ -1,9 +1,8 @@
 //! The reference behind the host interface.
 
-use crate::calls::{Call, Calls, Merge, Plain, Read};
-use crate::world::World;
+use crate::calls::{Call, Calls, Merge, Read};
 use reference::board::kept;
-use reference::{Board, NUMBERS, Table, calls, table};
+use reference::{Board, Lists, NUMBERS, Rows, Table, calls, table};
 
 #[derive(Default)]
 pub struct Reference {
@@ -11,46 +10,30 @@ pub struct Reference {
     spare: reference::Columns,
 }
 
-impl Reference {
-    /// The board that the numbers and columns are, if they are one.
-    fn load(&mut self, world: &World) -> Option<Board> {
-        let (mut columns, lent) = (std::mem::take(&mut self.spare), &world.columns);
-        copy(&mut columns.channels[..], &lent.channels)?;
-        copy(&mut columns.properties[..], &lent.properties)?;
-        copy(&mut columns.cents[..], &lent.cents)?;
-        copy(&mut columns.statuses[..], &lent.statuses)?;
-        copy(&mut columns.matched[..], &lent.matched)?;
-        copy(&mut columns.wakers[..], &lent.wakers)?;
-        copy(&mut columns.chords[..], &lent.chords)?;
-        copy(columns.messages.as_flattened_mut(), &lent.messages)?;
-        Board::from_numbers(&world.board, columns)
-    }
-
-    fn store(&mut self, board: Board, world: &mut World) {
-        let (columns, lent) = (&board.columns, &mut world.columns);
-        world.board.copy_from_slice(&board.to_numbers());
-        lent.channels.copy_from_slice(&columns.channels[..]);
-        lent.properties.copy_from_slice(&columns.properties[..]);
-        lent.cents.copy_from_slice(&columns.cents[..]);
-        lent.statuses.copy_from_slice(&columns.statuses[..]);
-        lent.matched.copy_from_slice(&columns.matched[..]);
-        lent.wakers.copy_from_slice(&columns.wakers[..]);
-        lent.chords.copy_from_slice(&columns.chords[..]);
-        lent.messages.copy_from_slice(columns.messages.as_flattened());
-        self.spare = board.columns;
-    }
-
-    /// Whether the table is accepted and the board sound.
-    pub fn is_sound(&mut self, table: &[u8], world: &World) -> bool {
-        let (Ok(table), Some(board)) = (Table::read(table), self.load(world)) else { return false };
-        let sound = board.is_sound(&table);
-        self.spare = board.columns;
-        sound
-    }
+/// What lists are, to an accepted table.
+#[derive(Clone, Copy, PartialEq, Eq)]
+pub enum Verdict {
+    NoBoard,
+    Unsound,
+    Sound,
 }
 
-fn copy<T: Copy>(to: &mut [T], from: &[T]) -> Option<()> {
-    (to.len() == from.len()).then(|| to.copy_from_slice(from))
+impl Reference {
+    fn held(&mut self, lists: &Lists) -> Option<Board> {
+        lists.held(std::mem::take(&mut self.spare))
+    }
+
+    fn hold(&mut self, lists: &mut Lists, board: Board) {
+        lists.hold(&board);
+        self.spare = board.columns;
+    }
+
+    pub fn verdict(&mut self, table: &Table, lists: &Lists) -> Verdict {
+        let Some(board) = self.held(lists) else { return Verdict::NoBoard };
+        let sound = board.is_sound(table);
+        self.spare = board.columns;
+        if sound { Verdict::Sound } else { Verdict::Unsound }
+    }
 }
 
 const NO_BOARD: u32 = 17 * 65_536 + 30;
@@ -71,41 +54,34 @@ impl Calls for Reference {
         }
     }
 
-    fn call(&mut self, table: &[u8], world: &mut World, call: Call) -> u32 {
+    fn call(&mut self, table: &[u8], lists: &mut Lists, call: Call) -> u32 {
         let refusal = table::table_refusal(table);
         if refusal != 0 {
             return 17 * 65_536 + u32::from(refusal);
         }
-        let Some(mut board) = self.load(world) else { return NO_BOARD };
+        let Some(mut board) = self.held(lists) else { return NO_BOARD };
         let answer = calls::call(table, &mut board, call);
-        self.store(board, world);
+        self.hold(lists, board);
         answer.number()
     }
 
-    fn replay(&mut self, table: &[u8], world: &mut World, list: &Plain, answers: &mut [u32]) -> u8 {
+    fn replay(&mut self, table: &[u8], lists: &mut Lists, rows: &Rows, answers: &mut [u32]) -> u8 {
         let refusal = table::table_refusal(table);
         if refusal != 0 {
             return refusal;
         }
-        let Some(mut board) = self.load(world) else { return 30 };
-        let list = reference::Replay {
-            kinds: &list.kinds,
-            callers: &list.callers,
-            targets: &list.targets,
-            numbers: &list.numbers,
-            amounts: &list.amounts,
-        };
-        let played = calls::replay(table, &mut board, list, answers);
-        self.store(board, world);
+        let Some(mut board) = self.held(lists) else { return 30 };
+        let played = calls::replay(table, &mut board, rows, answers);
+        self.hold(lists, board);
         played.err().unwrap_or(0)
     }
 
-    fn read(&mut self, table: &[u8], world: &World, read: Read, out: &mut [i64]) -> u8 {
+    fn read(&mut self, table: &[u8], lists: &mut Lists, read: Read, out: &mut [i64]) -> u8 {
         let refusal = table::table_refusal(table);
         if refusal != 0 {
             return refusal;
         }
-        let Some(board) = self.load(world) else { return 30 };
+        let Some(board) = self.held(lists) else { return 30 };
         let numbers = numbers_read(table, &board, read);
         self.spare = board.columns;
         match numbers {

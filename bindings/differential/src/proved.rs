@@ -1,34 +1,24 @@
 //! The proved host library behind the same interface.
 
-use crate::calls::{Call, Calls, Merge, Plain, Read};
-use crate::world::World;
+use crate::calls::{Call, Calls, Merge, Read};
 use gevnyusto::host;
+use reference::{Lists, Rows};
 use std::mem::take;
 
 pub struct Host;
 
-/// Hands the columns over for a call and takes them back.
-fn lent<T>(world: &mut World, call: impl FnOnce(&mut [u16], &mut host::Columns) -> T) -> T {
-    let columns = &mut world.columns;
-    let mut lent = host::Columns {
-        channels: take(&mut columns.channels),
-        properties: take(&mut columns.properties),
-        cents: take(&mut columns.cents),
-        statuses: take(&mut columns.statuses),
-        matched: take(&mut columns.matched),
-        wakers: take(&mut columns.wakers),
-        chords: take(&mut columns.chords),
-        messages: take(&mut columns.messages),
+/// Hands the lists over for a call and takes them back.
+fn lent<T>(lists: &mut Lists, call: impl FnOnce(&mut host::Lists) -> T) -> T {
+    let mut lent = host::Lists {
+        board: take(&mut lists.board),
+        bytes: take(&mut lists.bytes),
+        links: take(&mut lists.links),
+        keys: take(&mut lists.keys),
+        cents: take(&mut lists.cents),
     };
-    let said = call(&mut world.board, &mut lent);
-    columns.channels = lent.channels;
-    columns.properties = lent.properties;
-    columns.cents = lent.cents;
-    columns.statuses = lent.statuses;
-    columns.matched = lent.matched;
-    columns.wakers = lent.wakers;
-    columns.chords = lent.chords;
-    columns.messages = lent.messages;
+    let said = call(&mut lent);
+    let host::Lists { board, bytes, links, keys, cents } = lent;
+    *lists = Lists { board, bytes, links, keys, cents };
     said
 }
 
@@ -41,33 +31,24 @@ impl Calls for Host {
         host::open(table, board)
     }
 
-    fn call(&mut self, table: &[u8], world: &mut World, call: Call) -> u32 {
-        lent(world, |board, columns| match call {
-            Call::Add { sender, channel, property, cents } => {
-                host::add(table, board, columns, sender, channel, property, cents)
-            }
-            Call::Step { sender } => host::step(table, board, columns, sender),
+    fn call(&mut self, table: &[u8], lists: &mut Lists, call: Call) -> u32 {
+        lent(lists, |lists| match call {
+            Call::Add { sender, channel, property, cents } => host::add(table, lists, sender, channel, property, cents),
+            Call::Step { sender } => host::step(table, lists, sender),
         })
     }
 
-    fn replay(&mut self, table: &[u8], world: &mut World, list: &Plain, answers: &mut [u32]) -> u8 {
-        let list = host::Replay {
-            kinds: &list.kinds,
-            callers: &list.callers,
-            targets: &list.targets,
-            numbers: &list.numbers,
-            amounts: &list.amounts,
-        };
-        lent(world, |board, columns| host::replay(table, board, list, answers, columns))
+    fn replay(&mut self, table: &[u8], lists: &mut Lists, rows: &Rows, answers: &mut [u32]) -> u8 {
+        let calls = host::Replay { calls: &rows.calls, numbers: &rows.numbers, amounts: &rows.amounts };
+        lent(lists, |lists| host::replay(table, lists, calls, answers))
     }
 
-    fn read(&mut self, table: &[u8], world: &World, read: Read, out: &mut [i64]) -> u8 {
-        let mut world = world.clone();
-        lent(&mut world, |board, columns| match read {
-            Read::Message(number) => host::read_message(table, board, columns, number, out),
-            Read::Match(number) => host::read_match(table, board, columns, number, out),
-            Read::Reply(sender) => host::read_reply(table, board, columns, sender, out),
-            Read::Quiet => host::quiet(table, board, columns, out),
+    fn read(&mut self, table: &[u8], lists: &mut Lists, read: Read, out: &mut [i64]) -> u8 {
+        lent(lists, |lists| match read {
+            Read::Message(number) => host::read_message(table, lists, number, out),
+            Read::Match(number) => host::read_match(table, lists, number, out),
+            Read::Reply(sender) => host::read_reply(table, lists, sender, out),
+            Read::Quiet => host::quiet(table, lists, out),
         })
     }
 

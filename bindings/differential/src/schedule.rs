@@ -1,13 +1,14 @@
 //! Random schedules over random accepted tables, with the pool and the invariant beside them.
 
-use crate::calls::{Call, Read, plain};
+use crate::calls::{Call, Read};
+use crate::difference::difference;
 use crate::invariant::{Pool, senders};
 use crate::pair::{Checked, Pair};
 use crate::random::{Random, random_table};
 use crate::strays;
-use crate::world::World;
 use reference::board::{MESSAGES, MOST_CENTS, PENDING};
-use reference::{Sender, State, Table};
+use reference::lists::STATUSES;
+use reference::{Lists, Rows, Sender, State, Table};
 
 const ITEM: u32 = 0;
 const MATCHED: u32 = 6;
@@ -53,8 +54,8 @@ impl Habits {
         }
     }
 
-    pub fn choose(&mut self, random: &mut Random, table: &Table, world: &World) -> Call {
-        let senders = senders(world);
+    pub fn choose(&mut self, random: &mut Random, table: &Table, lists: &Lists) -> Call {
+        let senders = senders(lists);
         if !self.draining && random.chance(2) {
             return odd_call(random, table);
         }
@@ -69,7 +70,7 @@ impl Habits {
         if idle.is_empty() || self.draining {
             return Call::Step { sender: random.below(32) as u16 };
         }
-        let (sender, channel) = (random.pick(&idle) as u16, self.channel(random, table, world));
+        let (sender, channel) = (random.pick(&idle) as u16, self.channel(random, table, lists));
         Call::Add { sender, channel, property: self.property(random), cents: cents(random) }
     }
 
@@ -81,7 +82,7 @@ impl Habits {
     }
 
     /// A channel of some chord, often the one that the chord is shortest of.
-    fn channel(&self, random: &mut Random, table: &Table, world: &World) -> u16 {
+    fn channel(&self, random: &mut Random, table: &Table, lists: &Lists) -> u16 {
         if self.filling {
             return random.pick(&leaving(table).collect::<Vec<u8>>()).into();
         }
@@ -93,10 +94,10 @@ impl Habits {
         if dice < 5 {
             return random.pick(members).into();
         }
-        let count = usize::from(world.board[0]);
+        let count = usize::from(lists.board[0]);
         let pending = |channel: u8| {
-            let kinds = &world.columns.channels[..count];
-            let states = &world.columns.statuses[..count];
+            let kinds = &lists.bytes[..count];
+            let states = &lists.bytes[STATUSES..][..count];
             kinds.iter().zip(states).filter(|&(&kind, &state)| kind == channel && state == PENDING).count()
         };
         members.iter().copied().min_by_key(|&channel| pending(channel)).unwrap_or(0).into()
@@ -171,17 +172,17 @@ fn feed(pair: &mut Pair, pool: &mut Pool, table: &Table, call: Call, answer: u32
 }
 
 /// A replay from the opened board answers and leaves the same as the calls did.
-fn play_again(pair: &mut Pair, opened: &World, calls: &[Call], answers: &[u32]) -> Checked<()> {
+fn play_again(pair: &mut Pair, opened: &Lists, calls: &[Call], answers: &[u32]) -> Checked<()> {
     let left = pair.ours.clone();
-    let list = plain(calls);
+    let rows = Rows::of(calls);
     pair.set(opened);
-    let (number, _) = pair.replay(&list, calls.len() - 1)?;
+    let (number, _) = pair.replay(&rows, calls.len() - 1)?;
     if number != 31 {
         return Err(format!("a replay with too little room answered {number}"));
     }
-    let (number, again) = pair.replay(&list, calls.len() + 1)?;
+    let (number, again) = pair.replay(&rows, calls.len() + 1)?;
     if number != 0 || again[..calls.len()] != *answers || again[calls.len()] != u32::MAX {
         return Err(format!("a replay answered {number} or otherwise than its calls"));
     }
-    pair.ours.difference(&left, pair.parsed().as_ref()).map_or(Ok(()), |it| Err(format!("after a replay: {it}")))
+    difference(&pair.ours, &left, pair.parsed().as_ref()).map_or(Ok(()), |it| Err(format!("after a replay: {it}")))
 }

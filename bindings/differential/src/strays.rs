@@ -1,33 +1,28 @@
 //! Boards that no schedule reaches: sound ones, damaged ones, damaged tables, lists of another length.
 
-use crate::calls::{Call, Plain, Read, plain};
+use crate::calls::{Call, Read};
 use crate::changes;
 use crate::invariant::senders;
 use crate::pair::{Checked, Pair};
-use crate::plain_rust::Reference;
+use crate::plain_rust::{Reference, Verdict};
 use crate::random::{Random, damage};
 use crate::schedule::odd_call;
-use crate::world::World;
-use reference::{SENDER_NUMBERS, Table};
+use crate::seen::{LENGTHS, LISTS, PARTS, ROWS};
+use reference::{Lists, Rows, SENDER_NUMBERS, Table};
 
 const NO_BOARD: u32 = 17 * 65_536 + 30;
 
-/// An opened board's lent records may hold anything.
-pub fn lent_anything(random: &mut Random) -> World {
-    let mut world = World::new();
+/// An opened board's lent lists may hold anything.
+pub fn lent_anything(random: &mut Random) -> Lists {
+    let mut lists = Lists::default();
     if random.chance(50) {
-        let columns = &mut world.columns;
-        columns.channels.fill_with(|| random.next() as u8);
-        columns.properties.fill_with(|| random.next() as u32);
-        columns.cents.fill_with(|| random.next() as i64);
-        columns.statuses.fill_with(|| random.next() as u8);
-        columns.matched.fill_with(|| random.next() as u16);
-        columns.wakers.fill_with(|| random.next() as u16);
-        columns.chords.fill_with(|| random.next() as u8);
-        columns.messages.fill_with(|| random.next() as u16);
-        world.board.fill_with(|| random.next() as u16);
+        lists.board.fill_with(|| random.next() as u16);
+        lists.bytes.fill_with(|| random.next() as u8);
+        lists.links.fill_with(|| random.next() as u16);
+        lists.keys.fill_with(|| random.next() as u32);
+        lists.cents.fill_with(|| random.next() as i64);
     }
-    world
+    lists
 }
 
 /// Every read, with numbers about the counts, and with enough and too little room.
@@ -50,7 +45,7 @@ pub fn compare_reads(pair: &mut Pair, random: &mut Random) -> Checked<()> {
 
 /// Leaves the schedule for a few calls, and comes back.
 pub fn excursion(pair: &mut Pair, random: &mut Random) -> Checked<()> {
-    let (world, theirs, table) = (pair.ours.clone(), pair.theirs.clone(), pair.table.clone());
+    let (lists, theirs, table) = (pair.ours.clone(), pair.theirs.clone(), pair.table.clone());
     match random.below(12) {
         0 => damaged_table(pair, random),
         1 => another_length(pair, random),
@@ -59,13 +54,13 @@ pub fn excursion(pair: &mut Pair, random: &mut Random) -> Checked<()> {
         _ => unreached_board(pair, random),
     }
     .map_err(|difference| format!("away from the schedule: {difference}"))?;
-    (pair.ours, pair.theirs, pair.table) = (world, theirs, table);
+    (pair.ours, pair.theirs, pair.table) = (lists, theirs, table);
     Ok(())
 }
 
 /// A call by the favoured sender, by one with work to do, or by any.
-fn random_call(random: &mut Random, table: &Table, world: &World, favoured: usize) -> Call {
-    let senders = senders(world);
+fn random_call(random: &mut Random, table: &Table, lists: &Lists, favoured: usize) -> Call {
+    let senders = senders(lists);
     let busy: Vec<usize> = (0..senders.len()).filter(|&i| !senders[i].at_rest()).collect();
     let sender = match random.below(10) {
         0..5 => favoured,
@@ -86,10 +81,11 @@ fn random_call(random: &mut Random, table: &Table, world: &World, favoured: usiz
 
 fn damaged_table(pair: &mut Pair, random: &mut Random) -> Checked<()> {
     damage(&mut pair.table, random);
-    let world = pair.ours.clone();
-    pair.set(&world);
+    let lists = pair.ours.clone();
+    pair.set(&lists);
     let opened = pair.open(pair.table.clone())?;
-    pair.set(&world);
+    pair.set(&lists);
+    pair.tally.seen.note(if opened == 0 { "tables accepted" } else { "tables refused" });
     let refused = 17 * 65_536 + u32::from(opened);
     for _ in 0..3 {
         let answer = pair.call(Call::Step { sender: random.below(33) as u16 })?;
@@ -99,66 +95,70 @@ fn damaged_table(pair: &mut Pair, random: &mut Random) -> Checked<()> {
         }
     }
     compare_reads(pair, random)?;
-    pair.replay(&plain(&[Call::Step { sender: 0 }]), 1).map(|_| ())
+    pair.replay(&Rows::of(&[Call::Step { sender: 0 }]), 1).map(|_| ())
 }
 
-/// A replay of any numbers as they come, and one whose columns are not equally long.
+/// A replay of any numbers as they come, and one of whose lists one has another length.
 fn any_replay(pair: &mut Pair, random: &mut Random) -> Checked<()> {
     let table = pair.parsed().ok_or("the table is refused")?;
-    let calls: Vec<Call> = (0..random.below(40)).map(|_| random_call(random, &table, &pair.ours, 1)).collect();
-    let mut list = plain(&calls);
-    for kind in &mut list.kinds {
-        *kind = if random.chance(20) { random.next() as u8 } else { *kind };
+    let count = 1 + random.below(40);
+    let calls: Vec<Call> = (0..count).map(|_| random_call(random, &table, &pair.ours, 1)).collect();
+    let mut rows = Rows::of(&calls);
+    for kind in rows.calls.iter_mut().step_by(3) {
+        *kind = if random.chance(20) { random.next() as u16 } else { *kind };
     }
-    let world = pair.ours.clone();
-    let (number, _) = pair.replay(&list, calls.len())?;
+    let lists = pair.ours.clone();
+    let (number, _) = pair.replay(&rows, count)?;
     if number != 0 {
         return Err(format!("a replay of any numbers answered {number}"));
     }
-    pair.set(&world);
-    let uneven = uneven(&list, random);
-    let (number, _) = pair.replay(&uneven, calls.len() + 1)?;
-    if number == 30 { Ok(()) } else { Err(format!("a replay of uneven columns answered {number}")) }
-}
-
-fn uneven(list: &Plain, random: &mut Random) -> Plain {
-    let mut list = list.clone();
-    match random.below(5) {
-        0 => list.kinds.push(0),
-        1 => list.callers.push(0),
-        2 => list.targets.push(0),
-        3 => list.numbers.push(0),
-        _ => list.amounts.push(0),
+    pair.set(&lists);
+    let (list, length) = (random.below(ROWS.len()), random.below(LENGTHS.len()));
+    match list {
+        0 => resize(&mut rows.calls, length),
+        1 => resize(&mut rows.numbers, length),
+        _ => resize(&mut rows.amounts, length),
     }
-    list
+    pair.tally.seen.note(format!("{} {}", ROWS[list], LENGTHS[length]));
+    let (number, _) = pair.replay(&rows, random.pick(&[0, count - 1, count + 1]))?;
+    if number == 30 { Ok(()) } else { Err(format!("a replay of uneven rows answered {number}")) }
 }
 
-/// One of the lent lists, or the board, one longer or shorter.
+/// One of the lent lists of another length.
 fn another_length(pair: &mut Pair, random: &mut Random) -> Checked<()> {
-    let mut world = pair.ours.clone();
-    let longer = random.chance(50);
-    let columns = &mut world.columns;
-    match random.below(9) {
-        0 => resize(&mut columns.channels, longer),
-        1 => resize(&mut columns.properties, longer),
-        2 => resize(&mut columns.cents, longer),
-        3 => resize(&mut columns.statuses, longer),
-        4 => resize(&mut columns.matched, longer),
-        5 => resize(&mut columns.wakers, longer),
-        6 => resize(&mut columns.chords, longer),
-        7 => resize(&mut columns.messages, longer),
-        _ => resize(&mut world.board, longer),
+    let mut lists = pair.ours.clone();
+    let (list, length) = (random.below(LISTS.len()), random.below(LENGTHS.len()));
+    match list {
+        0 => resize(&mut lists.board, length),
+        1 => resize(&mut lists.bytes, length),
+        2 => resize(&mut lists.links, length),
+        3 => resize(&mut lists.keys, length),
+        _ => resize(&mut lists.cents, length),
     }
-    pair.set(&world);
+    let what = format!("{} {}", LISTS[list], LENGTHS[length]);
+    pair.set(&lists);
+    expect_refused(pair).map_err(|difference| format!("{what}: {difference}"))?;
+    pair.tally.seen.note(&what);
+    let (opened, expected) = (pair.open(pair.table.clone())?, if list == 0 { 30 } else { 0 });
+    if opened == expected { Ok(()) } else { Err(format!("{what}: open answered {opened}")) }
+}
+
+fn resize<T: Clone + Default>(list: &mut Vec<T>, length: usize) {
+    list.resize([list.len() + 1, list.len() - 1, 0][length], T::default());
+}
+
+/// Every call is refused 30 before anything else that is wrong with it.
+fn expect_refused(pair: &mut Pair) -> Checked<()> {
     expect_no_board(pair, Call::Step { sender: 0 })?;
     expect_no_board(pair, Call::Add { sender: 40, channel: 99, property: 0, cents: i64::MAX })?;
-    let (number, _) = pair.read(Read::Quiet, 1)?;
-    let (again, _) = pair.replay(&plain(&[]), 0)?;
-    if (number, again) == (30, 30) { Ok(()) } else { Err(format!("lists of another length: {number}, {again}")) }
+    for read in [Read::Message(u16::MAX), Read::Match(u16::MAX), Read::Reply(u16::MAX), Read::Quiet] {
+        expect_number(pair.read(read, 0)?.0)?;
+    }
+    expect_number(pair.replay(&Rows::of(&[]), 0)?.0)
 }
 
-fn resize<T: Clone + Default>(list: &mut Vec<T>, longer: bool) {
-    list.resize(if longer { list.len() + 1 } else { list.len() - 1 }, T::default());
+fn expect_number(number: u8) -> Checked<()> {
+    if number == 30 { Ok(()) } else { Err(format!("answered {number}")) }
 }
 
 fn expect_no_board(pair: &mut Pair, call: Call) -> Checked<()> {
@@ -169,52 +169,57 @@ fn expect_no_board(pair: &mut Pair, call: Call) -> Checked<()> {
 
 /// One number anywhere changed to any value.
 fn one_number_changed(pair: &mut Pair, random: &mut Random) -> Checked<()> {
-    let mut world = pair.ours.clone();
-    let what = changes::change_any(&mut world, random);
-    let sender = random.below(32);
-    play_on(pair, random, &world, sender, 3).map_err(|difference| format!("{what}: {difference}"))
+    let mut lists = pair.ours.clone();
+    let (part, what) = changes::change_any(&mut lists, random);
+    let (part, sender) = (PARTS[part], random.below(32));
+    let played = play_on(pair, random, &lists, sender, 3);
+    let sound = played.map_err(|difference| format!("{part} {what}: {difference}"))?;
+    pair.tally.seen.note(format!("{part} {}", if sound { "accepted" } else { "refused" }));
+    Ok(())
 }
 
 /// Calls on a board as given, most of them by one sender. The reference says whether it is sound.
-fn play_on(pair: &mut Pair, random: &mut Random, world: &World, sender: usize, most: usize) -> Checked<()> {
+fn play_on(pair: &mut Pair, random: &mut Random, lists: &Lists, sender: usize, most: usize) -> Checked<bool> {
     let table = pair.parsed().ok_or("the table is refused")?;
     let mut judge = Reference::default();
-    pair.set(world);
-    if !judge.is_sound(&pair.table, world) {
+    pair.set(lists);
+    let verdict = judge.verdict(&table, lists);
+    if verdict != Verdict::Sound {
+        let no_board = verdict == Verdict::NoBoard;
+        pair.tally.seen.note(if no_board { "numbers of no board" } else { "numbers of no sound board" });
         expect_no_board(pair, random_call(random, &table, &pair.ours, sender))?;
-        let (number, _) = pair.read(Read::Quiet, 1)?;
-        return if number == 30 { Ok(()) } else { Err(format!("quiet on no sound board is {number}")) };
+        return expect_number(pair.read(Read::Quiet, 1)?.0).map(|()| false);
     }
     for _ in 0..most {
         pair.call(random_call(random, &table, &pair.ours, sender))?;
         pair.tally.unreached += 1;
-        if !judge.is_sound(&pair.table, &pair.ours) {
+        if judge.verdict(&table, &pair.ours) != Verdict::Sound {
             return Err("a call left a sound board unsound".to_string());
         }
     }
-    compare_reads(pair, random)
+    compare_reads(pair, random).map(|()| true)
 }
 
 /// Some numbers of one sender and of the messages changed to likely values.
 fn unreached_board(pair: &mut Pair, random: &mut Random) -> Checked<()> {
     let table = pair.parsed().ok_or("the table is refused")?;
-    let mut world = pair.ours.clone();
-    if random.chance(15) && table.chord_count > 0 && world.board[0] > 0 {
-        changes::many_matches(&mut world, random, &table);
+    let mut lists = pair.ours.clone();
+    if random.chance(15) && table.chord_count > 0 && lists.board[0] > 0 {
+        changes::many_matches(&mut lists, random, &table);
     }
     let sender = random.below(32);
-    if random.chance(40) && table.chord_count > 0 && world.board[0] > 0 {
-        changes::put_job(&mut world, random, &table, sender);
+    if random.chance(40) && table.chord_count > 0 && lists.board[0] > 0 {
+        changes::put_job(&mut lists, random, &table, sender);
     }
     for _ in 0..random.below(4) {
         if random.chance(65) {
-            changes::change_sender(&mut world, random, &table, sender);
+            changes::change_sender(&mut lists, random, &table, sender);
         } else {
-            changes::change_message(&mut world, random, &table);
+            changes::change_message(&mut lists, random, &table);
         }
     }
-    let numbers = world.board[2 + SENDER_NUMBERS * sender..][..SENDER_NUMBERS].to_vec();
+    let numbers = lists.board[2 + SENDER_NUMBERS * sender..][..SENDER_NUMBERS].to_vec();
     let most = 2 + random.below(14);
-    play_on(pair, random, &world, sender, most)
-        .map_err(|difference| format!("sender {sender} with numbers {numbers:?}: {difference}"))
+    let played = play_on(pair, random, &lists, sender, most);
+    played.map(|_| ()).map_err(|difference| format!("sender {sender} with numbers {numbers:?}: {difference}"))
 }

@@ -1,6 +1,6 @@
 //! How fast the reference is: rendezvous pairs replayed, full public steps, and the soundness test of a full board.
 
-use reference::{Answer, Board, Call, Replay, Table, calls};
+use reference::{Answer, Board, Call, Rows, Table, calls};
 use std::hint::black_box;
 use std::time::Instant;
 
@@ -40,24 +40,11 @@ fn nanoseconds(count: u32, mut run: impl FnMut()) -> f64 {
 fn main() {
     let table = Table::read(&RENDEZVOUS).unwrap();
     let list = rendezvous();
-    let (mut kinds, mut callers, mut targets) = (Vec::new(), Vec::new(), Vec::new());
-    let (mut numbers, mut amounts, mut answers) = (Vec::new(), Vec::new(), vec![0; list.len()]);
-    for call in &list {
-        let (kind, caller, target, number, amount) = match *call {
-            Call::Add { sender, channel, property, cents } => (1, sender, channel, property, cents),
-            Call::Step { sender } => (0, sender, 0, 0, 0),
-        };
-        kinds.push(kind);
-        callers.push(caller);
-        targets.push(target);
-        numbers.push(number);
-        amounts.push(amount);
-    }
-    let calls = Replay { kinds: &kinds, callers: &callers, targets: &targets, numbers: &numbers, amounts: &amounts };
+    let (rows, mut answers) = (Rows::of(&list), vec![0; list.len()]);
     let mut board = Board::default();
     let replay = nanoseconds(200, || {
         (board.messages, board.matches, board.senders) = Default::default();
-        calls::replay(&RENDEZVOUS, &mut board, black_box(calls), &mut answers).unwrap();
+        calls::replay(&RENDEZVOUS, &mut board, black_box(&rows), &mut answers).unwrap();
         black_box(&answers);
     });
     let (pairs, count) = (f64::from(PAIRS), list.len());

@@ -28,14 +28,13 @@ pub enum Call {
     Step { sender: u16 },
 }
 
-/// The calls of a replay in columns, as the host interface has them; a kind of 0 is a step, any other an add.
-#[derive(Clone, Copy)]
-pub struct Replay<'a> {
-    pub kinds: &'a [u8],
-    pub callers: &'a [u16],
-    pub targets: &'a [u16],
-    pub numbers: &'a [u32],
-    pub amounts: &'a [i64],
+/// The calls of a replay in rows, as the host interface has them. Of `calls` the kind, the sender and the channel; a kind
+/// of 0 is a step, any other an add.
+#[derive(Clone, Debug, Default)]
+pub struct Rows {
+    pub calls: Vec<u16>,
+    pub numbers: Vec<u32>,
+    pub amounts: Vec<i64>,
 }
 
 /// The table, if it is accepted and the board sound.
@@ -85,27 +84,53 @@ pub fn quiet(table: &[u8], board: &Board) -> Result<bool, Refusal> {
 }
 
 /// Plays the calls in order and writes each answer as a number.
-pub fn replay(table: &[u8], board: &mut Board, calls: Replay, answers: &mut [u32]) -> Result<(), Refusal> {
+pub fn replay(table: &[u8], board: &mut Board, rows: &Rows, answers: &mut [u32]) -> Result<(), Refusal> {
     let table = judged(table, board)?;
-    let count = calls.kinds.len();
-    let lengths = [calls.callers.len(), calls.targets.len(), calls.numbers.len(), calls.amounts.len()];
-    if lengths.iter().any(|&length| length != count) {
+    let count = rows.len();
+    if rows.calls.len() != 3 * count || rows.numbers.len() != count {
         return Err(30);
     }
     if answers.len() < count {
         return Err(31);
     }
     for (at, answer) in answers[..count].iter_mut().enumerate() {
-        *answer = board.core_call(&table, calls.at(at)).number();
+        *answer = board.core_call(&table, rows.at(at)).number();
     }
     Ok(())
 }
 
-impl Replay<'_> {
+impl Rows {
+    pub fn of(calls: &[Call]) -> Rows {
+        let mut rows = Rows::default();
+        calls.iter().for_each(|&call| rows.push(call));
+        rows
+    }
+
+    pub fn push(&mut self, call: Call) {
+        let (row, number, amount) = match call {
+            Call::Add { sender, channel, property, cents } => ([1, sender, channel], property, cents),
+            Call::Step { sender } => ([0, sender, 0], 0, 0),
+        };
+        self.calls.extend(row);
+        self.numbers.push(number);
+        self.amounts.push(amount);
+    }
+
+    /// How many calls.
+    pub fn len(&self) -> usize {
+        self.amounts.len()
+    }
+
+    pub fn is_empty(&self) -> bool {
+        self.amounts.is_empty()
+    }
+
     fn at(&self, at: usize) -> Call {
-        let (sender, channel, property, cents) =
-            (self.callers[at], self.targets[at], self.numbers[at], self.amounts[at]);
-        if self.kinds[at] == 0 { Call::Step { sender } } else { Call::Add { sender, channel, property, cents } }
+        let (sender, channel) = (self.calls[3 * at + 1], self.calls[3 * at + 2]);
+        match self.calls[3 * at] {
+            0 => Call::Step { sender },
+            _ => Call::Add { sender, channel, property: self.numbers[at], cents: self.amounts[at] },
+        }
     }
 }
 

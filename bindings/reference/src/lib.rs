@@ -9,6 +9,7 @@
 pub mod answer;
 pub mod board;
 pub mod calls;
+pub mod lists;
 pub mod look;
 pub mod merge;
 pub mod numbers;
@@ -18,7 +19,8 @@ pub mod table;
 
 pub use answer::{Answer, Refusal};
 pub use board::{Board, Columns, Phase, Sender, State};
-pub use calls::{Call, Match, Message, Replay};
+pub use calls::{Call, Match, Message, Rows};
+pub use lists::Lists;
 pub use numbers::{NUMBERS, SENDER_NUMBERS};
 pub use table::{Chord, Table};
 

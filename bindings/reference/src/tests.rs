@@ -1,9 +1,9 @@
-//! 01's printed run of table P, its edge items, and the numbers of a board.
+//! 01's printed run of table P, its edge items, and the numbers and lists of a board.
 
 use crate::board::{CLAIMED, MESSAGES, WOKEN};
-use crate::calls::{add, match_, open, quiet, reply, step};
+use crate::calls::{add, match_, open, quiet, replay, reply, step};
 use crate::table::table_refusal;
-use crate::{Answer, Board};
+use crate::{Answer, Board, Call, Columns, Lists, Rows};
 
 const P: &[u8] = &[2, 0, 1, 0, 2, 0, 12, 0, 14, 0, 18, 0, 0, 1, 0, 0, 2, 1, 0, 1];
 /// One leave channel, named twice by one chord.
@@ -112,6 +112,59 @@ fn numbers_and_back() {
     let mut numbers = board.to_numbers();
     numbers[2] = 3;
     assert_eq!(Board::from_numbers(&numbers, board.columns.clone()), None);
+}
+
+#[test]
+fn lists_and_back() {
+    let mut board = open(P).unwrap();
+    add(P, &mut board, 0, 1, 7, 0);
+    steps(P, &mut board, 0, 2);
+    add(P, &mut board, 1, 0, 7, 5000);
+    for _ in 0..16 {
+        assert_eq!(Lists::of(&board).held(Columns::default()), Some(board.clone()));
+        let sender = board.first_busy().unwrap_or(0);
+        step(P, &mut board, sender);
+    }
+    let lists = Lists::of(&board);
+    assert_eq!(
+        (lists.bytes[..2].to_vec(), lists.bytes[1024..1026].to_vec(), lists.bytes[2048]),
+        (vec![1, 0], vec![3, 3], 0)
+    );
+    assert_eq!((lists.links[..2].to_vec(), lists.links[1024..1026].to_vec()), (vec![1, 1], vec![2, 0]));
+    assert_eq!(
+        (lists.links[2048..2050].to_vec(), &lists.keys[..2], &lists.cents[..2]),
+        (vec![1, 0], &[7, 7][..], &[0, 5000][..])
+    );
+    for list in 0..5 {
+        let mut other = lists.clone();
+        match list {
+            0 => other.board.push(0),
+            1 => other.bytes.truncate(3071),
+            2 => other.links.clear(),
+            3 => other.keys.push(0),
+            _ => other.cents.truncate(1),
+        }
+        assert_eq!(other.held(Columns::default()), None);
+    }
+}
+
+#[test]
+fn replays() {
+    let calls = [Call::Add { sender: 0, channel: 1, property: 7, cents: -5 }, Call::Step { sender: 0 }];
+    let (mut board, mut answers) = (open(P).unwrap(), [9; 3]);
+    let mut rows = Rows::of(&calls);
+    assert_eq!((rows.calls.clone(), rows.numbers.clone()), (vec![1, 0, 1, 0, 0, 0], vec![7, 0]));
+    assert_eq!(replay(P, &mut board, &rows, &mut answers[..1]), Err(31));
+    assert_eq!((board.messages, answers), (0, [9; 3]));
+    rows.calls[0] = 65_535;
+    assert_eq!(replay(P, &mut board, &rows, &mut answers), Ok(()));
+    assert_eq!((answers, board.columns.cents[0]), ([0, 2 << 16, 9], -5));
+    rows.numbers.push(0);
+    assert_eq!(replay(P, &mut board, &rows, &mut []), Err(30));
+    rows.amounts.push(0);
+    assert_eq!(replay(P, &mut board, &rows, &mut []), Err(30));
+    rows.calls.extend([0; 3]);
+    assert_eq!(replay(P, &mut board, &rows, &mut []), Err(31));
 }
 
 #[test]

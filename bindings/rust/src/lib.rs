@@ -10,7 +10,7 @@ mod refusal;
 pub use answer::Answer;
 pub use refusal::Refusal;
 
-use host::Columns;
+use host::Lists;
 
 /// A message's status.
 #[derive(Clone, Copy, Debug, PartialEq, Eq)]
@@ -50,32 +50,30 @@ pub enum Call {
 #[derive(Clone, Debug)]
 pub struct Matcher {
     table: Vec<u8>,
-    board: Vec<u16>,
-    columns: Columns,
+    lists: Lists,
 }
 
 impl Matcher {
     /// An empty board for that table, or what is wrong with the table.
     pub fn open(table: impl Into<Vec<u8>>) -> Result<Matcher, Refusal> {
-        let (table, mut board) = (table.into(), vec![0; host::BOARD_NUMBERS]);
-        refused(host::open(&table, &mut board))?;
-        Ok(Matcher { table, board, columns: Columns::default() })
+        let (table, mut lists) = (table.into(), Lists::default());
+        refused(host::open(&table, &mut lists.board))?;
+        Ok(Matcher { table, lists })
     }
 
     /// Adds a message of an idle sender; it answers [`Answer::Item`].
     pub fn add(&mut self, sender: u16, channel: u16, property: u32, cents: i64) -> Result<Answer, Refusal> {
-        let number = host::add(&self.table, &mut self.board, &mut self.columns, sender, channel, property, cents);
-        Answer::from_number(number)
+        Answer::from_number(host::add(&self.table, &mut self.lists, sender, channel, property, cents))
     }
 
     /// One step of a sender.
     pub fn step(&mut self, sender: u16) -> Result<Answer, Refusal> {
-        Answer::from_number(host::step(&self.table, &mut self.board, &mut self.columns, sender))
+        Answer::from_number(host::step(&self.table, &mut self.lists, sender))
     }
 
     pub fn message(&self, number: u16) -> Result<Message, Refusal> {
         let mut out = [0; 6];
-        refused(host::read_message(&self.table, &self.board, &self.columns, number, &mut out))?;
+        refused(host::read_message(&self.table, &self.lists, number, &mut out))?;
         let statuses = [Status::Pending, Status::Claimed, Status::Woken, Status::Consumed];
         Ok(Message {
             channel: out[0] as u8,
@@ -89,7 +87,7 @@ impl Matcher {
 
     pub fn match_(&self, number: u16) -> Result<Match, Refusal> {
         let mut out = [0; 11];
-        refused(host::read_match(&self.table, &self.board, &self.columns, number, &mut out))?;
+        refused(host::read_match(&self.table, &self.lists, number, &mut out))?;
         let messages = out[3..][..out[1] as usize].iter().map(|&message| message as u16).collect();
         Ok(Match { chord: out[0] as u8, cents: out[2], messages })
     }
@@ -97,35 +95,32 @@ impl Matcher {
     /// The match on the sender's slip.
     pub fn reply(&self, sender: u16) -> Result<Option<u16>, Refusal> {
         let mut out = [0];
-        refused(host::read_reply(&self.table, &self.board, &self.columns, sender, &mut out))?;
+        refused(host::read_reply(&self.table, &self.lists, sender, &mut out))?;
         Ok(held(out[0]))
     }
 
     /// Whether every sender is idle, or blocked without a signal.
     pub fn quiet(&self) -> Result<bool, Refusal> {
         let mut out = [0];
-        refused(host::quiet(&self.table, &self.board, &self.columns, &mut out))?;
+        refused(host::quiet(&self.table, &self.lists, &mut out))?;
         Ok(out[0] != 0)
     }
 
     /// Plays the calls in order, with the tests of the board made once.
     pub fn replay(&mut self, calls: &[Call]) -> Result<Vec<Result<Answer, Refusal>>, Refusal> {
-        let plain: Vec<_> = calls.iter().map(|call| call.numbers()).collect();
-        let kinds: Vec<u8> = plain.iter().map(|call| call.0).collect();
-        let callers: Vec<u16> = plain.iter().map(|call| call.1).collect();
-        let targets: Vec<u16> = plain.iter().map(|call| call.2).collect();
-        let numbers: Vec<u32> = plain.iter().map(|call| call.3).collect();
-        let amounts: Vec<i64> = plain.iter().map(|call| call.4).collect();
-        let calls =
-            host::Replay { kinds: &kinds, callers: &callers, targets: &targets, numbers: &numbers, amounts: &amounts };
-        let mut answers = vec![0; kinds.len()];
-        refused(host::replay(&self.table, &mut self.board, calls, &mut answers, &mut self.columns))?;
+        let rows: Vec<_> = calls.iter().map(|call| call.row()).collect();
+        let calls: Vec<u16> = rows.iter().flat_map(|row| row.0).collect();
+        let numbers: Vec<u32> = rows.iter().map(|row| row.1).collect();
+        let amounts: Vec<i64> = rows.iter().map(|row| row.2).collect();
+        let calls = host::Replay { calls: &calls, numbers: &numbers, amounts: &amounts };
+        let mut answers = vec![0; rows.len()];
+        refused(host::replay(&self.table, &mut self.lists, calls, &mut answers))?;
         Ok(answers.into_iter().map(Answer::from_number).collect())
     }
 
     /// How many messages and matches there are; they are numbered from 0.
     pub fn counts(&self) -> (u16, u16) {
-        (self.board[0], self.board[1])
+        (self.lists.board[0], self.lists.board[1])
     }
 }
 
@@ -169,10 +164,11 @@ fn table_len(table: &[u8]) -> usize {
 }
 
 impl Call {
-    fn numbers(self) -> (u8, u16, u16, u32, i64) {
+    /// Kind, sender and channel; property; cents.
+    fn row(self) -> ([u16; 3], u32, i64) {
         match self {
-            Call::Add { sender, channel, property, cents } => (host::ADD, sender, channel, property, cents),
-            Call::Step { sender } => (host::STEP, sender, 0, 0, 0),
+            Call::Add { sender, channel, property, cents } => ([host::ADD, sender, channel], property, cents),
+            Call::Step { sender } => ([host::STEP, sender, 0], 0, 0),
         }
     }
 }

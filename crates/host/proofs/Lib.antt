@@ -1,7 +1,3 @@
--- Laws of the host calls.
-pub mod PlayLaws
+-- Laws of the reads of a host.
 pub mod ReadLaws
-pub mod FlatReads
-pub mod SenderRows
-pub mod Chains
-pub mod HostCalls
+pub mod Ways

@@ -8,11 +8,10 @@ use lib.ListN.{length, length-map, getD, set, drop, replicate, take-append-drop,
 use lib.Seq.{sets-eq, paste, paste-suc, take-all, length-take-le}
 use mir.Syntax.{w64}
 use mir.Val.{toZ, ofZ}
-use mir.ValLaws.{toZ-ofZ}
+use mir.ValLaws.{toZ-ofZ, toZ-pos}
 use native.Mathlib.Numerals.{add-one}
 use native.Mathlib.Omega.{arith}
 use Rattle.columns.specs.Columns.{statusOf}
-use Rattle.lines.proofs.Reading.{to-pos}
 use Rattle.reads.specs.declared.MessageRead as DM
 use Rattle.reads.specs.declared.MatchRead as DR
 use Rattle.reads.specs.Reads.{messageOf, readOf}
@@ -26,7 +25,10 @@ status-back (suc (suc zero)) h = refl
 status-back (suc (suc (suc zero))) h = refl
 status-back (suc (suc (suc (suc x)))) h = absurd (omega arith)
 
--- cents as the machine holds them
+-- a number, and cents, as the machine holds them
+pub number-back : (n : ℕ) → n < 9223372036854775808 → toZ w64 n ≡ pos n
+number-back n h = toZ-pos w64 n h
+
 cents-back : (z : ℤ) → mag z < 9223372036854775808 → toZ w64 (ofZ w64 z) ≡ z
 cents-back z h = toZ-ofZ w64 z (record { sfits = h })
 
@@ -44,12 +46,12 @@ module _ (m : DM.MessageRead) (s : m .status ≤ 3) where
   message-put out h channel property cents matched waker =
       rw (
         message-spelled,
-        to-pos (m .channel) (omega arith),
-        to-pos (m .property) (omega arith),
+        number-back (m .channel) (omega arith),
+        number-back (m .property) (omega arith),
         cents-back (m .cents) cents,
-        to-pos (m .status) (omega arith),
-        to-pos (m .matched) (omega arith),
-        to-pos (m .waker) (omega arith),
+        number-back (m .status) (omega arith),
+        number-back (m .matched) (omega arith),
+        number-back (m .waker) (omega arith),
       )
       (sets-eq (pos (m .channel) ∷ pos (m .property) ∷ m .cents ∷ pos (m .status) ∷ pos (m .matched) ∷
       pos (m .waker) ∷ []) out 0 h)
@@ -63,7 +65,7 @@ pub eight-next : (out : List ℤ) (ms : List ℕ) (i : ℕ) → 11 ≤ length ou
     → set (paste out 3 (map pos ms) i) (3 + i) (toZ w64 (getD ms i 0)) ≡ paste out 3 (map pos ms) (i + 1)
 eight-next out ms i h l k f =
     let n : length (map pos ms) ≡ 8 = length-map ms pos ∙ l in
-    rw (to-pos (getD ms i 0) (omega arith), add-one i, ← List·getD-map pos ms i 0)
+    rw (number-back (getD ms i 0) (omega arith), add-one i, ← List·getD-map pos ms i 0)
     (paste-suc out 3 (map pos ms) i (pos 0) (omega arith) (omega (arith, n)))
 
 three-put : (out xs : List ℤ) (a b c : ℤ) → 11 ≤ length out → length xs ≡ 8
@@ -87,5 +89,10 @@ module _ (m : DR.MatchRead) (l : length (m .messages) ≡ 8) (k : m .len ≤ 8)
       2 (toZ w64 (ofZ w64 (m .cents)))
       ≡ stored (matchNumbers (readOf m)) out
   match-put out h chord cents =
-      rw (match-spelled, to-pos (m .chord) (omega arith), to-pos (m .len) (omega arith), cents-back (m .cents) cents)
+      rw (
+        match-spelled,
+        number-back (m .chord) (omega arith),
+        number-back (m .len) (omega arith),
+        cents-back (m .cents) cents,
+      )
       (three-put out (map pos (m .messages)) _ _ _ h (length-map (m .messages) pos ∙ l))

@@ -1,5 +1,3 @@
--- The calls of a host that holds the board as plain numbers.
-pub mod Lent
-pub mod Plays
+-- The calls of a host in another language.
+pub mod Answers
 pub mod Reads
-pub mod Schedules

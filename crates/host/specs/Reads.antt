@@ -1,7 +1,4 @@
--- Reads of the board that the numbers are.
-use mathlib.Core.Path.{_≡_}
-use mathlib.Core.Bool.{true, false}
-use mathlib.Core.Logic.{_≢_}
+-- Reads, given as numbers in a lent slice.
 use mathlib.Core.List.{List, [], _∷_, _++_, map}
 use Prim.Native.Nat.{ℕ}
 use lib.Dec.{leb}
@@ -11,15 +8,10 @@ use Rattle.model.specs.Basics.{unless, firstOf}
 use Rattle.model.specs.Layout.{flag}
 use Rattle.model.specs.Boards.{Status, pending, claimed, woken, consumed, Message}
 use Rattle.model.specs.Pools.{MatchRead}
-use Rattle.columns.specs.Columns.{Columns}
-use Rattle.columns.specs.MatchColumns.{MatchColumns}
-use Rattle.boards.specs.declared.Board as DB
-use Rattle.refusals.specs.Judged.{boardRefusal}
-use Rattle.reading.specs.Answers.{quietAnswer, replyNumber, replyAnswer, messageNumber, messageAnswer}
-use Rattle.reading.specs.Answers.{matchNumber, matchAnswer}
-use Rattle.rows.specs.Flat.{flatOk}
-use Rattle.rows.specs.Decoded.{boardFrom}
-use Rattle.host.specs.Lent.{Lent, noBoard}
+use Rattle.boards.specs.Calls.{Held}
+use Rattle.refusals.specs.Calls.{refusalOf}
+use Rattle.calls.specs.Reads.{answered, quietAnswer, replyNumber, replyAnswer, messageNumber, messageAnswer}
+use Rattle.calls.specs.Reads.{matchNumber, matchAnswer}
 
 abbrev pub statusNumber : Status → ℕ
 statusNumber pending = 0
@@ -44,48 +36,46 @@ abbrev pub stored : List ℤ → List ℤ → List ℤ
 stored numbers out = numbers ++ drop (length numbers) out
 
 -- a read: its refusal, how many numbers it gives, and which
-pub record Read : Type 0 where
-  pub number : List ℕ → DB.Board → Columns → MatchColumns → ℕ
+pub record Reading : Type 0 where
+  pub number : List ℕ → Held → ℕ
   pub size : ℕ
-  pub numbers : List ℕ → DB.Board → Columns → MatchColumns → List ℤ
+  pub numbers : List ℕ → Held → List ℤ
 
-abbrev pub ofMessage : ℕ → Read
+abbrev pub ofMessage : ℕ → Reading
 ofMessage n = record {
-  number = λ s b c m. messageNumber s b c m n;
+  number = λ s h. messageNumber s h n;
   size = 6;
-  numbers = λ s b c m. messageNumbers (messageAnswer s b c m n);
+  numbers = λ s h. messageNumbers (messageAnswer s h n);
 }
 
-abbrev pub ofMatch : ℕ → Read
+abbrev pub ofMatch : ℕ → Reading
 ofMatch k = record {
-  number = λ s b c m. matchNumber s b c m k;
+  number = λ s h. matchNumber s h k;
   size = 11;
-  numbers = λ s b c m. matchNumbers (matchAnswer s b c m k);
+  numbers = λ s h. matchNumbers (matchAnswer s h k);
 }
 
 -- the match plus 1, 0 for none
-abbrev pub ofReply : ℕ → Read
+abbrev pub ofReply : ℕ → Reading
 ofReply i = record {
-  number = λ s b c m. replyNumber s b c m i;
+  number = λ s h. replyNumber s h i;
   size = 1;
-  numbers = λ s b c m. pos (replyAnswer s b c m i) ∷ [];
+  numbers = λ s h. pos (replyAnswer s h i) ∷ [];
 }
 
 -- 1 for quiet
-abbrev pub ofQuiet : Read
+abbrev pub ofQuiet : Reading
 ofQuiet = record {
-  number = boardRefusal;
+  number = refusalOf;
   size = 1;
-  numbers = λ s b c m. pos (flag (quietAnswer s b c m)) ∷ [];
+  numbers = λ s h. pos (flag (quietAnswer s h)) ∷ [];
 }
 
--- a read of h answers n, and turns the lent slice from before to after: the table's refusal, then 30 for no board, then
--- the read's own, then 31 for a slice that is too short
-pub record Flat-reads (s : List ℕ) (h : Lent) (q : Read) (n : ℕ) (before after : List ℤ) : Type 0 where
-  pub no-board : flatOk (h .flat) ≡ false → n ≡ noBoard s
-  pub on-board : flatOk (h .flat) ≡ true
-      → n
-      ≡ firstOf (q .number s (boardFrom (h .flat)) (h .columns) (h .matches))
-      (unless (leb (q .size) (length before)) 31 0)
-  pub keeps : n ≢ 0 → after ≡ before
-  pub gives : n ≡ 0 → after ≡ stored (q .numbers s (boardFrom (h .flat)) (h .columns) (h .matches)) before
+module _ (s : List ℕ) (h : Held) (q : Reading) (before : List ℤ) where
+  -- the read's own refusal, then 31 for a slice that is too short
+  unfoldable pub readNumber : ℕ
+  readNumber = firstOf (q .number s h) (unless (leb (q .size) (length before)) 31 0)
+
+  -- the lent slice afterwards
+  unfoldable pub readAfter : List ℤ
+  readAfter = answered readNumber (stored (q .numbers s h) before) before

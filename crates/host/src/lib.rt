@@ -1,4 +1,4 @@
-// The calls of a host in another language, on any bytes and numbers: the board comes and goes as plain numbers.
+// The calls of a host in another language: the lists that it lends, any bytes and numbers, and plain numbers back.
 ghost use mathlib.Core.Path.{_≡_};
 ghost use mathlib.Core.List.{[], _∷_, map};
 ghost use Prim.Native.Nat.{_≤_};
@@ -6,23 +6,21 @@ ghost use lib.IntN.{pos};
 ghost use lib.ListN.{length, drop, replicate};
 ghost use lib.Seq.{paste};
 ghost use Rattle.model.specs.Layout.{tableRefusal};
-ghost use Rattle.model.specs.Pools.{adds, steps, quiet};
-ghost use Rattle.model.specs.Tables.{Table};
+ghost use Rattle.model.specs.Pools.{adds, steps};
 ghost use Rattle.merging.specs.Merges.{mergeWriteRefusal, mergeWritten};
+ghost use Rattle.boards.specs.Layout.{lists};
+ghost use Rattle.refusals.specs.Held.{heldIn};
 ghost use Rattle.adds.specs.Sends.{sent};
 ghost use Rattle.reads.specs.Reads.{messageOf, readOf};
-ghost use Rattle.columns.specs.Columns.{Columns};
-ghost use Rattle.columns.specs.MatchColumns.{MatchColumns};
-ghost use Rattle.boards.specs.Boards.{boardIn};
-ghost use Rattle.rows.specs.Decoded.{boardFrom};
-ghost use Rattle.replaying.specs.Replays.{callColumns};
-ghost use Rattle.host.specs.Lent.{lent};
-ghost use Rattle.host.specs.Plays.{oneCall, Flat-opens, Flat-plays, Flat-replays};
+ghost use Rattle.plays.specs.Replays.{callRows};
+ghost use Rattle.calls.specs.Opens.{openNumber, openedNumbers};
+ghost use Rattle.calls.specs.Calls.{Replays-in};
+ghost use Rattle.host.specs.Answers.{Answers};
 ghost use Rattle.host.specs.Reads.{messageNumbers, matchNumbers, stored, ofMessage, ofMatch, ofReply, ofQuiet};
-ghost use Rattle.host.specs.Reads.{Flat-reads};
+ghost use Rattle.host.specs.Reads.{readNumber, readAfter};
+use boards::Sent;
 use reads::MatchRead;
 use reads::MessageRead;
-use state::Said;
 
 // The number that refuses a table, 0 for none.
 #[no_mangle]
@@ -46,83 +44,10 @@ pub extern "C" fn gv_merge_tables(first: &[u8], second: &[u8], map: &[u8], out: 
 // Opens an empty board.
 #[no_mangle]
 pub extern "C" fn gv_open(table: &[u8], board: &mut [u16]) -> u8
-    ensures { λ r. ⌜ Flat-opens (now (table .entry)) (now (board .entry)) r (now (board .exit)) ⌝ }
+    ensures { λ r. ⌜ r ≡ openNumber (now (table .entry)) (now (board .entry)) ⌝ }
+    ensures { λ _. ⌜ now (board .exit) ≡ openedNumbers (now (table .entry)) (now (board .entry)) ⌝ }
 {
-    let opened = adding::open_board(table);
-    let number = opened.number;
-    if number != 0 {
-        return number;
-    }
-    if board.len() != 674 {
-        return 30;
-    }
-    let empty = opened.board;
-    rows::put_board(empty, board);
-    0
-}
-
-// One call, which stands in its columns, on any numbers: refused, or played.
-fn one_call(
-    table: &[u8],
-    board: &mut [u16],
-    kind: u8,
-    sender: u16,
-    channel: u16,
-    property: u32,
-    amount: i64,
-    channels: &mut [u8],
-    properties: &mut [u32],
-    cents: &mut [i64],
-    statuses: &mut [u8],
-    matched: &mut [u16],
-    wakers: &mut [u16],
-    chords: &mut [u8],
-    messages: &mut [u16],
-) -> u32
-    ensures { λ r. ⌜ Flat-plays (now (table .entry))
-        (lent (now (board .entry)) (now (channels .entry)) (now (properties .entry)) (now (cents .entry))
-        (now (statuses .entry)) (now (matched .entry)) (now (wakers .entry)) (now (chords .entry))
-        (now (messages .entry)))
-        (oneCall kind sender channel property amount) r
-        (lent (now (board .exit)) (now (channels .exit)) (now (properties .exit)) (now (cents .exit))
-        (now (statuses .exit)) (now (matched .exit)) (now (wakers .exit)) (now (chords .exit))
-        (now (messages .exit))) ⌝ }
-{
-    let number = flat_judges::flat_refusal(
-        table,
-        board,
-        channels,
-        properties,
-        cents,
-        statuses,
-        matched,
-        wakers,
-        chords,
-        messages,
-    );
-    if number != 0 {
-        return replaying::answer_number(Said::Refused(number));
-    }
-    let mut answers = [0u32; 1];
-    replaying::replay_core(
-        table,
-        board,
-        &[kind],
-        &[sender],
-        &[channel],
-        &[property],
-        &[amount],
-        &mut answers,
-        channels,
-        properties,
-        cents,
-        statuses,
-        matched,
-        wakers,
-        chords,
-        messages,
-    );
-    answers[0]
+    calls::open(table, board)
 }
 
 // A step of a sender.
@@ -130,42 +55,19 @@ fn one_call(
 pub extern "C" fn gv_step(
     table: &[u8],
     board: &mut [u16],
-    channels: &mut [u8],
-    properties: &mut [u32],
+    bytes: &mut [u8],
+    links: &mut [u16],
+    keys: &mut [u32],
     cents: &mut [i64],
-    statuses: &mut [u8],
-    matched: &mut [u16],
-    wakers: &mut [u16],
-    chords: &mut [u8],
-    messages: &mut [u16],
     sender: u16,
 ) -> u32
-    ensures { λ r. ⌜ Flat-plays (now (table .entry))
-        (lent (now (board .entry)) (now (channels .entry)) (now (properties .entry)) (now (cents .entry))
-        (now (statuses .entry)) (now (matched .entry)) (now (wakers .entry)) (now (chords .entry))
-        (now (messages .entry)))
+    ensures { λ r. ⌜ Answers (now (table .entry))
+        (lists (now (board .entry)) (now (bytes .entry)) (now (links .entry)) (now (keys .entry)) (now (cents .entry)))
         (steps sender) r
-        (lent (now (board .exit)) (now (channels .exit)) (now (properties .exit)) (now (cents .exit))
-        (now (statuses .exit)) (now (matched .exit)) (now (wakers .exit)) (now (chords .exit))
-        (now (messages .exit))) ⌝ }
+        (lists (now (board .exit)) (now (bytes .exit)) (now (links .exit)) (now (keys .exit)) (now (cents .exit))) ⌝ }
 {
-    one_call(
-        table,
-        board,
-        0,
-        sender,
-        0,
-        0,
-        0,
-        channels,
-        properties,
-        cents,
-        statuses,
-        matched,
-        wakers,
-        chords,
-        messages,
-    )
+    let said = calls::step(table, board, bytes, links, keys, cents, sender);
+    plays::answer_number(said)
 }
 
 // An add by a sender.
@@ -173,45 +75,27 @@ pub extern "C" fn gv_step(
 pub extern "C" fn gv_add(
     table: &[u8],
     board: &mut [u16],
-    channels: &mut [u8],
-    properties: &mut [u32],
+    bytes: &mut [u8],
+    links: &mut [u16],
+    keys: &mut [u32],
     cents: &mut [i64],
-    statuses: &mut [u8],
-    matched: &mut [u16],
-    wakers: &mut [u16],
-    chords: &mut [u8],
-    messages: &mut [u16],
     sender: u16,
     channel: u16,
     property: u32,
     amount: i64,
 ) -> u32
-    ensures { λ r. ⌜ Flat-plays (now (table .entry))
-        (lent (now (board .entry)) (now (channels .entry)) (now (properties .entry)) (now (cents .entry))
-        (now (statuses .entry)) (now (matched .entry)) (now (wakers .entry)) (now (chords .entry))
-        (now (messages .entry)))
+    ensures { λ r. ⌜ Answers (now (table .entry))
+        (lists (now (board .entry)) (now (bytes .entry)) (now (links .entry)) (now (keys .entry)) (now (cents .entry)))
         (adds sender (sent channel property amount)) r
-        (lent (now (board .exit)) (now (channels .exit)) (now (properties .exit)) (now (cents .exit))
-        (now (statuses .exit)) (now (matched .exit)) (now (wakers .exit)) (now (chords .exit))
-        (now (messages .exit))) ⌝ }
+        (lists (now (board .exit)) (now (bytes .exit)) (now (links .exit)) (now (keys .exit)) (now (cents .exit))) ⌝ }
 {
-    one_call(
-        table,
-        board,
-        1,
-        sender,
-        channel,
-        property,
-        amount,
-        channels,
-        properties,
-        cents,
-        statuses,
-        matched,
-        wakers,
-        chords,
-        messages,
-    )
+    let x = Sent {
+        channel: channel,
+        property: property,
+        cents: amount,
+    };
+    let said = calls::add(table, board, bytes, links, keys, cents, sender, x);
+    plays::answer_number(said)
 }
 
 // A list of calls, one after another.
@@ -219,71 +103,33 @@ pub extern "C" fn gv_add(
 pub extern "C" fn gv_replay(
     table: &[u8],
     board: &mut [u16],
-    kinds: &[u8],
-    callers: &[u16],
-    targets: &[u16],
+    bytes: &mut [u8],
+    links: &mut [u16],
+    keys: &mut [u32],
+    cents: &mut [i64],
+    calls: &[u16],
     numbers: &[u32],
     amounts: &[i64],
     answers: &mut [u32],
-    channels: &mut [u8],
-    properties: &mut [u32],
-    cents: &mut [i64],
-    statuses: &mut [u8],
-    matched: &mut [u16],
-    wakers: &mut [u16],
-    chords: &mut [u8],
-    messages: &mut [u16],
 ) -> u8
-    ensures { λ r. ⌜ Flat-replays (now (table .entry))
-        (lent (now (board .entry)) (now (channels .entry)) (now (properties .entry)) (now (cents .entry))
-        (now (statuses .entry)) (now (matched .entry)) (now (wakers .entry)) (now (chords .entry))
-        (now (messages .entry)))
-        (callColumns (now (kinds .entry)) (now (callers .entry)) (now (targets .entry)) (now (numbers .entry))
-        (now (amounts .entry))) (now (answers .entry)) (now (answers .exit)) r
-        (lent (now (board .exit)) (now (channels .exit)) (now (properties .exit)) (now (cents .exit))
-        (now (statuses .exit)) (now (matched .exit)) (now (wakers .exit)) (now (chords .exit))
-        (now (messages .exit))) ⌝ }
+    ensures { λ r. ⌜ Replays-in (now (table .entry))
+        (lists (now (board .entry)) (now (bytes .entry)) (now (links .entry)) (now (keys .entry)) (now (cents .entry)))
+        (callRows (now (calls .entry)) (now (numbers .entry)) (now (amounts .entry)))
+        (now (answers .entry)) (now (answers .exit)) r
+        (lists (now (board .exit)) (now (bytes .exit)) (now (links .exit)) (now (keys .exit)) (now (cents .exit))) ⌝ }
 {
-    let number = replaying::replay_refusal(
+    calls::replay(
         table,
         board,
-        kinds,
-        callers,
-        targets,
-        numbers,
-        amounts,
-        answers.len(),
-        channels,
-        properties,
+        bytes,
+        links,
+        keys,
         cents,
-        statuses,
-        matched,
-        wakers,
-        chords,
-        messages,
-    );
-    if number != 0 {
-        return number;
-    }
-    replaying::replay_core(
-        table,
-        board,
-        kinds,
-        callers,
-        targets,
+        calls,
         numbers,
         amounts,
         answers,
-        channels,
-        properties,
-        cents,
-        statuses,
-        matched,
-        wakers,
-        chords,
-        messages,
-    );
-    0
+    )
 }
 
 // A message's six numbers.
@@ -340,45 +186,29 @@ fn put_match(out: &mut [i64], m: MatchRead)
 pub extern "C" fn gv_read_message(
     table: &[u8],
     board: &[u16],
-    channels: &[u8],
-    properties: &[u32],
+    bytes: &[u8],
+    links: &[u16],
+    keys: &[u32],
     cents: &[i64],
-    statuses: &[u8],
-    matched: &[u16],
-    wakers: &[u16],
-    chords: &[u8],
-    messages: &[u16],
     n: u16,
     out: &mut [i64],
 ) -> u8
-    ensures { λ r. ⌜ Flat-reads (now (table .entry))
-        (lent (now (board .entry)) (now (channels .entry)) (now (properties .entry)) (now (cents .entry))
-        (now (statuses .entry)) (now (matched .entry)) (now (wakers .entry)) (now (chords .entry))
-        (now (messages .entry)))
-        (ofMessage n) r (now (out .entry)) (now (out .exit)) ⌝ }
+    ensures { λ r. ⌜ r ≡ readNumber (now (table .entry)) (heldIn (lists (now (board .entry))
+        (now (bytes .entry)) (now (links .entry)) (now (keys .entry)) (now (cents .entry))))
+        (ofMessage n) (now (out .entry)) ⌝ }
+    ensures { λ _. ⌜ now (out .exit) ≡ readAfter (now (table .entry)) (heldIn (lists (now (board .entry))
+        (now (bytes .entry)) (now (links .entry)) (now (keys .entry)) (now (cents .entry))))
+        (ofMessage n) (now (out .entry)) ⌝ }
 {
-    let number = flat_judges::flat_refusal(
-        table,
-        board,
-        channels,
-        properties,
-        cents,
-        statuses,
-        matched,
-        wakers,
-        chords,
-        messages,
-    );
+    let read = calls::read_message(table, board, bytes, links, keys, cents, n);
+    let number = read.number;
     if number != 0 {
         return number;
-    }
-    if n >= board[0] {
-        return 14;
     }
     if out.len() < 6 {
         return 31;
     }
-    let m = reads::message_read(n, channels, properties, cents, statuses, matched, wakers);
+    let m = read.message;
     put_message(out, m);
     0
 }
@@ -388,45 +218,29 @@ pub extern "C" fn gv_read_message(
 pub extern "C" fn gv_read_match(
     table: &[u8],
     board: &[u16],
-    channels: &[u8],
-    properties: &[u32],
+    bytes: &[u8],
+    links: &[u16],
+    keys: &[u32],
     cents: &[i64],
-    statuses: &[u8],
-    matched: &[u16],
-    wakers: &[u16],
-    chords: &[u8],
-    messages: &[u16],
     k: u16,
     out: &mut [i64],
 ) -> u8
-    ensures { λ r. ⌜ Flat-reads (now (table .entry))
-        (lent (now (board .entry)) (now (channels .entry)) (now (properties .entry)) (now (cents .entry))
-        (now (statuses .entry)) (now (matched .entry)) (now (wakers .entry)) (now (chords .entry))
-        (now (messages .entry)))
-        (ofMatch k) r (now (out .entry)) (now (out .exit)) ⌝ }
+    ensures { λ r. ⌜ r ≡ readNumber (now (table .entry)) (heldIn (lists (now (board .entry))
+        (now (bytes .entry)) (now (links .entry)) (now (keys .entry)) (now (cents .entry))))
+        (ofMatch k) (now (out .entry)) ⌝ }
+    ensures { λ _. ⌜ now (out .exit) ≡ readAfter (now (table .entry)) (heldIn (lists (now (board .entry))
+        (now (bytes .entry)) (now (links .entry)) (now (keys .entry)) (now (cents .entry))))
+        (ofMatch k) (now (out .entry)) ⌝ }
 {
-    let number = flat_judges::flat_refusal(
-        table,
-        board,
-        channels,
-        properties,
-        cents,
-        statuses,
-        matched,
-        wakers,
-        chords,
-        messages,
-    );
+    let read = calls::read_match(table, board, bytes, links, keys, cents, k);
+    let number = read.number;
     if number != 0 {
         return number;
-    }
-    if k >= board[1] {
-        return 15;
     }
     if out.len() < 11 {
         return 31;
     }
-    let m = reads::match_read(table, k, chords, messages, board[0], cents);
+    let m = read.read;
     put_match(out, m);
     0
 }
@@ -436,64 +250,30 @@ pub extern "C" fn gv_read_match(
 pub extern "C" fn gv_read_reply(
     table: &[u8],
     board: &[u16],
-    channels: &[u8],
-    properties: &[u32],
+    bytes: &[u8],
+    links: &[u16],
+    keys: &[u32],
     cents: &[i64],
-    statuses: &[u8],
-    matched: &[u16],
-    wakers: &[u16],
-    chords: &[u8],
-    messages: &[u16],
     sender: u16,
     out: &mut [i64],
 ) -> u8
-    ensures { λ r. ⌜ Flat-reads (now (table .entry))
-        (lent (now (board .entry)) (now (channels .entry)) (now (properties .entry)) (now (cents .entry))
-        (now (statuses .entry)) (now (matched .entry)) (now (wakers .entry)) (now (chords .entry))
-        (now (messages .entry)))
-        (ofReply sender) r (now (out .entry)) (now (out .exit)) ⌝ }
+    ensures { λ r. ⌜ r ≡ readNumber (now (table .entry)) (heldIn (lists (now (board .entry))
+        (now (bytes .entry)) (now (links .entry)) (now (keys .entry)) (now (cents .entry))))
+        (ofReply sender) (now (out .entry)) ⌝ }
+    ensures { λ _. ⌜ now (out .exit) ≡ readAfter (now (table .entry)) (heldIn (lists (now (board .entry))
+        (now (bytes .entry)) (now (links .entry)) (now (keys .entry)) (now (cents .entry))))
+        (ofReply sender) (now (out .entry)) ⌝ }
 {
-    let number = flat_judges::flat_refusal(
-        table,
-        board,
-        channels,
-        properties,
-        cents,
-        statuses,
-        matched,
-        wakers,
-        chords,
-        messages,
-    );
+    let read = calls::read_reply(table, board, bytes, links, keys, cents, sender);
+    let number = read.number;
     if number != 0 {
         return number;
-    }
-    if sender >= 32 {
-        return 8;
     }
     if out.len() < 1 {
         return 31;
     }
-    let at = 2 + 21 * (sender as usize);
-    put_one(out, board[at + 4]);
+    put_one(out, read.reply);
     0
-}
-
-// Whether no sender has a step to take: each is idle, or blocked without a signal.
-fn is_quiet(board: &[u16]) -> bool
-    requires { ⌜ length (now board) ≡ 674 ⌝ }
-    ensures { λ r. ⌜ ((t : Table) (c : Columns) (m : MatchColumns)
-        → r ≡ quiet (boardIn t (boardFrom (now (board .entry))) c m)) ⌝ }
-{
-    let mut i: usize = 0;
-    while i < 32 {
-        let at = 2 + 21 * i;
-        if rows::steps_at(board[at], board[at + 1]) {
-            return false;
-        }
-        i += 1;
-    }
-    true
 }
 
 // Reads whether the board is quiet: 1 or 0.
@@ -501,40 +281,27 @@ fn is_quiet(board: &[u16]) -> bool
 pub extern "C" fn gv_quiet(
     table: &[u8],
     board: &[u16],
-    channels: &[u8],
-    properties: &[u32],
+    bytes: &[u8],
+    links: &[u16],
+    keys: &[u32],
     cents: &[i64],
-    statuses: &[u8],
-    matched: &[u16],
-    wakers: &[u16],
-    chords: &[u8],
-    messages: &[u16],
     out: &mut [i64],
 ) -> u8
-    ensures { λ r. ⌜ Flat-reads (now (table .entry))
-        (lent (now (board .entry)) (now (channels .entry)) (now (properties .entry)) (now (cents .entry))
-        (now (statuses .entry)) (now (matched .entry)) (now (wakers .entry)) (now (chords .entry))
-        (now (messages .entry)))
-        ofQuiet r (now (out .entry)) (now (out .exit)) ⌝ }
+    ensures { λ r. ⌜ r ≡ readNumber (now (table .entry)) (heldIn (lists (now (board .entry))
+        (now (bytes .entry)) (now (links .entry)) (now (keys .entry)) (now (cents .entry))))
+        ofQuiet (now (out .entry)) ⌝ }
+    ensures { λ _. ⌜ now (out .exit) ≡ readAfter (now (table .entry)) (heldIn (lists (now (board .entry))
+        (now (bytes .entry)) (now (links .entry)) (now (keys .entry)) (now (cents .entry))))
+        ofQuiet (now (out .entry)) ⌝ }
 {
-    let number = flat_judges::flat_refusal(
-        table,
-        board,
-        channels,
-        properties,
-        cents,
-        statuses,
-        matched,
-        wakers,
-        chords,
-        messages,
-    );
+    let read = calls::read_quiet(table, board, bytes, links, keys, cents);
+    let number = read.number;
     if number != 0 {
         return number;
     }
     if out.len() < 1 {
         return 31;
     }
-    put_one(out, is_quiet(board) as u16);
+    put_one(out, read.quiet as u16);
     0
 }

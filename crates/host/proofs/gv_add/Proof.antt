@@ -1,16 +1,30 @@
--- `host::gv_add` meets its contract: the one call is an add.
-use mathlib.Core.Path.{sym}
+-- `host::gv_add` meets its contract: the call, and its answer as one number.
+use mathlib.Core.Path.{_≡_, subst}
+use mathlib.Core.List.{List}
+use Prim.Native.Nat.{ℕ}
+use lib.IntN.{ℤ}
 use mir.Syntax.{w64}
 use mir.ValLaws.{toZ-ofZ}
-use native.Mathlib.Omega.{arith}
-use Rattle.replaying.proofs.ScheduleLaws.{add-at}
-use Rattle.host.proofs.PlayLaws.{plays-as, one-by}
+use Rattle.model.specs.Effects.{Said}
+use Rattle.model.specs.Pools.{adds}
+use Rattle.boards.specs.Layout.{Lists}
+use Rattle.adds.specs.Sends.{sent}
+use Rattle.calls.specs.Calls.{Calls}
 use borrow.Author.Needs.{needs}
 use Rattle.host.proofs.gv_add.Statement.{statement}
 use Rattle.host.proofs.gv_add.Tie as tie
 
-one-call-requires : tie.Need-one-call-requires
-one-call-requires c κs = search needs
+-- cents as the machine holds them
+cents-as : {s : List ℕ} {l l′ : Lists} {w : Said} (i channel property : ℕ) (x y : ℤ) → x ≡ y
+    → Calls s l (adds i (sent channel property x)) w l′ → Calls s l (adds i (sent channel property y)) w l′
+cents-as {s} {l} {l′} {w} i channel property x y e p =
+    subst (λ (z : ℤ). Calls s l (adds i (sent channel property z)) w l′) e p
+
+add-requires : tie.Need-add-requires
+add-requires c κs = search needs
+
+answer-number-requires : tie.Need-answer-number-requires
+answer-number-requires c κs = search needs
 
 same-length : tie.Need-same-length
 same-length c = search needs
@@ -27,39 +41,27 @@ same-length-4 c = search needs
 same-length-5 : tie.Need-same-length-5
 same-length-5 c = search needs
 
-same-length-6 : tie.Need-same-length-6
-same-length-6 c = search needs
-
-same-length-7 : tie.Need-same-length-7
-same-length-7 c = search needs
-
-same-length-8 : tie.Need-same-length-8
-same-length-8 c = search needs
-
-same-length-9 : tie.Need-same-length-9
-same-length-9 c = search needs
-
 returns : tie.Need-returns
 returns c =
-    let w = c .before .before .before .before .before .before .before .before .before .before in
-    let w = w .before .before .before .before .before .before .before in
-    let s = w .before .before .before .before .before .before .before .before .before .before in
-    let s = s .before .before .before .before .before .before .before .before .before in
-    plays-as _ _ _ _ _ _ (sym (add-at _ 0 (λ z. omega (arith, z))))
-    (one-by _ _ _ _ _ _ _ _ _ _ (toZ-ofZ w64 (s .args .amount) (s .fits .amount)) (w .one-call .ensures))
+    let p = c .before .before .before .before .before .before .before .before .before .before in
+    let s = p .before .before .before .before .before .before .before .before .before .before .before in
+    let a = s .args in
+    record {
+      said = _;
+      number = c .answer-number .ensures;
+      calls = cents-as (a .sender) (a .channel) (a .property) _ (a .amount)
+          (toZ-ofZ w64 (a .amount) (s .fits .amount)) (p .add .ensures);
+    }
 
 pub gv-add-spec : {M : Type 1} → statement M
 gv-add-spec =
     tie.close
     (tie.spec
-    one-call-requires
+    add-requires
+    answer-number-requires
     same-length
     same-length-2
     same-length-3
     same-length-4
     same-length-5
-    same-length-6
-    same-length-7
-    same-length-8
-    same-length-9
     returns)

@@ -1,60 +1,46 @@
 -- `host::gv_quiet` meets its contract: refused, a short slice, or the flag.
-use mathlib.Core.Path.{_≡_, sym, _∙_, ap}
-use mathlib.Core.Bool.{true}
+use mathlib.Core.Path.{sym, _∙_, ap}
 use mathlib.Core.List.{[], _∷_}
 use Prim.Native.Nat.{ℕ}
-use borrow.Author.Needs.{needs}
 use lib.IntN.{pos}
-use native.Mathlib.Omega.{arith}
-use Rattle.model.specs.Layout.{flag, tableOf}
-use Rattle.refusals.specs.Judged.{boardRefusal}
-use Rattle.reading.proofs.ReadLaws.{quiet-is}
-use Rattle.rows.specs.Flat.{flatOk}
-use Rattle.rows.specs.Decoded.{boardFrom}
+use Rattle.model.specs.Layout.{flag}
 use Rattle.model.proofs.TableLaws.{byte-flag}
-use Rattle.rows.proofs.WalkLaws.{all-numbers}
-use Rattle.flat_judges.specs.Judged.{flatRefusal}
-use Rattle.flat_judges.proofs.FlatLaws.{flat-accepted}
-use Rattle.host.specs.Lent.{Lent, lent}
+use native.Mathlib.Omega.{arith}
+use Rattle.boards.specs.Calls.{Held}
+use Rattle.boards.specs.Layout.{lists}
+use Rattle.refusals.specs.Held.{heldIn}
 use Rattle.host.specs.Reads.{ofQuiet, stored}
-use Rattle.host.proofs.FlatReads.{reads-refused, reads-short, reads-put}
+use Rattle.host.proofs.Ways.{read-refused, read-short, read-given}
+use borrow.Author.Needs.{needs}
 use Rattle.host.proofs.gv_quiet.Statement.{statement}
 use Rattle.host.proofs.gv_quiet.Tie as tie
 
--- where the function starts, and what is lent
-abbrev start : tie.After-flat-refusal → tie.Start
-start c = c .before .before .before .before .before .before .before .before .before .before
+-- where the function starts, and what the lent lists hold
+abbrev start : tie.After-read-quiet → tie.Start
+start c = c .before .before .before .before .before .before
 
-abbrev given : tie.Start → Lent
+abbrev given : tie.Start → Held
 given s =
     let a = s .args in
-    lent (a .board .now) (a .channels .now) (a .properties .now) (a .cents .now) (a .statuses .now) (a .matched .now)
-    (a .wakers .now) (a .chords .now) (a .messages .now)
+    heldIn (lists (a .board .now) (a .bytes .now) (a .links .now) (a .keys .now) (a .cents .now))
 
--- numbers that are not refused
-passed : (c : tie.Else1) → let s = start (c .before) in let h = given s in
-    flatRefusal (s .args .table .now) (h .flat) (h .columns) (h .matches) ≡ 0
-passed c = sym (c .before .flat-refusal .ensures) ∙ c .if1 .left
-
-accepted : (c : tie.Else1) → let s = start (c .before) in let h = given s in
-    (flatOk (h .flat) ≡ true) × (boardRefusal (s .args .table .now) (boardFrom (h .flat)) (h .columns) (h .matches) ≡ 0)
-accepted c = flat-accepted _ _ _ _ (passed c)
-
-flat-refusal-requires : tie.Need-flat-refusal-requires
-flat-refusal-requires c κs = search needs
+read-quiet-requires : tie.Need-read-quiet-requires
+read-quiet-requires c κs = search needs
 
 returns : tie.Need-returns
 returns c =
     let q = c .before in
-    reads-refused _ (given (start q)) ofQuiet _ _ (q .flat-refusal .ensures) (c .if1 .taken) (λ e. e)
+    let s = start q in
+    read-refused (s .args .table .now) (given s) ofQuiet (s .args .out .now) _
+    (q .read-quiet .ensures .0) (c .if1 .taken)
 
 returns-2 : tie.Need-returns-2
 returns-2 c =
-    let d = c .before in
-    reads-short _ (given (start (d .before))) ofQuiet _ (passed d) (sym (accepted d .1)) (c .if2 .taken)
-
-is-quiet-requires : tie.Need-is-quiet-requires
-is-quiet-requires c κs = all-numbers _ (accepted (c .before .before) .0) .0
+    let i = c .before in
+    let q = i .before in
+    let s = start q in
+    read-short (s .args .table .now) (given s) ofQuiet (s .args .out .now)
+    (sym (i .if1 .left) ∙ q .read-quiet .ensures .0) (c .if2 .taken)
 
 cast-put-one : tie.Need-cast-put-one
 cast-put-one c = search needs
@@ -68,27 +54,17 @@ same-length c = search needs
 returns-3 : tie.Need-returns-3
 returns-3 c =
     let p = c .before in
-    let r = p .before in
-    let j = r .before .before in
-    let d = j .before in
-    let s = start (d .before) in
-    let h = given s in
-    let e = quiet-is (s .args .table .now) (boardFrom (h .flat)) (h .columns) (h .matches) (accepted d .1) in
-    reads-put _ h ofQuiet _ (passed d) _ (sym (accepted d .1)) (omega (arith, j .if2 .left))
+    let j = p .before .before .before in
+    let i = j .before in
+    let q = i .before in
+    let s = start q in
+    read-given (s .args .table .now) (given s) ofQuiet (s .args .out .now) _
+    (sym (i .if1 .left) ∙ q .read-quiet .ensures .0) (omega (arith, j .if2 .left))
     (p .put-one .ensures
     ∙ ap (λ (x : ℕ). stored (pos x ∷ []) (s .args .out .now))
-    (byte-flag (r .is-quiet .result)
-    ∙ ap flag (r .is-quiet .ensures (tableOf (s .args .table .now)) (h .columns) (h .matches) ∙ e)))
+    (byte-flag (q .read-quiet .result .quiet) ∙ ap flag (q .read-quiet .ensures .1)))
 
 pub gv-quiet-spec : {M : Type 1} → statement M
 gv-quiet-spec =
     tie.close
-    (tie.spec
-    flat-refusal-requires
-    returns
-    returns-2
-    is-quiet-requires
-    cast-put-one
-    put-one-requires
-    same-length
-    returns-3)
+    (tie.spec read-quiet-requires returns returns-2 cast-put-one put-one-requires same-length returns-3)

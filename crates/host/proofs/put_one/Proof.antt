@@ -2,8 +2,7 @@
 use borrow.Author.Needs.{needs}
 use lib.IntN.{pos}
 use native.Mathlib.Omega.{arith}
-use Rattle.lines.proofs.Reading.{to-pos}
-use Rattle.host.proofs.ReadLaws.{one-put}
+use Rattle.host.proofs.ReadLaws.{number-back, one-put}
 use Rattle.host.proofs.put_one.Statement.{statement}
 use Rattle.host.proofs.put_one.Tie as tie
 
@@ -17,7 +16,7 @@ same-length : tie.Need-same-length
 same-length c = search needs
 
 returns : tie.Need-returns
-returns c = rw (to-pos (c .args .n) (omega arith)) (one-put (c .args .out .now) (pos (c .args .n)) (c .pre))
+returns c = rw (number-back (c .args .n) (omega arith)) (one-put (c .args .out .now) (pos (c .args .n)) (c .pre))
 
 pub put-one-spec : {M : Type 1} → statement M
 put-one-spec = tie.close (tie.spec cast-out slice-set-from-out same-length returns)

@@ -1,0 +1,93 @@
+//! How the lists of two boards differ.
+
+use reference::lists::{CHORDS, MEMBERS, STATUSES, WAKERS};
+use reference::{Lists, NUMBERS, Phase, SENDER_NUMBERS, Sender, State, Table};
+use std::fmt::Display;
+
+/// The first difference in what the scope paper determines; without a table, in any number.
+pub fn difference(ours: &Lists, theirs: &Lists, table: Option<&Table>) -> Option<String> {
+    if ours == theirs {
+        return None;
+    }
+    let open = |at: usize| table.is_some_and(|table| is_open(table, ours, at));
+    first(byte_name, &ours.bytes, &theirs.bytes, |_| false)
+        .or_else(|| first(link_name, &ours.links, &theirs.links, open))
+        .or_else(|| first(|at| format!("property of message {at}"), &ours.keys, &theirs.keys, |_| false))
+        .or_else(|| first(|at| format!("cents of message {at}"), &ours.cents, &theirs.cents, |_| false))
+        .or_else(|| boards_differ(&ours.board, &theirs.board, table))
+}
+
+fn byte_name(at: usize) -> String {
+    match at {
+        CHORDS.. => format!("chord of match {}", at - CHORDS),
+        STATUSES.. => format!("status of message {}", at - STATUSES),
+        _ => format!("channel of message {at}"),
+    }
+}
+
+fn link_name(at: usize) -> String {
+    match at {
+        MEMBERS.. => format!("match {} place {}", (at - MEMBERS) / 8, at % 8),
+        WAKERS.. => format!("waker of message {}", at - WAKERS),
+        _ => format!("match of message {at}"),
+    }
+}
+
+/// Whether the scope paper leaves that link open: a counted match's, past its chord's members.
+fn is_open(table: &Table, lists: &Lists, at: usize) -> bool {
+    let Some(place) = at.checked_sub(MEMBERS) else { return false };
+    let (number, matches) = (place / 8, lists.board.get(1).copied().unwrap_or(0));
+    let chord = lists.bytes.get(CHORDS + number).copied().unwrap_or(u8::MAX);
+    number < matches.into() && chord < table.chord_count && place % 8 >= table.chord(chord).len.into()
+}
+
+fn boards_differ(ours: &[u16], theirs: &[u16], table: Option<&Table>) -> Option<String> {
+    let plain = |at: usize| format!("board number {at}");
+    if table.is_none() || ours.len() != NUMBERS || theirs.len() != NUMBERS {
+        return first(plain, ours, theirs, |_| false);
+    }
+    let part = |board: &[u16], i: usize| board[2 + SENDER_NUMBERS * i..][..SENDER_NUMBERS].to_vec();
+    let senders_differ = |i: usize| {
+        let (one, two) = (part(ours, i), part(theirs, i));
+        let name = |at: usize| format!("sender {i} number {at}");
+        let what = first(name, &determined(table, &one), &determined(table, &two), |_| false);
+        what.map(|what| format!("{what} of {one:?} and {two:?}"))
+    };
+    first(plain, &ours[..2], &theirs[..2], |_| false).or_else(|| (0..32).find_map(senders_differ))
+}
+
+/// A sender's numbers with 0 for what the scope paper leaves open.
+fn determined(table: Option<&Table>, numbers: &[u16]) -> Vec<u16> {
+    let (Some(table), Some(mut sender)) = (table, Sender::from_numbers(numbers)) else { return numbers.to_vec() };
+    let chosen = match (sender.state, sender.phase) {
+        (State::Idle | State::Blocked, _) => {
+            let Sender { state, signalled, own, waker, reply, matched, .. } = sender;
+            sender = Sender { state, signalled, own, waker, reply, matched, ..Sender::default() };
+            0
+        }
+        (_, Phase::PassEnd | Phase::Backoff(_)) => {
+            sender.chord = 0;
+            0
+        }
+        (_, Phase::Look(at)) => at.into(),
+        _ if sender.chord < table.chord_count => table.chord(sender.chord).len.into(),
+        _ => 8,
+    };
+    sender.chosen[chosen.min(8)..].fill(0);
+    sender.retries = sender.retries.min(16);
+    sender.to_numbers().to_vec()
+}
+
+/// The first difference of two lists, at no place that is open.
+fn first<T: PartialEq + Display>(
+    name: impl Fn(usize) -> String,
+    ours: &[T],
+    theirs: &[T],
+    open: impl Fn(usize) -> bool,
+) -> Option<String> {
+    if ours.len() != theirs.len() {
+        return Some(format!("{} and on: lengths {} and {}", name(0), ours.len(), theirs.len()));
+    }
+    let at = (0..ours.len()).find(|&at| ours[at] != theirs[at] && !open(at));
+    at.map(|at| format!("{}: {} and {}", name(at), ours[at], theirs[at]))
+}
