@@ -1,14 +1,34 @@
--- What an opening says and leaves, by way out: refused by the table, by the board's length, or opened.
-use mathlib.Core.Path.{_≡_, refl}
+-- What an opening says and leaves, by way out: refused by the table, by the board's length, or opened. An opened board
+-- is the model's empty board, which is accepted with every table that is and any other lists of their lengths.
+use mathlib.Core.Path.{_≡_, refl, ap, _∙_}
 use mathlib.Core.Logic.{_≢_}
+use mathlib.Core.Bool.{true}
 use mathlib.Core.List.{List}
-use Prim.Native.Nat.{ℕ}
+use Prim.Native.Nat.{ℕ, zero, suc}
+use native.Mathlib.Omega.{arith}
 use borrow.Author.Tests.{eq-eqb, ne-eqb}
-use lib.ListN.{length}
-use Rattle.model.specs.Layout.{tableRefusal}
-use Rattle.model.proofs.Tests.{refused-first}
-use Rattle.boards.specs.Layout.{boardLen}
-use Rattle.rows.specs.Flat.{boardNumbers}
+use lib.ListN.{length, replicate}
+use Rattle.model.specs.Tables.{Table}
+use Rattle.model.specs.Boards.{emptyBoard, builtinBackoffs}
+use Rattle.model.specs.Layout.{tableRefusal, tableOf}
+use Rattle.model.specs.Sound.{sound, senderOk}
+use Rattle.model.proofs.Tests.{refused-first, first-none}
+use Rattle.columns.specs.Columns.{Columns}
+use Rattle.columns.specs.MatchColumns.{MatchColumns}
+use Rattle.state.specs.declared.Sender as DD
+use Rattle.boards.specs.declared.Board as DB
+use Rattle.boards.specs.Boards.{boardIn}
+use Rattle.boards.specs.Layout.{Lists, boardLen, Sized, columnsIn, matchesIn}
+use Rattle.rows.specs.Flat.{boardNumbers, flatOk}
+use Rattle.rows.specs.Decoded.{boardFrom}
+use Rattle.rows.specs.Fits.{SenderFits, SendersFit, BoardFits}
+use Rattle.rows.specs.Fresh.{freshSender}
+use Rattle.rows.proofs.Encoded.{encoded-ok, board-back}
+use Rattle.refusals.specs.Judged.{statusesOk}
+use Rattle.refusals.specs.Held.{heldOf, Accepted}
+use Rattle.refusals.specs.Calls.{boardOf}
+use Rattle.refusals.proofs.CallLaws.{accepts}
+use Rattle.refusals.proofs.HeldLaws.{columns-sized}
 use Rattle.calls.specs.Opens.{freshBoard, openNumber, openedNumbers}
 use Rattle.calls.proofs.ReadLaws.{none-first}
 
@@ -29,3 +49,52 @@ module _ (s board : List ℕ) where
     pub opens-fresh : length board ≡ boardLen → (after : List ℕ) → after ≡ boardNumbers freshBoard → Opens 0 after
     unfolding openedNumbers openNumber
     opens-fresh h after p = rw (e, eq-eqb (length board) boardLen h) (refl, p)
+
+  -- an opening that is not refused
+  pub unrefused : openNumber s board ≡ 0
+      → (tableRefusal s ≡ 0) × (openedNumbers s board ≡ boardNumbers freshBoard)
+  unfolding openedNumbers openNumber
+  unrefused z = (first-none (tableRefusal s) _ z .0, rw z)
+
+-- An opened board
+
+pub opens-empty : (t : Table) (c : Columns) (m : MatchColumns)
+    → boardIn t freshBoard c m ≡ emptyBoard builtinBackoffs
+opens-empty t c m = refl
+
+empty-sound : (t : Table) (rests : List ℕ) → sound t (emptyBoard rests) ≡ true
+unfolding sound senderOk
+empty-sound t rests = refl
+
+none-known : (s : List ℕ) → statusesOk 0 s ≡ true
+unfolding statusesOk
+none-known s = refl
+
+same-fit : (n : ℕ) (d : DD.Sender) → SenderFits d → SendersFit (replicate n d)
+same-fit zero d f = tt
+same-fit (suc n) d f = (f, same-fit n d f)
+
+fresh-fits : BoardFits freshBoard
+fresh-fits = record {
+  all = refl;
+  each = same-fit 32 freshSender
+      (record { chord = omega arith; phase = tt; chosen = refl; retries = omega arith });
+}
+
+module _ (s : List ℕ) (l : Lists) (f : l .board ≡ boardNumbers freshBoard) where
+  fresh-is : boardFrom (l .board) ≡ freshBoard
+  fresh-is = ap boardFrom f ∙ board-back freshBoard fresh-fits
+
+  pub opened-empty : boardOf s (heldOf l) ≡ emptyBoard builtinBackoffs
+  opened-empty =
+      ap (λ (b : DB.Board). boardIn (tableOf s) b (columnsIn l) (matchesIn l)) fresh-is
+      ∙ opens-empty (tableOf s) (columnsIn l) (matchesIn l)
+
+  pub opened-accepted : tableRefusal s ≡ 0 → Sized l → Accepted s l
+  opened-accepted e z = record {
+    numbers = ap flatOk f ∙ encoded-ok freshBoard fresh-fits;
+    sized = z;
+    accepted = accepts s (heldOf l) e (columns-sized l z)
+        (ap (λ (b : DB.Board). statusesOk (b .messages) (columnsIn l .statuses)) fresh-is ∙ none-known _)
+        (ap (sound (tableOf s)) opened-empty ∙ empty-sound (tableOf s) builtinBackoffs);
+  }
