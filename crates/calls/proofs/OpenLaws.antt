@@ -81,20 +81,20 @@ fresh-fits = record {
       (record { chord = omega arith; phase = tt; chosen = refl; retries = omega arith });
 }
 
-module _ (s : List ℕ) (l : Lists) (f : l .board ≡ boardNumbers freshBoard) where
-  fresh-is : boardFrom (l .board) ≡ freshBoard
-  fresh-is = ap boardFrom f ∙ board-back freshBoard fresh-fits
+module _ (s : List ℕ) (l : Lists) where
+  fresh-is : l .board ≡ boardNumbers freshBoard → boardFrom (l .board) ≡ freshBoard
+  fresh-is f = ap boardFrom f ∙ board-back freshBoard fresh-fits
 
-  pub opened-empty : boardOf s (heldOf l) ≡ emptyBoard builtinBackoffs
-  opened-empty =
-      ap (λ (b : DB.Board). boardIn (tableOf s) b (columnsIn l) (matchesIn l)) fresh-is
+  pub opened-empty : l .board ≡ boardNumbers freshBoard → boardOf s (heldOf l) ≡ emptyBoard builtinBackoffs
+  opened-empty f =
+      ap (λ (b : DB.Board). boardIn (tableOf s) b (columnsIn l) (matchesIn l)) (fresh-is f)
       ∙ opens-empty (tableOf s) (columnsIn l) (matchesIn l)
 
-  pub opened-accepted : tableRefusal s ≡ 0 → Sized l → Accepted s l
-  opened-accepted e z = record {
+  pub opened-accepted : tableRefusal s ≡ 0 → l .board ≡ boardNumbers freshBoard → Sized l → Accepted s l
+  opened-accepted e f z = record {
     numbers = ap flatOk f ∙ encoded-ok freshBoard fresh-fits;
     sized = z;
     accepted = accepts s (heldOf l) e (columns-sized l z)
-        (ap (λ (b : DB.Board). statusesOk (b .messages) (columnsIn l .statuses)) fresh-is ∙ none-known _)
-        (ap (sound (tableOf s)) opened-empty ∙ empty-sound (tableOf s) builtinBackoffs);
+        (ap (λ (b : DB.Board). statusesOk (b .messages) (columnsIn l .statuses)) (fresh-is f) ∙ none-known _)
+        (ap (sound (tableOf s)) (opened-empty f) ∙ empty-sound (tableOf s) builtinBackoffs);
   }
