@@ -48,8 +48,8 @@ pub record Says (x : Session) (b : Board) (after : ℕ) (done : List ℕ) : Type
   pub board : b ≡ x .board
 
 -- a chunk of input on l, after the bytes that c keeps, leaves l′ and c′
-pub record Serves-chunk (s : List ℕ) (l : Lists) (c : DC.Carry) (input : List ℕ) (l′ : Lists) (c′ : DC.Carry) (after : ℕ)
-    (done : List ℕ) : Type 0 where
+pub record Serves-chunk (s : List ℕ) (l : Lists) (c : DC.Carry) (input : List ℕ) (l′ : Lists) (c′ : DC.Carry)
+    (after : ℕ) (done : List ℕ) : Type 0 where
   pub says : (p : List ℕ) → Keeps p c
       → let x = fed (tableOf s) (session [] (boardOf s (heldOf l)) p) input in
       Says x (boardOf s (heldOf l′)) after done × Keeps (x .partial) c′

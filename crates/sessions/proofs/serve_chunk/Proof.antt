@@ -13,15 +13,15 @@ use Rattle.sessions.proofs.serve_chunk.Statement.{statement}
 use Rattle.sessions.proofs.serve_chunk.Tie as tie
 
 abbrev Inv-loop : tie.InvT-loop
-Inv-loop table board₀ bytes₀ links₀ keys₀ cents₀ input out₀ start kept₀ at₀ next₀ from₀ end₀ board bytes links keys cents
-    out kept at next from end =
+Inv-loop table board₀ bytes₀ links₀ keys₀ cents₀ input out₀ start kept₀ at₀ next₀ from₀ end₀ board bytes links keys
+    cents out kept at next from end =
     Sofar table (lists board₀ bytes₀ links₀ keys₀ cents₀) kept₀ input out₀ (lists board bytes links keys cents) kept at
     from end out
     × Passed next (getD board 0 0) (statusesIn bytes)
 
 abbrev μ-loop : tie.MeasureT-loop
-μ-loop table board₀ bytes₀ links₀ keys₀ cents₀ input out₀ start kept₀ at₀ next₀ from₀ end₀ board bytes links keys cents
-    out kept at next from end =
+μ-loop table board₀ bytes₀ links₀ keys₀ cents₀ input out₀ start kept₀ at₀ next₀ from₀ end₀ board bytes links keys
+    cents out kept at next from end =
     length input - from
 
 -- the places, from the start on

@@ -14,17 +14,20 @@ held s =
     let l : length (s .args .kept .bytes) ≡ 81 = simp length-map at (s .good .1 .1 .1 .1 .1 .1 .0 .1 .1 .0 .1 .0 .1) in
     omega (arith, s .pre .1 .1 .0)
 
+abbrev start : tie.After-line → tie.Start
+start c = c .before .before .before .before .before .before .before
+
 array-share-prefix-line : tie.Need-array-share-prefix-line
-array-share-prefix-line c = held (c .before .before .before .before .before .before .before .before .before .before .before .before)
+array-share-prefix-line c = held (start (c .before .before .before .before .before))
 
 slice-aggregate-serve-line : tie.Need-slice-aggregate-serve-line
 slice-aggregate-serve-line c =
-    let s = c .before .before .before .before .before .before .before .before .before .before .before .before .before in
+    let s = start (c .before .before .before .before .before .before) in
     sym (length-take-le (s .args .kept .len) (s .args .kept .bytes) (held s))
 
 serve-line-requires : tie.Need-serve-line-requires
 serve-line-requires c κs =
-    let s = c .before .before .before .before .before .before .before .before .before .before .before .before .before .before in
+    let s = start (c .before .before .before .before .before .before .before) in
     (s .pre .0, (s .pre .1 .0, s .pre .1 .1 .1))
 
 same-length : tie.Need-same-length
