@@ -22,15 +22,12 @@ use Rattle.reads.specs.Reads.{Readable}
 use Rattle.reads.proofs.BoardLaws.{cents-at}
 use Rattle.calls.proofs.ListReads as Reads
 use Rattle.prints.specs.Printed.{Printed}
-use Rattle.reports.specs.Parts.{itemLine, reportLines, lineCount, joined, between}
+use Rattle.reports.specs.Parts.{itemLine, linesOn, lineCount, joined, between}
 use Rattle.reports.proofs.PartLaws.{Lined, lined-kept, lined-text}
 use Rattle.reports.proofs.BoardLines.{lines-count, match-line, open-line, last-line}
 
 module _ (s : List ℕ) (l : Lists) where
-  abbrev pub linesOf : List (List ℕ)
-  linesOf = reportLines (tableOf s) (boardOf s (heldOf l))
-
-  pub counted : length linesOf ≡ lineCount (l .board)
+  pub counted : length (linesOn s l) ≡ lineCount (l .board)
   unfolding boardFrom
   counted = lines-count (tableOf s) (heldOf l .board) (columnsIn l) (matchesIn l)
 
@@ -59,7 +56,7 @@ module _ (s : List ℕ) (l : Lists) where
         → ((b : MB.Board)
         → ((i : ℕ) → i < getD (l .board) 0 0 → MB.messageAt b i .sent .cents ≡ getD (l .cents) i (pos 0))
         → Printed out at (matchLine k (readMatch (tableOf s) b (matchIn (tableOf s) (matchesIn l) k))) r done)
-        → Printed out at (getD linesOf k []) r done
+        → Printed out at (getD (linesOn s l) k []) r done
     unfolding boardFrom
     match-printed k h p =
         let t = tableOf s in
@@ -69,21 +66,23 @@ module _ (s : List ℕ) (l : Lists) where
 
     pub open-printed : (i n : ℕ) → i ≡ getD (l .board) 1 0 + n → n < getD (l .board) 0 0
         → Printed out at (itemLine n (statusOf (getD (columnsIn l .statuses) n 0))) r done
-        → Printed out at (getD linesOf i []) r done
+        → Printed out at (getD (linesOn s l) i []) r done
     unfolding boardFrom
     open-printed i n e h p =
         subst (λ (w : List ℕ). Printed out at w r done)
         (open-line (tableOf s) (heldOf l .board) (columnsIn l) (matchesIn l) i n e h) p
 
     pub last-printed : (i : ℕ) → i ≡ getD (l .board) 1 0 + getD (l .board) 0 0
-        → Printed out at (quietLine (quiet (boardOf s (heldOf l)))) r done → Printed out at (getD linesOf i []) r done
+        → Printed out at (quietLine (quiet (boardOf s (heldOf l)))) r done
+        → Printed out at (getD (linesOn s l) i []) r done
     unfolding boardFrom
     last-printed i e p =
         subst (λ (w : List ℕ). Printed out at w r done)
         (last-line (tableOf s) (heldOf l .board) (columnsIn l) (matchesIn l) i e) p
 
   -- where no further line is printed
-  pub part-ends : {k n at : ℕ} {out done : List ℕ} → Lined linesOf k out n at done → k < n
-      → ((k < n) × (n ≤ lineCount (l .board))) × ((at ≤ length done) × (take at done ≡ joined (between k n linesOf)))
+  pub part-ends : {k n at : ℕ} {out done : List ℕ} → Lined (linesOn s l) k out n at done → k < n
+      → ((k < n) × (n ≤ lineCount (l .board)))
+      × ((at ≤ length done) × (take at done ≡ joined (between k n (linesOn s l))))
   part-ends p h =
       ((h, omega (arith, p .listed, counted)), (omega (arith, p .inside, lined-kept p), lined-text p))

@@ -1,5 +1,5 @@
--- The lines of the report, one after another, are the model's report; and parts put together are the whole: a caller that
--- goes on at `next` until it is the count prints all of it.
+-- The lines of the report, one after another, are the model's report; and parts put together are the whole: a caller
+-- that goes on at `next` until it is the count prints all of it.
 use mathlib.Core.Path.{_≡_, refl, ap, _∙_}
 use mathlib.Core.List.{List, [], _∷_, _++_, append-nil}
 use Prim.Native.Nat.{ℕ, suc, _≤_}

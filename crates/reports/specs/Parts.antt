@@ -4,9 +4,13 @@ use Prim.Native.Nat.{ℕ, suc, _+_, _-_}
 use lib.ListN.{getD, take, drop}
 use Rattle.model.specs.Basics.{pick}
 use Rattle.model.specs.Tables.{Table}
+use Rattle.model.specs.Layout.{tableOf}
 use Rattle.model.specs.Boards.{Board, Message, Status, isConsumed}
 use Rattle.model.specs.Pools.{matchReads, quiet}
 use Rattle.model.specs.Printing.{matchLine, openLine, quietLine}
+use Rattle.boards.specs.Layout.{Lists}
+use Rattle.refusals.specs.Held.{heldOf}
+use Rattle.refusals.specs.Calls.{boardOf}
 
 -- "then items not consumed (`open N status`)": the line of a consumed item is empty
 abbrev pub itemLine : ℕ → Status → List ℕ
@@ -24,6 +28,10 @@ numbered f k (x ∷ xs) = f k x ∷ numbered f (suc k) xs
 unfoldable pub reportLines : Table → Board → List (List ℕ)
 reportLines t b =
     numbered matchLine 0 (matchReads t b) ++ (numbered messageLine 0 (b .messages) ++ (quietLine (quiet b) ∷ []))
+
+-- the same on lists that the first tests accept
+abbrev pub linesOn : List ℕ → Lists → List (List ℕ)
+linesOn s l = reportLines (tableOf s) (boardOf s (heldOf l))
 
 -- how many they are, by the board's numbers
 abbrev pub lineCount : List ℕ → ℕ

@@ -12,11 +12,10 @@ ghost use Rattle.model.specs.Printing.{matchLine};
 ghost use Rattle.columns.specs.Columns.{statusOf};
 ghost use Rattle.columns.specs.MatchColumns.{matchIn, matchesOf};
 ghost use Rattle.boards.specs.Layout.{boardLen, bytesLen, linksLen, lists, statusesIn, chordsIn, membersIn};
-ghost use Rattle.refusals.specs.Held.{heldOf, Accepted};
-ghost use Rattle.refusals.specs.Calls.{boardOf};
+ghost use Rattle.refusals.specs.Held.{Accepted};
 ghost use Rattle.reads.specs.Reads.{Readable};
 ghost use Rattle.prints.specs.Printed.{Printed};
-ghost use Rattle.reports.specs.Parts.{itemLine, reportLines, lineCount, joined, between};
+ghost use Rattle.reports.specs.Parts.{itemLine, linesOn, lineCount, joined, between};
 
 // The line to go on with, and the end of what was written.
 pub struct Part {
@@ -82,8 +81,9 @@ fn put_line(
     requires { ⌜ Accepted (now table) (lists (now board) (now bytes) (now links) (now keys) (now cents)) ⌝ }
     requires { ⌜ (n < lineCount (now board)) × (at + 104 ≤ length (now out)) ⌝ }
     ensures { λ r. ⌜ Printed (now (out .entry)) at
-        (getD (reportLines (tableOf (now (table .entry))) (boardOf (now (table .entry)) (heldOf
-        (lists (now (board .entry)) (now (bytes .entry)) (now (links .entry)) (now (keys .entry)) (now (cents .entry)))))) n [])
+        (getD (linesOn (now (table .entry))
+        (lists (now (board .entry)) (now (bytes .entry)) (now (links .entry)) (now (keys .entry))
+        (now (cents .entry)))) n [])
         r (now (out .exit)) ⌝ }
     ensures { λ r. ⌜ r ≤ at + 104 ⌝ }
 {
@@ -125,8 +125,9 @@ pub fn report_part(
     ensures { λ r. ⌜ (from < r .next) × (r .next ≤ lineCount (now (board .entry))) ⌝ }
     ensures { λ r. ⌜ r .at ≤ length (now (out .exit)) ⌝ }
     ensures { λ r. ⌜ take (r .at) (now (out .exit))
-        ≡ joined (between from (r .next) (reportLines (tableOf (now (table .entry))) (boardOf (now (table .entry)) (heldOf
-        (lists (now (board .entry)) (now (bytes .entry)) (now (links .entry)) (now (keys .entry)) (now (cents .entry))))))) ⌝ }
+        ≡ joined (between from (r .next) (linesOn (now (table .entry))
+        (lists (now (board .entry)) (now (bytes .entry)) (now (links .entry)) (now (keys .entry))
+        (now (cents .entry))))) ⌝ }
 {
     let all = line_count(board);
     let mut next = from;

@@ -6,15 +6,15 @@ use native.Mathlib.Omega.{arith}
 use borrow.Author.Needs.{needs}
 use lib.ListN.{length}
 use Rattle.boards.specs.Layout.{Lists, lists}
-use Rattle.reports.specs.Parts.{lineCount}
+use Rattle.reports.specs.Parts.{linesOn, lineCount}
 use Rattle.reports.proofs.PartLaws.{Lined, lined-none, lined-next, lined-kept}
-use Rattle.reports.proofs.ListLines.{linesOf, counted, numbers-len, few, part-ends}
+use Rattle.reports.proofs.ListLines.{counted, numbers-len, few, part-ends}
 use Rattle.reports.proofs.report_part.Statement.{statement}
 use Rattle.reports.proofs.report_part.Tie as tie
 
 abbrev Inv-loop : tie.InvT-loop
 Inv-loop table board bytes links keys cents from out₀ all next₀ at₀ out next at =
-    Lined (linesOf table (lists board bytes links keys cents)) from out₀ next at out
+    Lined (linesOn table (lists board bytes links keys cents)) from out₀ next at out
 
 abbrev μ-loop : tie.MeasureT-loop
 μ-loop table board bytes links keys cents from out₀ all next₀ at₀ out next at = all - next
@@ -35,7 +35,9 @@ lines-few : (s : tie.Start Inv-loop μ-loop) → lineCount (s .args .board .now)
 lines-few s = let f = few (s .args .table .now) (lent s) (s .pre .0) in omega (arith, f .0, f .1)
 
 line-count-requires : tie.Need-line-count-requires Inv-loop μ-loop
-line-count-requires c κs = let s = c .before .before .before .before .before .before in numbers-len (s .args .table .now) (lent s) (s .pre .0)
+line-count-requires c κs =
+    let s = c .before .before .before .before .before .before in
+    numbers-len (s .args .table .now) (lent s) (s .pre .0)
 
 loop-holds : tie.Need-loop-holds Inv-loop μ-loop
 loop-holds c =
