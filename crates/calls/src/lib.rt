@@ -216,7 +216,7 @@ pub fn replay(
 }
 
 // Whether no sender has a step to take.
-fn is_quiet(board: &[u16]) -> bool
+pub fn is_quiet(board: &[u16]) -> bool
     requires { ⌜ length (now board) ≡ boardLen ⌝ }
     ensures { λ r. ⌜ ((t : Table) (c : Columns) (m : MatchColumns)
         → r ≡ quiet (boardIn t (boardFrom (now (board .entry))) c m)) ⌝ }

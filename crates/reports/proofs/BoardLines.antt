@@ -1,14 +1,17 @@
--- The lines of a board's matches and messages, by its columns.
+-- The lines of the report on accepted lists, one by one.
 use mathlib.Core.Path.{_≡_, refl, ap, subst, sym, _∙_}
-use mathlib.Core.List.{List, []}
+use mathlib.Core.Bool.{Bool, true, false}
+use mathlib.Core.List.{List, [], _∷_, _++_}
 use Prim.Native.Nat.{ℕ, zero, suc, _+_, _<_, _≤_}
+use native.Mathlib.Nat.{not-suc-le-zero, le-of-suc-le-suc}
 use native.Mathlib.Omega.{arith}
-use lib.ListN.{length, getD, take, length-map, List·getD-map}
+use borrow.Author.Needs.{needs}
+use lib.ListN.{length, getD, length-map, length-append, List·getD-map, List·getD-append}
+use lib.Seq.{getD-append-add, getD-at}
 use Rattle.model.specs.Tables.{Table}
-use Rattle.model.specs.Boards.{Message, noMessage, noMatch}
-use Rattle.model.specs.Pools.{MatchRead, readMatch, matchReads}
-use Rattle.model.specs.Printing.{matchLine, openLine}
-use Rattle.model.specs.Sessions.{matchLines, openLines}
+use Rattle.model.specs.Boards as MB
+use Rattle.model.specs.Pools.{MatchRead, readMatch, matchReads, quiet}
+use Rattle.model.specs.Printing.{matchLine, openLine, quietLine}
 use Rattle.columns.specs.Columns.{Columns, messageIn, statusOf}
 use Rattle.columns.specs.MatchColumns.{MatchColumns, matchIn}
 use Rattle.columns.proofs.ListFrom.{length-from}
@@ -19,9 +22,7 @@ use Rattle.reads.specs.declared.MatchRead as DR
 use Rattle.reads.specs.Reads.{readOf}
 use Rattle.reads.proofs.BoardLaws.{match-at}
 use Rattle.prints.specs.Printed.{Printed}
-use Rattle.reports.specs.Parts.{between, itemLine}
-use Rattle.reports.proofs.PartLaws.{messageLine, match-lines, open-lines}
-use Rattle.reports.proofs.PartLaws.{Lined, lined-next, lined-kept, lined-text}
+use Rattle.reports.specs.Parts.{itemLine, messageLine, numbered, reportLines}
 
 -- the line of a match by what is read of it
 pub as-read : {at r : ℕ} {out done : List ℕ} (k : ℕ) (m : DR.MatchRead) (x : MatchRead) → readOf m ≡ x
@@ -41,60 +42,83 @@ item-line n (suc zero) h = refl
 item-line n (suc (suc zero)) h = refl
 item-line n (suc (suc (suc s))) h = absurd (omega arith)
 
+pub quiet-short : (q : Bool) → length (quietLine q) ≤ 10
+quiet-short true = search needs
+quiet-short false = search needs
+
+module _ {A : Type 0} (f : ℕ → A → List ℕ) where
+  numbered-count : (k : ℕ) (xs : List A) → length (numbered f k xs) ≡ length xs
+  numbered-count k [] = refl
+  numbered-count k (x ∷ xs) = ap suc (numbered-count (suc k) xs)
+
+  numbered-at : (k : ℕ) (xs : List A) (n : ℕ) (d : A) (i : ℕ) → i ≡ k + n → n < length xs
+      → getD (numbered f k xs) n [] ≡ f i (getD xs n d)
+  numbered-at k [] n d i e h = absurd (not-suc-le-zero h)
+  numbered-at k (x ∷ xs) zero d i e h = let z : i ≡ k = omega (arith, e) in rw z
+  numbered-at k (x ∷ xs) (suc n) d i e h =
+      numbered-at (suc k) xs n d i (omega (arith, e)) (le-of-suc-le-suc h)
+
+-- a line of the second of two lists
+second-at : (vs ws : List (List ℕ)) (i n : ℕ) → i ≡ length vs + n → getD (vs ++ ws) i [] ≡ getD ws n []
+second-at vs ws i n e = rw e (getD-append-add vs ws n [])
+
 module _ (t : Table) (b : DB.Board) (c : Columns) (m : MatchColumns) where
-  abbrev pub readsOf : List MatchRead
-  readsOf = matchReads t (boardIn t b c m)
+  abbrev on : MB.Board
+  on = boardIn t b c m
 
-  abbrev pub messagesOf : List Message
-  messagesOf = boardIn t b c m .messages
+  abbrev firsts : List (List ℕ)
+  firsts = numbered matchLine 0 (matchReads t on)
 
-  pub reads-count : length readsOf ≡ b .matches
-  reads-count =
-      length-map (boardIn t b c m .matches) (readMatch t (boardIn t b c m)) ∙ length-from (matchIn t m) 0 (b .matches)
+  abbrev items : List (List ℕ)
+  items = numbered messageLine 0 (on .messages)
 
-  pub messages-count : length messagesOf ≡ b .messages
-  messages-count = length-messages c 0 (b .messages)
+  firsts-count : length firsts ≡ b .matches
+  firsts-count =
+      numbered-count matchLine 0 (matchReads t on) ∙ length-map (on .matches) (readMatch t on)
+      ∙ length-from (matchIn t m) 0 (b .matches)
 
-  read-at : (n : ℕ) → n < b .matches → readMatch t (boardIn t b c m) (matchIn t m n)
-      ≡ getD readsOf n (readMatch t (boardIn t b c m) noMatch)
+  items-count : length items ≡ b .messages
+  items-count = numbered-count messageLine 0 (on .messages) ∙ length-messages c 0 (b .messages)
+
+  pub lines-count : length (reportLines t on) ≡ b .matches + b .messages + 1
+  unfolding reportLines
+  lines-count =
+      let e = length-append firsts (items ++ (quietLine (quiet on) ∷ [])) in
+      let f = length-append items (quietLine (quiet on) ∷ []) in
+      omega (arith, e, f, firsts-count, items-count)
+
+  read-at : (n : ℕ) → n < b .matches
+      → readMatch t on (matchIn t m n) ≡ getD (matchReads t on) n (readMatch t on MB.noMatch)
   read-at n h =
-      ap (readMatch t (boardIn t b c m)) (match-at t b c m n h)
-      ∙ sym (List·getD-map (readMatch t (boardIn t b c m)) (boardIn t b c m .matches) n noMatch)
+      ap (readMatch t on) (match-at t b c m n h)
+      ∙ sym (List·getD-map (readMatch t on) (on .matches) n MB.noMatch)
 
-  line-at : (n : ℕ) → n < b .messages
-      → itemLine n (statusOf (getD (c .statuses) n 0)) ≡ messageLine n (getD messagesOf n noMessage)
-  unfolding messageIn
-  line-at n h = sym (ap (messageLine n) (nth-message c (b .messages) n h))
+  pub match-line : (n : ℕ) → n < b .matches
+      → matchLine n (readMatch t on (matchIn t m n)) ≡ getD (reportLines t on) n []
+  unfolding reportLines
+  match-line n h =
+      let l : n < length firsts = omega (arith, firsts-count) in
+      let k : n < length (matchReads t on)
+      = omega (arith, l, numbered-count matchLine 0 (matchReads t on)) in
+      ap (matchLine n) (read-at n h)
+      ∙ sym (numbered-at matchLine 0 (matchReads t on) n (readMatch t on MB.noMatch) n (omega arith) k)
+      ∙ sym (List·getD-append firsts (items ++ (quietLine (quiet on) ∷ [])) [] n l)
 
-  module _ {k n at r : ℕ} {out mid done : List ℕ} where
-    pub match-next : Lined matchLine readsOf k out n at mid → n < b .matches
-        → Printed mid at (matchLine n (readMatch t (boardIn t b c m) (matchIn t m n))) r done → r ≤ length out
-        → Lined matchLine readsOf k out (n + 1) r done
-    match-next p h q l =
-        lined-next p (readMatch t (boardIn t b c m) noMatch) (omega (arith, reads-count))
-        (subst (λ (x : MatchRead). Printed mid at (matchLine n x) r done) (read-at n h) q) l
+  pub open-line : (i n : ℕ) → i ≡ b .matches + n → n < b .messages
+      → itemLine n (statusOf (getD (c .statuses) n 0)) ≡ getD (reportLines t on) i []
+  unfolding reportLines messageIn
+  open-line i n e h =
+      let l : n < length items = omega (arith, items-count) in
+      let k : n < length (on .messages) = omega (arith, l, numbered-count messageLine 0 (on .messages)) in
+      sym
+      (second-at firsts (items ++ (quietLine (quiet on) ∷ [])) i n (omega (arith, e, firsts-count))
+      ∙ List·getD-append items (quietLine (quiet on) ∷ []) [] n l
+      ∙ numbered-at messageLine 0 (on .messages) n MB.noMessage n (omega arith) k
+      ∙ ap (messageLine n) (nth-message c (b .messages) n h))
 
-    pub open-next : Lined messageLine messagesOf k out n at mid → n < b .messages
-        → Printed mid at (itemLine n (statusOf (getD (c .statuses) n 0))) r done → r ≤ length out
-        → Lined messageLine messagesOf k out (n + 1) r done
-    open-next p h q l =
-        lined-next p noMessage (omega (arith, messages-count))
-        (subst (λ (x : List ℕ). Printed mid at x r done) (line-at n h) q) l
-
-  -- where no further line is printed
-  module _ {k n at : ℕ} {out done : List ℕ} where
-    pub match-ends : Lined matchLine readsOf k out n at done → (k < b .matches → k < n)
-        → ((k ≤ n) × (n ≤ b .matches) × (k < b .matches → k < n))
-        × ((at ≤ length done) × (take at done ≡ matchLines k (between k n readsOf)))
-    match-ends p h = (
-      (p .begun, omega (arith, p .listed, reads-count), h),
-      (omega (arith, p .inside, lined-kept p), lined-text p ∙ sym (match-lines k (between k n readsOf))),
-    )
-
-    pub open-ends : Lined messageLine messagesOf k out n at done → (k < b .messages → k < n)
-        → ((k ≤ n) × (n ≤ b .messages) × (k < b .messages → k < n))
-        × ((at ≤ length done) × (take at done ≡ openLines k (between k n messagesOf)))
-    open-ends p h = (
-      (p .begun, omega (arith, p .listed, messages-count), h),
-      (omega (arith, p .inside, lined-kept p), lined-text p ∙ sym (open-lines k (between k n messagesOf))),
-    )
+  pub last-line : (i : ℕ) → i ≡ b .matches + b .messages → quietLine (quiet on) ≡ getD (reportLines t on) i []
+  unfolding reportLines
+  last-line i e =
+      sym
+      (second-at firsts (items ++ (quietLine (quiet on) ∷ [])) i (b .messages) (omega (arith, e, firsts-count))
+      ∙ getD-at items (quietLine (quiet on)) [] [] (b .messages) items-count)

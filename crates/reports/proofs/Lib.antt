@@ -1,4 +1,5 @@
--- Laws of lines printed in parts.
+-- Laws of the report's lines, printed in parts.
 pub mod PartLaws
 pub mod BoardLines
+pub mod ListLines
 pub mod Whole

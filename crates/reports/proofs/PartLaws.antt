@@ -1,84 +1,36 @@
--- Laws of numbered lines, printed one after the other from the start of a buffer.
+-- Laws of lines printed one after the other from the start of a buffer.
 use mathlib.Core.Path.{_≡_, refl, sym, ap, _∙_}
 use mathlib.Core.List.{List, [], _∷_, _++_, append-nil, append-assoc}
-use Prim.Native.Nat.{ℕ, zero, suc, _+_, _-_, _<_, _≤_}
+use Prim.Native.Nat.{ℕ, suc, _+_, _-_, _<_, _≤_}
 use native.Mathlib.Omega.{arith}
 use lib.ListN.{length, getD, set, take, drop, length-drop, length-set}
-use lib.Seq.{sets, take-all, take-suc, take-suc-set, getD-drop, length-take-le}
-use Rattle.model.specs.Boards.{Message}
-use Rattle.model.specs.Pools.{MatchRead}
-use Rattle.model.specs.Printing.{matchLine}
-use Rattle.model.specs.Sessions.{matchLines, openLines}
+use lib.Seq.{sets, take-add, take-suc, take-suc-set, getD-drop}
 use Rattle.prints.specs.Printed.{Printed}
 use Rattle.prints.proofs.Texts.{then, kept, none}
-use Rattle.reports.specs.Parts.{between, itemLine}
+use Rattle.reports.specs.Parts.{joined, between}
 
--- a line for each of a list, the first with number k
-abbrev pub linesBy : {A : Type 0} → (ℕ → A → List ℕ) → ℕ → List A → List ℕ
-linesBy f k [] = []
-linesBy f k (x ∷ xs) = f k x ++ linesBy f (suc k) xs
+pub joined-append : (vs ws : List (List ℕ)) → joined (vs ++ ws) ≡ joined vs ++ joined ws
+joined-append [] ws = refl
+joined-append (v ∷ vs) ws = ap (λ r. v ++ r) (joined-append vs ws) ∙ sym (append-assoc v (joined vs) (joined ws))
 
-abbrev pub messageLine : ℕ → Message → List ℕ
-messageLine n x = itemLine n (x .status)
-
-pub match-lines : (k : ℕ) (ms : List MatchRead) → matchLines k ms ≡ linesBy matchLine k ms
-match-lines k [] = refl
-match-lines k (m ∷ ms) = ap (λ r. matchLine k m ++ r) (match-lines (suc k) ms)
-
-pub open-lines : (n : ℕ) (xs : List Message) → openLines n xs ≡ linesBy messageLine n xs
-open-lines n [] = refl
-open-lines n (x ∷ xs) = ap (λ r. messageLine n x ++ r) (open-lines (suc n) xs)
-
-module _ {A : Type 0} (f : ℕ → A → List ℕ) where
-  -- the first i, then up to j more
-  parts-to : (k i j : ℕ) (xs : List A)
-      → linesBy f k (take i xs) ++ linesBy f (k + i) (take j (drop i xs)) ≡ linesBy f k (take (i + j) xs)
-  parts-to k zero j xs =
-      let z : k + 0 ≡ k = omega arith in
-      let y : 0 + j ≡ j = omega arith in
-      rw (z, y)
-  parts-to k (suc i) j [] = rw (take-all {A = A} j [] (omega arith), take-all {A = A} (suc i + j) [] (omega arith))
-  parts-to k (suc i) j (x ∷ xs) =
-      let z : k + suc i ≡ suc k + i = omega arith in
-      let y : suc i + j ≡ suc (i + j) = omega arith in
-      rw (z, y) (append-assoc (f k x) (linesBy f (suc k) (take i xs)) (linesBy f (suc k + i) (take j (drop i xs)))
-      ∙ ap (λ r. f k x ++ r) (parts-to (suc k) i j xs))
-
-  -- the first i, then all others
-  pub parts-all : (k i : ℕ) (xs : List A)
-      → linesBy f k (take i xs) ++ linesBy f (k + i) (drop i xs) ≡ linesBy f k xs
-  parts-all k i xs =
-      let e = take-all (length xs) (drop i xs) (omega (arith, length-drop i xs)) in
-      let g = take-all (i + length xs) xs (omega arith) in
-      rw (e, g) at (parts-to k i (length xs) xs)
-
+module _ (ws : List (List ℕ)) where
   -- those up to n, then those up to m
-  pub parts-on : (n m : ℕ) (xs : List A) → n ≤ m
-      → linesBy f 0 (take n xs) ++ linesBy f n (between n m xs) ≡ linesBy f 0 (take m xs)
-  parts-on n m xs h =
-      let z : 0 + n ≡ n = omega arith in
+  pub parts-on : (n m : ℕ) → n ≤ m → joined (take n ws) ++ joined (between n m ws) ≡ joined (take m ws)
+  parts-on n m h =
       let y : n + (m - n) ≡ m = omega arith in
-      rw (z, y) at (parts-to 0 n (m - n) xs)
+      sym (joined-append (take n ws) (between n m ws)) ∙ ap joined (rw y at (sym (take-add n (m - n) ws)))
 
-  lines-last : (k : ℕ) (xs : List A) (x : A) → linesBy f k (xs ++ (x ∷ [])) ≡ linesBy f k xs ++ f (k + length xs) x
-  lines-last k [] x = let z : k + 0 ≡ k = omega arith in rw z (append-nil (f k x))
-  lines-last k (y ∷ xs) x =
-      let z : k + suc (length xs) ≡ suc k + length xs = omega arith in
-      rw (z, lines-last (suc k) xs x) (sym (append-assoc (f k y) (linesBy f (suc k) xs) (f (suc k + length xs) x)))
-
-  module _ (xs : List A) (d : A) (k n : ℕ) (h : k ≤ n) (l : n < length xs) where
-    between-next : between k (n + 1) xs ≡ between k n xs ++ (getD xs n d ∷ [])
+  module _ (k n : ℕ) (h : k ≤ n) (l : n < length ws) where
+    between-next : between k (n + 1) ws ≡ between k n ws ++ (getD ws n [] ∷ [])
     between-next =
         let e : n + 1 - k ≡ suc (n - k) = omega arith in
         let z : k + (n - k) ≡ n = omega arith in
-        rw (e, take-suc (drop k xs) (n - k) d (omega (arith, length-drop k xs)), getD-drop k xs (n - k) d, z)
+        rw (e, take-suc (drop k ws) (n - k) [] (omega (arith, length-drop k ws)), getD-drop k ws (n - k) [], z)
 
-    line-next : {out mid done : List ℕ} {p r : ℕ} → Printed out 0 (linesBy f k (between k n xs)) p mid
-        → Printed mid p (f n (getD xs n d)) r done → Printed out 0 (linesBy f k (between k (n + 1) xs)) r done
+    line-next : {out mid done : List ℕ} {p r : ℕ} → Printed out 0 (joined (between k n ws)) p mid
+        → Printed mid p (getD ws n []) r done → Printed out 0 (joined (between k (n + 1) ws)) r done
     line-next p q =
-        let m = length-take-le (n - k) (drop k xs) (omega (arith, length-drop k xs)) in
-        let z : k + (n - k) ≡ n = omega arith in
-        rw (between-next, lines-last k (between k n xs) (getD xs n d), m, z) (then p q)
+        rw (between-next, joined-append (between k n ws) (getD ws n [] ∷ []), append-nil (getD ws n [])) (then p q)
 
 take-sets : {A : Type 0} (l : List A) (i : ℕ) (xs : List A) → i + length xs ≤ length l
     → take (i + length xs) (sets l i xs) ≡ take i l ++ xs
@@ -94,18 +46,17 @@ written {out} {done} {text} {at} p h =
     let e : at ≡ 0 + length text = p .place in
     rw (e, p .bytes) (take-sets out 0 text (omega (arith, p .place)))
 
--- the lines of numbers k to n - 1 of a list stand at the start of the buffer
-pub record Lined {A : Type 0} (f : ℕ → A → List ℕ) (xs : List A) (k : ℕ) (out : List ℕ) (n at : ℕ) (done : List ℕ)
-    : Type 0 where
+-- lines k to n - 1 stand at the start of the buffer
+pub record Lined (ws : List (List ℕ)) (k : ℕ) (out : List ℕ) (n at : ℕ) (done : List ℕ) : Type 0 where
   pub begun : k ≤ n
-  pub listed : n ≤ length xs
+  pub listed : n ≤ length ws
   pub inside : at ≤ length out
   pub moved : 1 ≤ at → k < n
-  pub text : Printed out 0 (linesBy f k (between k n xs)) at done
+  pub text : Printed out 0 (joined (between k n ws)) at done
 
-module _ {A : Type 0} {f : ℕ → A → List ℕ} {xs : List A} {k : ℕ} where
+module _ {ws : List (List ℕ)} {k : ℕ} where
   -- no line yet
-  pub lined-none : (out : List ℕ) → k ≤ length xs → Lined f xs k out k 0 out
+  pub lined-none : (out : List ℕ) → k ≤ length ws → Lined ws k out k 0 out
   lined-none out h =
       let z : k - k ≡ 0 = omega arith in
       record {
@@ -117,19 +68,19 @@ module _ {A : Type 0} {f : ℕ → A → List ℕ} {xs : List A} {k : ℕ} where
       }
 
   -- one line more
-  pub lined-next : {out mid done : List ℕ} {n at r : ℕ} → Lined f xs k out n at mid → (d : A) → n < length xs
-      → Printed mid at (f n (getD xs n d)) r done → r ≤ length out → Lined f xs k out (n + 1) r done
-  lined-next {out} {mid} {done} {n} {at} {r} p d l q h = record {
+  pub lined-next : {out mid done : List ℕ} {n at r : ℕ} → Lined ws k out n at mid → n < length ws
+      → Printed mid at (getD ws n []) r done → r ≤ length out → Lined ws k out (n + 1) r done
+  lined-next {out} {mid} {done} {n} {at} {r} p l q h = record {
     begun = omega (arith, p .begun);
     listed = omega arith;
     inside = h;
     moved = λ m. omega (arith, p .begun);
-    text = line-next f xs d k n (p .begun) l (p .text) q;
+    text = line-next ws k n (p .begun) l (p .text) q;
   }
 
-  pub lined-kept : {out done : List ℕ} {n at : ℕ} → Lined f xs k out n at done → length done ≡ length out
+  pub lined-kept : {out done : List ℕ} {n at : ℕ} → Lined ws k out n at done → length done ≡ length out
   lined-kept p = kept (p .text)
 
-  pub lined-text : {out done : List ℕ} {n at : ℕ} → Lined f xs k out n at done
-      → take at done ≡ linesBy f k (between k n xs)
+  pub lined-text : {out done : List ℕ} {n at : ℕ} → Lined ws k out n at done
+      → take at done ≡ joined (between k n ws)
   lined-text p = written (p .text) (p .inside)

@@ -1,34 +1,43 @@
--- Parts put together are the whole: a caller that goes on at `next` until it is the count prints all lines.
-use mathlib.Core.Path.{_≡_}
-use mathlib.Core.List.{List, _++_}
-use Prim.Native.Nat.{ℕ, _+_, _≤_}
-use lib.ListN.{take, drop}
-use Rattle.model.specs.Boards.{Message}
-use Rattle.model.specs.Pools.{MatchRead}
-use Rattle.model.specs.Printing.{matchLine}
-use Rattle.model.specs.Sessions.{matchLines, openLines}
-use Rattle.reports.specs.Parts.{between}
-use Rattle.reports.proofs.PartLaws.{messageLine, match-lines, open-lines, parts-all, parts-on}
+-- The lines of the report, one after another, are the model's report; and parts put together are the whole: a caller
+-- that goes on at `next` until it is the count prints all of it.
+use mathlib.Core.Path.{_≡_, refl, ap, _∙_}
+use mathlib.Core.List.{List, [], _∷_, _++_, append-nil}
+use Prim.Native.Nat.{ℕ, suc, _≤_}
+use lib.ListN.{length, take}
+use lib.Seq.{take-length}
+use Rattle.model.specs.Tables.{Table}
+use Rattle.model.specs.Boards.{Board, Message}
+use Rattle.model.specs.Pools.{MatchRead, matchReads, quiet}
+use Rattle.model.specs.Printing.{matchLine, quietLine}
+use Rattle.model.specs.Sessions.{matchLines, openLines, reportText}
+use Rattle.reports.specs.Parts.{messageLine, numbered, reportLines, joined, between}
+use Rattle.reports.proofs.PartLaws.{joined-append, parts-on}
 
-pub match-parts-joined : (k i : ℕ) (ms : List MatchRead)
-    → matchLines k (take i ms) ++ matchLines (k + i) (drop i ms) ≡ matchLines k ms
-match-parts-joined k i ms =
-    rw (match-lines k (take i ms), match-lines (k + i) (drop i ms), match-lines k ms) (parts-all matchLine k i ms)
+match-lines : (k : ℕ) (ms : List MatchRead) → joined (numbered matchLine k ms) ≡ matchLines k ms
+match-lines k [] = refl
+match-lines k (m ∷ ms) = ap (λ r. matchLine k m ++ r) (match-lines (suc k) ms)
 
-pub open-parts-joined : (n i : ℕ) (xs : List Message)
-    → openLines n (take i xs) ++ openLines (n + i) (drop i xs) ≡ openLines n xs
-open-parts-joined n i xs =
-    rw (open-lines n (take i xs), open-lines (n + i) (drop i xs), open-lines n xs) (parts-all messageLine n i xs)
+open-lines : (n : ℕ) (xs : List Message) → joined (numbered messageLine n xs) ≡ openLines n xs
+open-lines n [] = refl
+open-lines n (x ∷ xs) = ap (λ r. messageLine n x ++ r) (open-lines (suc n) xs)
 
--- what is printed so far, and the next part
-pub match-goes-on : (n m : ℕ) (ms : List MatchRead) → n ≤ m
-    → matchLines 0 (take n ms) ++ matchLines n (between n m ms) ≡ matchLines 0 (take m ms)
-match-goes-on n m ms h =
-    rw (match-lines 0 (take n ms), match-lines n (between n m ms), match-lines 0 (take m ms))
-    (parts-on matchLine n m ms h)
+module _ (t : Table) (b : Board) where
+  pub report-joined : joined (reportLines t b) ≡ reportText t b
+  unfolding reportLines reportText
+  report-joined =
+      let ms = numbered matchLine 0 (matchReads t b) in
+      let xs = numbered messageLine 0 (b .messages) in
+      let q = quietLine (quiet b) in
+      joined-append ms (xs ++ (q ∷ []))
+      ∙ ap (λ r. r ++ joined (xs ++ (q ∷ []))) (match-lines 0 (matchReads t b))
+      ∙ ap (λ r. matchLines 0 (matchReads t b) ++ r)
+      (joined-append xs (q ∷ []) ∙ ap (λ r. r ++ (q ++ [])) (open-lines 0 (b .messages))
+      ∙ ap (λ r. openLines 0 (b .messages) ++ r) (append-nil q))
 
-pub open-goes-on : (n m : ℕ) (xs : List Message) → n ≤ m
-    → openLines 0 (take n xs) ++ openLines n (between n m xs) ≡ openLines 0 (take m xs)
-open-goes-on n m xs h =
-    rw (open-lines 0 (take n xs), open-lines n (between n m xs), open-lines 0 (take m xs))
-    (parts-on messageLine n m xs h)
+  -- what is printed so far, and the next part
+  pub report-goes-on : (n m : ℕ) → n ≤ m
+      → joined (take n (reportLines t b)) ++ joined (between n m (reportLines t b)) ≡ joined (take m (reportLines t b))
+  report-goes-on n m h = parts-on (reportLines t b) n m h
+
+  pub report-whole : joined (take (length (reportLines t b)) (reportLines t b)) ≡ reportText t b
+  report-whole = ap joined (take-length (reportLines t b)) ∙ report-joined

@@ -1,152 +1,143 @@
-// The lines at the end of the program's run, into a lent buffer that may be too small for all of them: in parts, each
+// The report at the end of the program's run, into a lent buffer that may be too small for all of it: in parts, each
 // from the start of the buffer.
 ghost use mathlib.Core.Path.{_≡_};
-ghost use mathlib.Core.List.{List};
+ghost use mathlib.Core.List.{[]};
 ghost use Prim.Native.Nat.{ℕ, _+_, _<_, _≤_};
 ghost use lib.IntN.{pos};
 ghost use lib.ListN.{length, getD, take};
 ghost use Rattle.model.specs.Boards as MB;
-ghost use Rattle.model.specs.Pools.{readMatch, matchReads, quiet};
+ghost use Rattle.model.specs.Pools.{readMatch};
 ghost use Rattle.model.specs.Layout.{tableRefusal, tableOf};
-ghost use Rattle.model.specs.Printing.{matchLine, quietLine};
-ghost use Rattle.model.specs.Sessions.{matchLines, openLines};
-ghost use Rattle.columns.specs.Columns.{Columns, statusOf};
-ghost use Rattle.columns.specs.MatchColumns.{MatchColumns, matchIn, matchesOf};
-ghost use Rattle.boards.specs.Calls.{held, heldBy};
-ghost use Rattle.refusals.specs.Calls.{refusalOf, boardOf};
+ghost use Rattle.model.specs.Printing.{matchLine};
+ghost use Rattle.columns.specs.Columns.{statusOf};
+ghost use Rattle.columns.specs.MatchColumns.{matchIn, matchesOf};
+ghost use Rattle.boards.specs.Layout.{boardLen, bytesLen, linksLen, lists, statusesIn, chordsIn, membersIn};
+ghost use Rattle.refusals.specs.Held.{Accepted};
 ghost use Rattle.reads.specs.Reads.{Readable};
 ghost use Rattle.prints.specs.Printed.{Printed};
-ghost use Rattle.reports.specs.Parts.{between, itemLine};
-use boards::Board;
+ghost use Rattle.reports.specs.Parts.{itemLine, linesOn, lineCount, joined, between};
 
-// The number to go on with, and the end of what was written.
+// The line to go on with, and the end of what was written.
 pub struct Part {
-    pub next: u16,
+    pub next: usize,
     pub at: usize,
 }
 
 // The line of match k on a board whose first n messages have these cents.
 fn put_match_line(
     table: &[u8],
-    n: u16,
+    bytes: &[u8],
+    links: &[u16],
     cents: &[i64],
-    chords: &[u8],
-    messages: &[u16],
+    n: u16,
     k: u16,
     out: &mut [u8],
     at: usize,
 ) -> usize
-    requires { ⌜ tableRefusal (now table) ≡ 0 ⌝ }
-    requires { ⌜ Readable (tableOf (now table)) (matchesOf (now chords) (now messages)) k n (now cents) ⌝ }
+    requires { ⌜ (tableRefusal (now table) ≡ 0) × (length (now bytes) ≡ bytesLen) × (length (now links) ≡ linksLen) ⌝ }
+    requires { ⌜ Readable (tableOf (now table)) (matchesOf (chordsIn (now bytes)) (membersIn (now links))) k n
+        (now cents) ⌝ }
     requires { ⌜ at + 104 ≤ length (now out) ⌝ }
     ensures { λ r. ⌜ ((b : MB.Board)
         → ((i : ℕ) → i < n → MB.messageAt b i .sent .cents ≡ getD (now (cents .entry)) i (pos 0))
         → Printed (now (out .entry)) at (matchLine k (readMatch (tableOf (now (table .entry))) b
-        (matchIn (tableOf (now (table .entry))) (matchesOf (now (chords .entry)) (now (messages .entry))) k)))
+        (matchIn (tableOf (now (table .entry)))
+        (matchesOf (chordsIn (now (bytes .entry))) (membersIn (now (links .entry)))) k)))
         r (now (out .exit))) ⌝ }
     ensures { λ r. ⌜ r ≤ at + 104 ⌝ }
 {
-    let read = reads::match_read(table, k, chords, messages, n, cents);
+    let chords = boards::chords(bytes);
+    let members = boards::members(links);
+    let read = reads::match_read(table, k, chords, members, n, cents);
     prints::put_match(out, at, k, read)
 }
 
 // The line of message n, none if it is consumed.
-fn put_open_line(statuses: &[u8], n: u16, out: &mut [u8], at: usize) -> usize
-    requires { ⌜ (n < length (now statuses)) × (at + 19 ≤ length (now out)) ⌝ }
-    ensures { λ r. ⌜ Printed (now (out .entry)) at (itemLine n (statusOf (getD (now (statuses .entry)) n 0)))
-        r (now (out .exit)) ⌝ }
+fn put_open_line(bytes: &[u8], n: u16, out: &mut [u8], at: usize) -> usize
+    requires { ⌜ (length (now bytes) ≡ bytesLen) × (n < 1024) × (at + 19 ≤ length (now out)) ⌝ }
+    ensures { λ r. ⌜ Printed (now (out .entry)) at
+        (itemLine n (statusOf (getD (statusesIn (now (bytes .entry))) n 0))) r (now (out .exit)) ⌝ }
     ensures { λ r. ⌜ r ≤ at + 19 ⌝ }
 {
-    let status = statuses[n as usize];
+    let status = bytes[boards::STATUSES + (n as usize)];
     if status >= 3 {
         return at;
     }
     prints::put_open(out, at, n, status)
 }
 
-// The lines of matches k, k + 1, .., as many as surely fit.
-pub fn match_lines(
+// Line n of the report: of a match, else of a message, else the last.
+fn put_line(
     table: &[u8],
-    b: Board,
-    channels: &[u8],
-    properties: &[u32],
+    board: &[u16],
+    bytes: &[u8],
+    links: &[u16],
+    keys: &[u32],
     cents: &[i64],
-    statuses: &[u8],
-    matched: &[u16],
-    wakers: &[u16],
-    chords: &[u8],
-    messages: &[u16],
-    k: u16,
+    n: usize,
+    out: &mut [u8],
+    at: usize,
+) -> usize
+    requires { ⌜ Accepted (now table) (lists (now board) (now bytes) (now links) (now keys) (now cents)) ⌝ }
+    requires { ⌜ (n < lineCount (now board)) × (at + 104 ≤ length (now out)) ⌝ }
+    ensures { λ r. ⌜ Printed (now (out .entry)) at
+        (getD (linesOn (now (table .entry))
+        (lists (now (board .entry)) (now (bytes .entry)) (now (links .entry)) (now (keys .entry))
+        (now (cents .entry)))) n [])
+        r (now (out .exit)) ⌝ }
+    ensures { λ r. ⌜ r ≤ at + 104 ⌝ }
+{
+    let messages = board[0];
+    let matches = board[1] as usize;
+    if n < matches {
+        return put_match_line(table, bytes, links, cents, messages, n as u16, out, at);
+    }
+    let m = n - matches;
+    if m < messages as usize {
+        return put_open_line(bytes, m as u16, out, at);
+    }
+    prints::put_quiet(out, at, calls::is_quiet(board))
+}
+
+// How many lines the report has.
+pub fn line_count(board: &[u16]) -> usize
+    requires { ⌜ length (now board) ≡ boardLen ⌝ }
+    ensures { λ r. ⌜ r ≡ lineCount (now (board .entry)) ⌝ }
+{
+    let matches = board[1] as usize;
+    let messages = board[0] as usize;
+    matches + messages + 1
+}
+
+// The report from a line on, as many lines as surely fit.
+pub fn report_part(
+    table: &[u8],
+    board: &[u16],
+    bytes: &[u8],
+    links: &[u16],
+    keys: &[u32],
+    cents: &[i64],
+    from: usize,
     out: &mut [u8],
 ) -> Part
-    requires { ⌜ refusalOf (now table) (heldBy b (now channels) (now properties) (now cents)
-        (now statuses) (now matched) (now wakers) (now chords) (now messages)) ≡ 0 ⌝ }
-    requires { ⌜ (k ≤ b .matches) × (104 ≤ length (now out)) ⌝ }
-    ensures { λ r. ⌜ (k ≤ r .next) × (r .next ≤ b .matches) × (k < b .matches → k < r .next) ⌝ }
+    requires { ⌜ Accepted (now table) (lists (now board) (now bytes) (now links) (now keys) (now cents)) ⌝ }
+    requires { ⌜ (from < lineCount (now board)) × (104 ≤ length (now out)) ⌝ }
+    ensures { λ r. ⌜ (from < r .next) × (r .next ≤ lineCount (now (board .entry))) ⌝ }
     ensures { λ r. ⌜ r .at ≤ length (now (out .exit)) ⌝ }
     ensures { λ r. ⌜ take (r .at) (now (out .exit))
-        ≡ matchLines k (between k (r .next) (matchReads (tableOf (now (table .entry))) (boardOf (now (table .entry))
-        (heldBy b (now (channels .entry)) (now (properties .entry)) (now (cents .entry))
-        (now (statuses .entry)) (now (matched .entry)) (now (wakers .entry))
-        (now (chords .entry)) (now (messages .entry)))))) ⌝ }
+        ≡ joined (between from (r .next) (linesOn (now (table .entry))
+        (lists (now (board .entry)) (now (bytes .entry)) (now (links .entry)) (now (keys .entry))
+        (now (cents .entry))))) ⌝ }
 {
-    let mut next = k;
+    let all = line_count(board);
+    let mut next = from;
     let mut at: usize = 0;
-    while next < b.matches {
+    while next < all {
         if out.len() - at < 104 {
             return Part { next: next, at: at };
         }
-        at = put_match_line(table, b.messages, cents, chords, messages, next, out, at);
+        at = put_line(table, board, bytes, links, keys, cents, next, out, at);
         next += 1;
     }
     Part { next: next, at: at }
-}
-
-// The lines of messages n, n + 1, .., as many as surely fit.
-pub fn open_lines(
-    table: &[u8],
-    b: Board,
-    channels: &[u8],
-    properties: &[u32],
-    cents: &[i64],
-    statuses: &[u8],
-    matched: &[u16],
-    wakers: &[u16],
-    chords: &[u8],
-    messages: &[u16],
-    n: u16,
-    out: &mut [u8],
-) -> Part
-    requires { ⌜ refusalOf (now table) (heldBy b (now channels) (now properties) (now cents)
-        (now statuses) (now matched) (now wakers) (now chords) (now messages)) ≡ 0 ⌝ }
-    requires { ⌜ (n ≤ b .messages) × (19 ≤ length (now out)) ⌝ }
-    ensures { λ r. ⌜ (n ≤ r .next) × (r .next ≤ b .messages) × (n < b .messages → n < r .next) ⌝ }
-    ensures { λ r. ⌜ r .at ≤ length (now (out .exit)) ⌝ }
-    ensures { λ r. ⌜ take (r .at) (now (out .exit))
-        ≡ openLines n (between n (r .next) (boardOf (now (table .entry))
-        (heldBy b (now (channels .entry)) (now (properties .entry)) (now (cents .entry))
-        (now (statuses .entry)) (now (matched .entry)) (now (wakers .entry))
-        (now (chords .entry)) (now (messages .entry))) .messages)) ⌝ }
-{
-    let mut next = n;
-    let mut at: usize = 0;
-    while next < b.messages {
-        if out.len() - at < 19 {
-            return Part { next: next, at: at };
-        }
-        at = put_open_line(statuses, next, out, at);
-        next += 1;
-    }
-    Part { next: next, at: at }
-}
-
-// The last line.
-pub fn quiet_line(b: Board, out: &mut [u8]) -> usize
-    requires { ⌜ 10 ≤ length (now out) ⌝ }
-    ensures { λ r. ⌜ ((s : List ℕ) (c : Columns) (m : MatchColumns)
-        → Printed (now (out .entry)) 0 (quietLine (quiet (boardOf s (held b c m)))) r (now (out .exit))) ⌝ }
-{
-    let senders = b.senders;
-    let quiet = reads::is_quiet(senders);
-    prints::put_quiet(out, 0, quiet)
 }

@@ -10,8 +10,9 @@ use Rattle.model.specs.Layout.{tableOf}
 use Rattle.model.specs.Lines.{lineOf}
 use Rattle.model.specs.Sessions.{Session, lineEnds, fed, inputEnds}
 use Rattle.model.proofs.Lists.{to-end}
-use Rattle.boards.specs.Calls.{Held}
-use Rattle.refusals.specs.Calls.{boardOf, refusalOf}
+use Rattle.boards.specs.Layout.{Lists}
+use Rattle.refusals.specs.Held.{heldOf, Accepted}
+use Rattle.refusals.specs.Calls.{boardOf}
 use Rattle.prints.specs.Printed.{Printed}
 use Rattle.prints.proofs.Texts as texts
 use Rattle.sessions.specs.declared.Carry as DC
@@ -28,9 +29,10 @@ printed-take {out} {done} {w} {at} {after} p l =
     (take-at (take at out ++ w) (drop (at + length w) out) after m)
 
 -- the model's line end, where the line's bytes read as those that were served
-pub line-served : (s : List ℕ) (h : Held) (line out : List ℕ) (at : ℕ) (h′ : Held) (after : ℕ) (done p : List ℕ)
+pub line-served : (s : List ℕ) (h : Lists) (line out : List ℕ) (at : ℕ) (h′ : Lists) (after : ℕ) (done p : List ℕ)
     → Serves s h line out at h′ after done → at + 16 ≤ length out → lineOf p ≡ lineOf line
-    → lineEnds (tableOf s) (session (take at out) (boardOf s h) p) ≡ session (take after done) (boardOf s h′) []
+    → lineEnds (tableOf s) (session (take at out) (boardOf s (heldOf h)) p)
+    ≡ session (take after done) (boardOf s (heldOf h′)) []
 unfolding lineEnds
 line-served s h line out at h′ after done p v l e =
     rw (e, printed-take (v .prints) (omega (arith, v .room)), v .leaves)
@@ -44,27 +46,27 @@ pub reads-as : (p : List ℕ) (c : DC.Carry) → Keeps p c → lineOf p ≡ line
 reads-as p c k = sym (line-cut p) ∙ ap lineOf k
 
 -- a session from which the bytes left lead to where all of them lead
-pub record Left (s : List ℕ) (x : Session) (input : List ℕ) (h : Held) (c : DC.Carry) (at from : ℕ) (done : List ℕ) :
+pub record Left (s : List ℕ) (x : Session) (input : List ℕ) (h : Lists) (c : DC.Carry) (at from : ℕ) (done : List ℕ) :
     Type 0 where
   pub partial : List ℕ
   pub keeps : Keeps partial c
   pub leads : fed (tableOf s) x input
-      ≡ fed (tableOf s) (session (take at done) (boardOf s h) partial) (drop from input)
+      ≡ fed (tableOf s) (session (take at done) (boardOf s (heldOf h)) partial) (drop from input)
 
 -- the lines that end before `from` are served; the next ends at `end`
-pub record Sofar (s : List ℕ) (h : Held) (c : DC.Carry) (input out : List ℕ) (h′ : Held) (c′ : DC.Carry)
+pub record Sofar (s : List ℕ) (h : Lists) (c : DC.Carry) (input out : List ℕ) (h′ : Lists) (c′ : DC.Carry)
     (at from end : ℕ) (done : List ℕ) : Type 0 where
   pub place : end ≡ from + feedAt (drop from input)
   pub order : from ≤ end
   pub within : end ≤ length input
   pub printed : at ≤ 16 * from
   pub len : length done ≡ length out
-  pub accepted : refusalOf s h′ ≡ 0
+  pub accepted : Accepted s h′
   pub kept : c′ .len ≤ 81
-  pub left : (p : List ℕ) → Keeps p c → Left s (session [] (boardOf s h) p) input h′ c′ at from done
+  pub left : (p : List ℕ) → Keeps p c → Left s (session [] (boardOf s (heldOf h)) p) input h′ c′ at from done
 
-module _ (s : List ℕ) (h : Held) (c : DC.Carry) (input out : List ℕ) where
-  pub sofar-none : (end : ℕ) → end ≡ 0 + feedAt input → end ≤ length input → refusalOf s h ≡ 0 → c .len ≤ 81
+module _ (s : List ℕ) (h : Lists) (c : DC.Carry) (input out : List ℕ) where
+  pub sofar-none : (end : ℕ) → end ≡ 0 + feedAt input → end ≤ length input → Accepted s h → c .len ≤ 81
       → Sofar s h c input out h c 0 0 end out
   sofar-none end e w a k = record {
     place = e;
@@ -77,10 +79,10 @@ module _ (s : List ℕ) (h : Held) (c : DC.Carry) (input out : List ℕ) where
     left = λ p q. record { partial = p; keeps = q; leads = refl };
   }
 
-  module _ (h′ : Held) (c′ : DC.Carry) (at from end : ℕ) (done : List ℕ)
+  module _ (h′ : Lists) (c′ : DC.Carry) (at from end : ℕ) (done : List ℕ)
       (i : Sofar s h c input out h′ c′ at from end done) where
     -- one line more
-    pub sofar-next : (line : DC.Carry) (g : Held) (at′ : ℕ) (done′ : List ℕ) (c″ : DC.Carry) (end′ : ℕ)
+    pub sofar-next : (line : DC.Carry) (g : Lists) (at′ : ℕ) (done′ : List ℕ) (c″ : DC.Carry) (end′ : ℕ)
         → end < length input → 16 * length input ≤ length out
         → carryOf line ≡ take 81 (carryOf c′ ++ take (end - from) (drop from input))
         → Serves s h′ (carryOf line) done at g at′ done′ → c″ .len ≡ 0
@@ -127,13 +129,14 @@ module _ (s : List ℕ) (h : Held) (c : DC.Carry) (input out : List ℕ) where
     }
       where
         ends : {x : Session} → Left s x input h′ c′ at from done
-            → Says (fed (tableOf s) x input) (boardOf s h′) at done × Keeps (fed (tableOf s) x input .partial) r
+            → Says (fed (tableOf s) x input) (boardOf s (heldOf h′)) at done
+            × Keeps (fed (tableOf s) x input .partial) r
         ends {x} d =
             let n : length (drop from input) ≤ feedAt (drop from input)
             = omega (arith, length-drop from input, i .place, l) in
             let z = d .leads ∙ fed-rest (tableOf s) (drop from input) _ n in
             let u = keeps-more (d .partial) (drop from input) c′ r (d .keeps) (rw (to-end input from) at e) in
-            subst (λ (y : Session). Says y (boardOf s h′) at done × Keeps (y .partial) r) (sym z)
+            subst (λ (y : Session). Says y (boardOf s (heldOf h′)) at done × Keeps (y .partial) r) (sym z)
             (record { text = refl; board = refl }, u)
 
 -- The end of input
@@ -144,21 +147,22 @@ no-bytes (x ∷ xs) e =
     let z = ap (length {A = ℕ}) e in
     absurd (omega (arith, z))
 
-pub end-none : (s : List ℕ) (h : Held) (c : DC.Carry) (out : List ℕ) → c .len ≡ 0 → refusalOf s h ≡ 0
+pub end-none : (s : List ℕ) (h : Lists) (c : DC.Carry) (out : List ℕ) → c .len ≡ 0 → Accepted s h
     → Serves-end s h c h 0 out
 end-none s h c out z a = record { says = ends; accepted = a; room = omega arith }
   where
-    ends : (p : List ℕ) → Keeps p c → Says (inputEnds (tableOf s) (session [] (boardOf s h) p) p) (boardOf s h) 0 out
+    ends : (p : List ℕ) → Keeps p c
+        → Says (inputEnds (tableOf s) (session [] (boardOf s (heldOf h)) p) p) (boardOf s (heldOf h)) 0 out
     ends p k = rw (no-bytes p (rw z at k)) (record { text = refl; board = refl })
 
-pub end-line : (s : List ℕ) (h : Held) (c : DC.Carry) (out : List ℕ) (h′ : Held) (after : ℕ) (done : List ℕ)
+pub end-line : (s : List ℕ) (h : Lists) (c : DC.Carry) (out : List ℕ) (h′ : Lists) (after : ℕ) (done : List ℕ)
     → 0 < length (carryOf c) → 16 ≤ length out → Serves s h (carryOf c) out 0 h′ after done
     → Serves-end s h c h′ after done
 end-line s h c out h′ after done n l v =
     record { says = ends; accepted = v .accepted; room = omega (arith, v .room) }
   where
-    ends : (p : List ℕ) → Keeps p c → Says (inputEnds (tableOf s) (session [] (boardOf s h) p) p) (boardOf s h′) after
-        done
+    ends : (p : List ℕ) → Keeps p c
+        → Says (inputEnds (tableOf s) (session [] (boardOf s (heldOf h)) p) p) (boardOf s (heldOf h′)) after done
     ends [] k = let z = ap (length {A = ℕ}) k in absurd (omega (arith, z, n))
     ends (x ∷ xs) k =
         let e = line-served s h (carryOf c) out 0 h′ after done (x ∷ xs) v (omega (arith, l)) (reads-as (x ∷ xs) c k) in

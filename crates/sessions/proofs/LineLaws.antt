@@ -8,24 +8,27 @@ use Rattle.model.specs.Pools.{Call, answerTo}
 use Rattle.model.specs.Lines.{lineOf}
 use Rattle.model.specs.Lines.Line.{unreadable, reads}
 use Rattle.model.specs.Printing.{answerLine}
-use Rattle.boards.specs.Calls.{Held}
-use Rattle.refusals.specs.Calls.{boardOf, refusalOf, Plays}
+use Rattle.boards.specs.Layout.{Lists}
+use Rattle.refusals.specs.Held.{heldOf, Accepted}
+use Rattle.refusals.specs.Calls.{boardOf}
+use Rattle.plays.specs.Plays.{PlaysIn}
+use Rattle.plays.proofs.PlayLaws.{accepted-after}
 use Rattle.prints.specs.Printed.{Printed}
 use Rattle.sessions.specs.Serves.{Serves}
 
-module _ (s : List ℕ) (h : Held) (line out : List ℕ) (at after : ℕ) (done : List ℕ) (a : refusalOf s h ≡ 0)
+module _ (s : List ℕ) (l : Lists) (line out : List ℕ) (at after : ℕ) (done : List ℕ) (a : Accepted s l)
     (r : after ≤ at + 16) where
   pub serves-unread : lineOf line ≡ unreadable → Printed out at (answerLine (Refused 16)) after done
-      → Serves s h line out at h after done
+      → Serves s l line out at l after done
   serves-unread e p = record { prints = rw e p; leaves = rw e; accepted = a; room = r }
 
-  pub serves-read : (k : Call) (w : Said) (h′ : Held) → lineOf line ≡ reads k → Plays s h k w h′
-      → Printed out at (answerLine w) after done → Serves s h line out at h′ after done
-  serves-read k w h′ e p q =
-      let says : w ≡ answerTo (tableOf s) (boardOf s h) k .said = rw a at (p .says) in
+  pub serves-read : (k : Call) (w : Said) (l′ : Lists) → lineOf line ≡ reads k → PlaysIn s l k w l′
+      → Printed out at (answerLine w) after done → Serves s l line out at l′ after done
+  serves-read k w l′ e p q =
+      let says : w ≡ answerTo (tableOf s) (boardOf s (heldOf l)) k .said = rw (a .accepted) at (p .plays .says) in
       record {
         prints = rw e (subst (λ (v : Said). Printed out at (answerLine v) after done) says q);
-        leaves = rw e (p .leaves a);
-        accepted = p .accepted a;
+        leaves = rw e (p .plays .leaves (a .accepted));
+        accepted = accepted-after s l k a w l′ p;
         room = r;
       }

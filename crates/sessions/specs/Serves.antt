@@ -10,21 +10,22 @@ use Rattle.model.specs.Pools.{Answer}
 use Rattle.model.specs.Printing.{answerLine}
 use Rattle.model.specs.Sessions.{Session, lineAnswer, fed, inputEnds}
 use Rattle.lines.specs.Views.{byteAt}
-use Rattle.boards.specs.Calls.{Held}
-use Rattle.refusals.specs.Calls.{boardOf, refusalOf}
+use Rattle.boards.specs.Layout.{Lists}
+use Rattle.refusals.specs.Held.{heldOf, Accepted}
+use Rattle.refusals.specs.Calls.{boardOf}
 use Rattle.prints.specs.Printed.{Printed}
 use Rattle.sessions.specs.declared.Carry as DC
 
 -- the model's answer to the bytes of a line
-abbrev pub answerOn : List ℕ → Held → List ℕ → Answer
-answerOn s h line = lineAnswer (tableOf s) (boardOf s h) (lineOf line)
+abbrev pub answerOn : List ℕ → Lists → List ℕ → Answer
+answerOn s l line = lineAnswer (tableOf s) (boardOf s (heldOf l)) (lineOf line)
 
--- a line on h leaves h′, and turns the lent buffer from out to done by what is printed at a place
-pub record Serves (s : List ℕ) (h : Held) (line out : List ℕ) (at : ℕ) (h′ : Held) (after : ℕ) (done : List ℕ) :
+-- a line on l leaves l′, and turns the lent buffer from out to done by what is printed at a place
+pub record Serves (s : List ℕ) (l : Lists) (line out : List ℕ) (at : ℕ) (l′ : Lists) (after : ℕ) (done : List ℕ) :
     Type 0 where
-  pub prints : Printed out at (answerLine (answerOn s h line .said)) after done
-  pub leaves : boardOf s h′ ≡ answerOn s h line .board
-  pub accepted : refusalOf s h′ ≡ 0
+  pub prints : Printed out at (answerLine (answerOn s l line .said)) after done
+  pub leaves : boardOf s (heldOf l′) ≡ answerOn s l line .board
+  pub accepted : Accepted s l′
   pub room : after ≤ at + 16
 
 abbrev pub carryOf : DC.Carry → List ℕ
@@ -46,19 +47,19 @@ pub record Says (x : Session) (b : Board) (after : ℕ) (done : List ℕ) : Type
   pub text : take after done ≡ x .text
   pub board : b ≡ x .board
 
--- a chunk of input on h, after the bytes that c keeps, leaves h′ and c′
-pub record Serves-chunk (s : List ℕ) (h : Held) (c : DC.Carry) (input : List ℕ) (h′ : Held) (c′ : DC.Carry) (after : ℕ)
-    (done : List ℕ) : Type 0 where
+-- a chunk of input on l, after the bytes that c keeps, leaves l′ and c′
+pub record Serves-chunk (s : List ℕ) (l : Lists) (c : DC.Carry) (input : List ℕ) (l′ : Lists) (c′ : DC.Carry)
+    (after : ℕ) (done : List ℕ) : Type 0 where
   pub says : (p : List ℕ) → Keeps p c
-      → let x = fed (tableOf s) (session [] (boardOf s h) p) input in
-      Says x (boardOf s h′) after done × Keeps (x .partial) c′
-  pub accepted : refusalOf s h′ ≡ 0
+      → let x = fed (tableOf s) (session [] (boardOf s (heldOf l)) p) input in
+      Says x (boardOf s (heldOf l′)) after done × Keeps (x .partial) c′
+  pub accepted : Accepted s l′
   pub room : after ≤ length done
   pub kept : c′ .len ≤ 81
 
--- the end of input on h, after the bytes that c keeps, leaves h′
-pub record Serves-end (s : List ℕ) (h : Held) (c : DC.Carry) (h′ : Held) (after : ℕ) (done : List ℕ) : Type 0 where
+-- the end of input on l, after the bytes that c keeps, leaves l′
+pub record Serves-end (s : List ℕ) (l : Lists) (c : DC.Carry) (l′ : Lists) (after : ℕ) (done : List ℕ) : Type 0 where
   pub says : (p : List ℕ) → Keeps p c
-      → Says (inputEnds (tableOf s) (session [] (boardOf s h) p) p) (boardOf s h′) after done
-  pub accepted : refusalOf s h′ ≡ 0
+      → Says (inputEnds (tableOf s) (session [] (boardOf s (heldOf l)) p) p) (boardOf s (heldOf l′)) after done
+  pub accepted : Accepted s l′
   pub room : after ≤ 16

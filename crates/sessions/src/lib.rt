@@ -1,19 +1,20 @@
-// What the program does with the bytes of its input: lines are cut at line feeds, read, played and answered.
+// What the program does with the bytes of its input: lines are cut at line feeds, read, played and answered. The
+// messages below `start` are consumed, so that no look reads them.
 ghost use mathlib.Core.Path.{_≡_};
 ghost use mathlib.Core.List.{_++_};
 ghost use Prim.Native.Nat.{_+_, _*_, _≤_};
-ghost use lib.ListN.{length, take};
-ghost use Rattle.boards.specs.Calls.{heldBy};
-ghost use Rattle.refusals.specs.Calls.{refusalOf};
+ghost use lib.ListN.{length, getD, take};
+ghost use Rattle.columns.specs.Columns.{Passed};
+ghost use Rattle.boards.specs.Layout.{lists, statusesIn};
+ghost use Rattle.refusals.specs.Held.{Accepted};
 ghost use Rattle.sessions.specs.Serves.{Serves, Serves-chunk, Serves-end, carryOf};
-use boards::Board;
 use lines::Line;
 use state::Said;
 
-// The board after a line, and the place after what was printed.
+// The place after what was printed, and where the messages start that are not all consumed.
 pub struct Served {
-    pub board: Board,
     pub at: usize,
+    pub start: u16,
 }
 
 // The bytes since the last line feed; of a line over 80 bytes only the first 81.
@@ -22,62 +23,51 @@ pub struct Carry {
     pub len: usize,
 }
 
-// The board and the bytes since the last line feed after a chunk of input, and the place after what was printed.
+// The same after a chunk of input.
 pub struct Chunk {
-    pub board: Board,
     pub carry: Carry,
     pub at: usize,
+    pub start: u16,
 }
 
-// A line on a board that the first tests accept: its answer is printed at a place.
+// A line on lists that the first tests accept: its answer is printed at a place.
 pub fn serve_line(
     table: &[u8],
-    b: Board,
+    board: &mut [u16],
+    bytes: &mut [u8],
+    links: &mut [u16],
+    keys: &mut [u32],
+    cents: &mut [i64],
     line: &[u8],
     out: &mut [u8],
     at: usize,
-    channels: &mut [u8],
-    properties: &mut [u32],
-    cents: &mut [i64],
-    statuses: &mut [u8],
-    matched: &mut [u16],
-    wakers: &mut [u16],
-    chords: &mut [u8],
-    messages: &mut [u16],
+    start: u16,
 ) -> Served
-    requires { ⌜ refusalOf (now table) (heldBy b (now channels) (now properties) (now cents)
-        (now statuses) (now matched) (now wakers) (now chords) (now messages)) ≡ 0 ⌝ }
+    requires { ⌜ Accepted (now table) (lists (now board) (now bytes) (now links) (now keys) (now cents)) ⌝ }
+    requires { ⌜ Passed start (getD (now board) 0 0) (statusesIn (now bytes)) ⌝ }
     requires { ⌜ at + 16 ≤ length (now out) ⌝ }
     ensures { λ r. ⌜ Serves (now (table .entry))
-        (heldBy b (now (channels .entry)) (now (properties .entry)) (now (cents .entry)) (now (statuses .entry))
-        (now (matched .entry)) (now (wakers .entry)) (now (chords .entry)) (now (messages .entry)))
+        (lists (now (board .entry)) (now (bytes .entry)) (now (links .entry)) (now (keys .entry)) (now (cents .entry)))
         (now (line .entry)) (now (out .entry)) at
-        (heldBy (r .board) (now (channels .exit)) (now (properties .exit)) (now (cents .exit)) (now (statuses .exit))
-        (now (matched .exit)) (now (wakers .exit)) (now (chords .exit)) (now (messages .exit)))
+        (lists (now (board .exit)) (now (bytes .exit)) (now (links .exit)) (now (keys .exit)) (now (cents .exit)))
         (r .at) (now (out .exit)) ⌝ }
+    ensures { λ r. ⌜ Passed (r .start) (getD (now (board .exit)) 0 0) (statusesIn (now (bytes .exit))) ⌝ }
 {
     let l = lines::read_line(line);
     let Line::Reads(call) = l else {
         let e = prints::put_answer(out, at, Said::Refused(16));
-        return Served { board: b, at: e };
+        return Served {
+            at: e,
+            start: start,
+        };
     };
-    let a = valued::play(
-        table,
-        b,
-        call,
-        channels,
-        properties,
-        cents,
-        statuses,
-        matched,
-        wakers,
-        chords,
-        messages,
-    );
+    let a = plays::play(table, board, bytes, links, keys, cents, call, start);
     let said = a.said;
     let e = prints::put_answer(out, at, said);
-    let next = a.board;
-    Served { board: next, at: e }
+    Served {
+        at: e,
+        start: a.start,
+    }
 }
 
 // No bytes yet.
@@ -119,154 +109,125 @@ pub fn with_bytes(c: Carry, s: &[u8]) -> Carry
 // A line whose bytes were kept.
 fn serve_kept(
     table: &[u8],
-    b: Board,
+    board: &mut [u16],
+    bytes: &mut [u8],
+    links: &mut [u16],
+    keys: &mut [u32],
+    cents: &mut [i64],
     kept: Carry,
     out: &mut [u8],
     at: usize,
-    channels: &mut [u8],
-    properties: &mut [u32],
-    cents: &mut [i64],
-    statuses: &mut [u8],
-    matched: &mut [u16],
-    wakers: &mut [u16],
-    chords: &mut [u8],
-    messages: &mut [u16],
+    start: u16,
 ) -> Served
-    requires { ⌜ refusalOf (now table) (heldBy b (now channels) (now properties) (now cents)
-        (now statuses) (now matched) (now wakers) (now chords) (now messages)) ≡ 0 ⌝ }
+    requires { ⌜ Accepted (now table) (lists (now board) (now bytes) (now links) (now keys) (now cents)) ⌝ }
+    requires { ⌜ Passed start (getD (now board) 0 0) (statusesIn (now bytes)) ⌝ }
     requires { ⌜ (kept .len ≤ 81) × (at + 16 ≤ length (now out)) ⌝ }
     ensures { λ r. ⌜ Serves (now (table .entry))
-        (heldBy b (now (channels .entry)) (now (properties .entry)) (now (cents .entry)) (now (statuses .entry))
-        (now (matched .entry)) (now (wakers .entry)) (now (chords .entry)) (now (messages .entry)))
+        (lists (now (board .entry)) (now (bytes .entry)) (now (links .entry)) (now (keys .entry)) (now (cents .entry)))
         (carryOf kept) (now (out .entry)) at
-        (heldBy (r .board) (now (channels .exit)) (now (properties .exit)) (now (cents .exit)) (now (statuses .exit))
-        (now (matched .exit)) (now (wakers .exit)) (now (chords .exit)) (now (messages .exit)))
+        (lists (now (board .exit)) (now (bytes .exit)) (now (links .exit)) (now (keys .exit)) (now (cents .exit)))
         (r .at) (now (out .exit)) ⌝ }
+    ensures { λ r. ⌜ Passed (r .start) (getD (now (board .exit)) 0 0) (statusesIn (now (bytes .exit))) ⌝ }
 {
-    let bytes = kept.bytes;
+    let line = kept.bytes;
     let n = kept.len;
     serve_line(
         table,
-        b,
-        &bytes[..n],
+        board,
+        bytes,
+        links,
+        keys,
+        cents,
+        &line[..n],
         out,
         at,
-        channels,
-        properties,
-        cents,
-        statuses,
-        matched,
-        wakers,
-        chords,
-        messages,
+        start,
     )
 }
 
-// A chunk of input on a board that the first tests accept: each line that ends in it is served.
+// A chunk of input on lists that the first tests accept: each line that ends in it is served.
 pub fn serve_chunk(
     table: &[u8],
-    b: Board,
+    board: &mut [u16],
+    bytes: &mut [u8],
+    links: &mut [u16],
+    keys: &mut [u32],
+    cents: &mut [i64],
     carry: Carry,
     input: &[u8],
     out: &mut [u8],
-    channels: &mut [u8],
-    properties: &mut [u32],
-    cents: &mut [i64],
-    statuses: &mut [u8],
-    matched: &mut [u16],
-    wakers: &mut [u16],
-    chords: &mut [u8],
-    messages: &mut [u16],
+    start: u16,
 ) -> Chunk
-    requires { ⌜ refusalOf (now table) (heldBy b (now channels) (now properties) (now cents)
-        (now statuses) (now matched) (now wakers) (now chords) (now messages)) ≡ 0 ⌝ }
+    requires { ⌜ Accepted (now table) (lists (now board) (now bytes) (now links) (now keys) (now cents)) ⌝ }
+    requires { ⌜ Passed start (getD (now board) 0 0) (statusesIn (now bytes)) ⌝ }
     requires { ⌜ (carry .len ≤ 81) × (16 * length (now input) ≤ length (now out)) ⌝ }
     ensures { λ r. ⌜ Serves-chunk (now (table .entry))
-        (heldBy b (now (channels .entry)) (now (properties .entry)) (now (cents .entry)) (now (statuses .entry))
-        (now (matched .entry)) (now (wakers .entry)) (now (chords .entry)) (now (messages .entry)))
+        (lists (now (board .entry)) (now (bytes .entry)) (now (links .entry)) (now (keys .entry)) (now (cents .entry)))
         carry (now (input .entry))
-        (heldBy (r .board) (now (channels .exit)) (now (properties .exit)) (now (cents .exit)) (now (statuses .exit))
-        (now (matched .exit)) (now (wakers .exit)) (now (chords .exit)) (now (messages .exit)))
+        (lists (now (board .exit)) (now (bytes .exit)) (now (links .exit)) (now (keys .exit)) (now (cents .exit)))
         (r .carry) (r .at) (now (out .exit)) ⌝ }
+    ensures { λ r. ⌜ Passed (r .start) (getD (now (board .exit)) 0 0) (statusesIn (now (bytes .exit))) ⌝ }
 {
-    let mut board = b;
     let mut kept = carry;
     let mut at: usize = 0;
+    let mut next = start;
     let mut from: usize = 0;
     let mut end = lines::byte_from(input, 0, b'\n');
     while end < input.len() {
         let line = with_bytes(kept, &input[from..end]);
-        let served = serve_kept(
-            table,
-            board,
-            line,
-            out,
-            at,
-            channels,
-            properties,
-            cents,
-            statuses,
-            matched,
-            wakers,
-            chords,
-            messages,
-        );
-        board = served.board;
+        let served = serve_kept(table, board, bytes, links, keys, cents, line, out, at, next);
         at = served.at;
+        next = served.start;
         kept = no_bytes();
         from = end + 1;
         end = lines::byte_from(input, from, b'\n');
     }
     let rest = with_bytes(kept, &input[from..]);
     Chunk {
-        board: board,
         carry: rest,
         at: at,
+        start: next,
     }
 }
 
-// The end of input on a board that the first tests accept: bytes after the last line feed are a line.
+// The end of input on lists that the first tests accept: bytes after the last line feed are a line.
 pub fn serve_end(
     table: &[u8],
-    b: Board,
+    board: &mut [u16],
+    bytes: &mut [u8],
+    links: &mut [u16],
+    keys: &mut [u32],
+    cents: &mut [i64],
     carry: Carry,
     out: &mut [u8],
-    channels: &mut [u8],
-    properties: &mut [u32],
-    cents: &mut [i64],
-    statuses: &mut [u8],
-    matched: &mut [u16],
-    wakers: &mut [u16],
-    chords: &mut [u8],
-    messages: &mut [u16],
+    start: u16,
 ) -> Served
-    requires { ⌜ refusalOf (now table) (heldBy b (now channels) (now properties) (now cents)
-        (now statuses) (now matched) (now wakers) (now chords) (now messages)) ≡ 0 ⌝ }
+    requires { ⌜ Accepted (now table) (lists (now board) (now bytes) (now links) (now keys) (now cents)) ⌝ }
+    requires { ⌜ Passed start (getD (now board) 0 0) (statusesIn (now bytes)) ⌝ }
     requires { ⌜ (carry .len ≤ 81) × (16 ≤ length (now out)) ⌝ }
     ensures { λ r. ⌜ Serves-end (now (table .entry))
-        (heldBy b (now (channels .entry)) (now (properties .entry)) (now (cents .entry)) (now (statuses .entry))
-        (now (matched .entry)) (now (wakers .entry)) (now (chords .entry)) (now (messages .entry)))
+        (lists (now (board .entry)) (now (bytes .entry)) (now (links .entry)) (now (keys .entry)) (now (cents .entry)))
         carry
-        (heldBy (r .board) (now (channels .exit)) (now (properties .exit)) (now (cents .exit)) (now (statuses .exit))
-        (now (matched .exit)) (now (wakers .exit)) (now (chords .exit)) (now (messages .exit)))
+        (lists (now (board .exit)) (now (bytes .exit)) (now (links .exit)) (now (keys .exit)) (now (cents .exit)))
         (r .at) (now (out .exit)) ⌝ }
+    ensures { λ r. ⌜ Passed (r .start) (getD (now (board .exit)) 0 0) (statusesIn (now (bytes .exit))) ⌝ }
 {
     if carry.len == 0 {
-        return Served { board: b, at: 0 };
+        return Served {
+            at: 0,
+            start: start,
+        };
     }
     serve_kept(
         table,
-        b,
+        board,
+        bytes,
+        links,
+        keys,
+        cents,
         carry,
         out,
         0,
-        channels,
-        properties,
-        cents,
-        statuses,
-        matched,
-        wakers,
-        chords,
-        messages,
+        start,
     )
 }

@@ -1,20 +1,36 @@
 -- `reports::put_open_line` meets its contract: a consumed message has no line.
+use mathlib.Core.Path.{_≡_}
 use native.Mathlib.Omega.{arith}
+use Prim.Native.Nat.{_+_}
 use lib.ListN.{getD}
+use Rattle.boards.specs.Layout.{statusesIn}
+use Rattle.boards.proofs.PartLaws.{getD-part}
 use Rattle.prints.proofs.Texts.{none}
 use Rattle.reports.proofs.BoardLines.{item-none, item-line}
 use borrow.Author.Needs.{needs}
 use Rattle.reports.proofs.put_open_line.Statement.{statement}
 use Rattle.reports.proofs.put_open_line.Tie as tie
 
+-- the byte that is read is the message's status
+status : (s : tie.Start)
+    → let a = s .args in
+    getD (statusesIn (a .bytes .now)) (a .n) 0 ≡ getD (a .bytes .now) (1024 + a .n) 0
+status s =
+    let a = s .args in
+    getD-part 1024 1024 (a .bytes .now) (1024 + a .n) (a .n) 0 (omega arith) (s .pre .1)
+
+add-status : tie.Need-add-status
+add-status c = search needs
+
 shared-slice-read-status : tie.Need-shared-slice-read-status
 shared-slice-read-status c = search needs
 
 returns : tie.Need-returns
 returns c =
-    let a = c .before .before .before .before .args in
-    let e = item-none (a .n) (getD (a .statuses .now) (a .n) 0) (omega (arith, c .if1 .taken)) in
-    (rw e (none (a .out .now) (a .at)), omega arith)
+    let s = c .before .before .before .before in
+    let a = s .args in
+    let e = item-none (a .n) (getD (a .bytes .now) (1024 + a .n) 0) (omega (arith, c .if1 .taken)) in
+    (rw (status s, e) (none (a .out .now) (a .at)), omega arith)
 
 put-open-requires : tie.Need-put-open-requires
 put-open-requires c κs = search needs
@@ -26,10 +42,12 @@ returns-2 : tie.Need-returns-2
 returns-2 c =
     let p = c .before .before in
     let i = p .before .before in
-    let a = i .before .before .before .before .args in
-    let e = item-line (a .n) (getD (a .statuses .now) (a .n) 0) (omega (arith, i .if1 .left)) in
-    (rw e (p .put-open .ensures .0), p .put-open .ensures .1)
+    let s = i .before .before .before .before in
+    let a = s .args in
+    let e = item-line (a .n) (getD (a .bytes .now) (1024 + a .n) 0) (omega (arith, i .if1 .left)) in
+    (rw (status s, e) (p .put-open .ensures .0), p .put-open .ensures .1)
 
 pub put-open-line-spec : {M : Type 1} → statement M
 put-open-line-spec =
-    tie.close (tie.spec shared-slice-read-status returns put-open-requires same-length returns-2)
+    tie.close
+    (tie.spec add-status shared-slice-read-status returns put-open-requires same-length returns-2)

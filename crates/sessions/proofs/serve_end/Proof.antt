@@ -13,12 +13,16 @@ use Rattle.sessions.proofs.serve_end.Tie as tie
 -- no more bytes are kept than there are places
 held : (s : tie.Start) → s .args .carry .len ≤ length (s .args .carry .bytes)
 held s =
-    let l : length (s .args .carry .bytes) ≡ 81 = simp length-map at (s .good .1 .1 .0 .1 .1 .0 .1 .0 .1) in
-    omega (arith, s .pre .1 .0)
+    let l : length (s .args .carry .bytes) ≡ 81 = simp length-map at (s .good .1 .1 .1 .1 .1 .1 .0 .1 .1 .0 .1 .0 .1) in
+    omega (arith, s .pre .1 .1 .0)
+
+abbrev start : tie.After-struct-known → tie.Start
+start c = c .before .before .before .before .before .before .before
 
 returns : tie.Need-returns
-returns c = end-none _ _ _ _ (c .if1 .taken) (c .before .before .before .before .before .before .before .before .before
-    .before .before .pre .0)
+returns c =
+    let s = start (c .before) in
+    (end-none _ _ _ _ (c .if1 .taken) (s .pre .0), s .pre .1 .0)
 
 serve-kept-requires : tie.Need-serve-kept-requires
 serve-kept-requires c κs = search needs
@@ -41,25 +45,16 @@ same-length-5 c = search needs
 same-length-6 : tie.Need-same-length-6
 same-length-6 c = search needs
 
-same-length-7 : tie.Need-same-length-7
-same-length-7 c = search needs
-
-same-length-8 : tie.Need-same-length-8
-same-length-8 c = search needs
-
-same-length-9 : tie.Need-same-length-9
-same-length-9 c = search needs
-
 returns-2 : tie.Need-returns-2
 returns-2 c =
-    let w = c .before .before .before .before .before .before .before .before .before .before .before .before .before
-    .before .before .before .before in
-    let e = w .before .before .before .before .before .before .before .before .before .before in
-    let s = e .before .before .before .before .before .before .before .before .before .before .before in
+    let w = c .before .before .before .before .before .before .before .before .before .before .before in
+    let e = w .before .before .before .before .before .before .before in
+    let s = start (e .before) in
     let k = s .args .carry in
     let n = length-take-le (k .len) (k .bytes) (held s) in
     let some : 0 < length (carryOf k) = omega (arith, n, e .if1 .left) in
-    end-line _ _ k _ _ _ _ some (s .pre .1 .1) (w .serve-kept .ensures)
+    let r = w .serve-kept .ensures in
+    (end-line _ _ k _ _ _ _ some (s .pre .1 .1 .1) (r .0), r .1)
 
 pub serve-end-spec : {M : Type 1} → statement M
 serve-end-spec =
@@ -73,7 +68,4 @@ serve-end-spec =
     same-length-4
     same-length-5
     same-length-6
-    same-length-7
-    same-length-8
-    same-length-9
     returns-2)

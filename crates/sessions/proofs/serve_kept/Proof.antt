@@ -11,19 +11,24 @@ use Rattle.sessions.proofs.serve_kept.Tie as tie
 -- no more bytes are kept than there are places
 held : (s : tie.Start) → s .args .kept .len ≤ length (s .args .kept .bytes)
 held s =
-    let l : length (s .args .kept .bytes) ≡ 81 = simp length-map at (s .good .1 .1 .0 .1 .1 .0 .1 .0 .1) in
-    omega (arith, s .pre .1 .0)
+    let l : length (s .args .kept .bytes) ≡ 81 = simp length-map at (s .good .1 .1 .1 .1 .1 .1 .0 .1 .1 .0 .1 .0 .1) in
+    omega (arith, s .pre .1 .1 .0)
 
-array-share-prefix-bytes : tie.Need-array-share-prefix-bytes
-array-share-prefix-bytes c = held (c .before .before .before .before .before .before .before .before .before .before)
+abbrev start : tie.After-line → tie.Start
+start c = c .before .before .before .before .before .before .before
+
+array-share-prefix-line : tie.Need-array-share-prefix-line
+array-share-prefix-line c = held (start (c .before .before .before .before .before))
 
 slice-aggregate-serve-line : tie.Need-slice-aggregate-serve-line
 slice-aggregate-serve-line c =
-    let s = c .before .before .before .before .before .before .before .before .before .before .before in
+    let s = start (c .before .before .before .before .before .before) in
     sym (length-take-le (s .args .kept .len) (s .args .kept .bytes) (held s))
 
 serve-line-requires : tie.Need-serve-line-requires
-serve-line-requires c κs = search needs
+serve-line-requires c κs =
+    let s = start (c .before .before .before .before .before .before .before) in
+    (s .pre .0, (s .pre .1 .0, s .pre .1 .1 .1))
 
 same-length : tie.Need-same-length
 same-length c = search needs
@@ -43,15 +48,6 @@ same-length-5 c = search needs
 same-length-6 : tie.Need-same-length-6
 same-length-6 c = search needs
 
-same-length-7 : tie.Need-same-length-7
-same-length-7 c = search needs
-
-same-length-8 : tie.Need-same-length-8
-same-length-8 c = search needs
-
-same-length-9 : tie.Need-same-length-9
-same-length-9 c = search needs
-
 returns : tie.Need-returns
 returns c = search needs
 
@@ -59,7 +55,7 @@ pub serve-kept-spec : {M : Type 1} → statement M
 serve-kept-spec =
     tie.close
     (tie.spec
-    array-share-prefix-bytes
+    array-share-prefix-line
     slice-aggregate-serve-line
     serve-line-requires
     same-length
@@ -68,7 +64,4 @@ serve-kept-spec =
     same-length-4
     same-length-5
     same-length-6
-    same-length-7
-    same-length-8
-    same-length-9
     returns)

@@ -6,6 +6,9 @@ use borrow.Author.Needs.{needs}
 use Rattle.sessions.proofs.serve_line.Statement.{statement}
 use Rattle.sessions.proofs.serve_line.Tie as tie
 
+abbrev start : tie.After-read-line → tie.Start
+start c = c .before .before .before .before .before .before .before .before
+
 read-line-requires : tie.Need-read-line-requires
 read-line-requires c κs = search needs
 
@@ -26,19 +29,16 @@ returns c =
     let w = c .before .before in
     let t = w .before .before in
     let l = t .before .before in
-    let s = l .before .before .before .before .before .before .before .before .before .before .before in
+    let s = start l in
     let e = sym (l .read-line .ensures) ∙ ap lineIn (t .enum-told .given .1) in
-    serves-unread _ _ _ _ _ _ _ (s .pre .0) (w .put-answer .ensures .1) e (w .put-answer .ensures .0)
+    let r = w .put-answer .ensures in
+    (serves-unread _ _ _ _ _ _ _ (s .pre .0) (r .1) e (r .0), s .pre .1 .0)
 
 play-requires : tie.Need-play-requires
 play-requires c κs = search needs
 
 put-answer-requires-2 : tie.Need-put-answer-requires-2
-put-answer-requires-2 c κs =
-    let w = c .before .before .before .before .before .before .before .before .before .before .before .before .before
-    .before .before .before in
-    let l = w .before .before .before .before .before .before .before .before .before .before .before .before in
-    l .before .before .before .before .before .before .before .before .before .before .before .pre .1
+put-answer-requires-2 c κs = search needs
 
 same-length-2 : tie.Need-same-length-2
 same-length-2 c = search needs
@@ -58,26 +58,16 @@ same-length-6 c = search needs
 same-length-7 : tie.Need-same-length-7
 same-length-7 c = search needs
 
-same-length-8 : tie.Need-same-length-8
-same-length-8 c = search needs
-
-same-length-9 : tie.Need-same-length-9
-same-length-9 c = search needs
-
-same-length-10 : tie.Need-same-length-10
-same-length-10 c = search needs
-
 returns-2 : tie.Need-returns-2
 returns-2 c =
-    let w = c .before .before .before in
-    let y = w .before .before .before .before .before .before .before .before .before .before .before .before .before
-    .before .before .before .before in
-    let k = y .before .before .before .before .before .before .before .before .before .before in
+    let w = c .before .before in
+    let y = w .before .before .before .before .before .before .before .before .before .before .before in
+    let k = y .before .before .before .before .before .before .before in
     let l = k .before .before in
-    let s = l .before .before .before .before .before .before .before .before .before .before .before in
     let e = sym (l .read-line .ensures) ∙ ap lineIn (k .l .given .1) in
-    serves-read _ _ _ _ _ _ _ (s .pre .0) (w .put-answer2 .ensures .1) _ _ _ e (y .play .ensures)
-    (w .put-answer2 .ensures .0)
+    let r = w .put-answer2 .ensures in
+    let p = y .play .ensures in
+    (serves-read _ _ _ _ _ _ _ (start l .pre .0) (r .1) _ _ _ e (p .0) (r .0), p .1)
 
 pub serve-line-spec : {M : Type 1} → statement M
 serve-line-spec =
@@ -97,7 +87,4 @@ serve-line-spec =
     same-length-5
     same-length-6
     same-length-7
-    same-length-8
-    same-length-9
-    same-length-10
     returns-2)
