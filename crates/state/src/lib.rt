@@ -386,8 +386,8 @@ fn sync_end(table: &[u8], d: Sender, subject: u16, channel: u8, consumed: bool) 
     matched_end(d)
 }
 
-// The end of a job, by what was read: whether the own message's channel is synchronous, the waker's channel, and whether
-// the waker is consumed.
+// The end of a job, by what was read: whether the own message's channel is synchronous, the waker's channel, and
+// whether the waker is consumed.
 pub fn job_end(
     table: &[u8],
     d: Sender,
