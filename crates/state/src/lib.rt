@@ -137,6 +137,7 @@ pub fn value_of(said: Said) -> u16
         Said::Lost(n) => n,
         Said::Reverted(n) => n,
         Said::Matched(n) => n,
+        Said::Answered(n) => n,
         Said::Consumed(n) => n,
         Said::Told(n) => n,
         Said::Woke(n) => n,
@@ -145,7 +146,6 @@ pub fn value_of(said: Said) -> u16
         Said::Again => 0,
         Said::Ended => 0,
         Said::Rested => 0,
-        Said::Answered(n) => n,
         Said::Resumed => 0,
         Said::Refused(_) => 0,
     }
