@@ -211,7 +211,8 @@ pub fn tell_step(
 ) -> Effect
     requires { ⌜ (tableRefusal (now table) ≡ 0) × (d .job .chord < length (tableOf (now table) .chords)) ⌝ }
     requires { ⌜ (d .job .phase ≡ P.Tell k)
-        × ChoiceLent (tableOf (now table)) (d .job .chosen) (now channels) (size (tableOf (now table)) (d .job .chord)) n
+        × ChoiceLent (tableOf (now table)) (d .job .chosen) (now channels)
+        (size (tableOf (now table)) (d .job .chord)) n
         × Left (tableOf (now table)) (now channels) n (d .job .subject)
         (take (size (tableOf (now table)) (d .job .chord)) (d .job .chosen)) k ⌝ }
     ensures { λ r. ⌜ ((pr st : List ℕ) (o : Unread)

@@ -13,7 +13,7 @@ use Rattle.model.specs.Steps.{look-step, claim-step, revert-step, consum
 use Rattle.model.specs.Steps.{skip, free-step, signal-step, more, pass-end-step, backoff-step, resume-step}
 use Rattle.model.specs.Steps.{stepBy}
 use Rattle.model.specs.Adds.{addRefusal, added}
-use Rattle.model.specs.Samples.{outcome, samples, expected, runOf, tableP, scheduleP, runP}
+use Rattle.model.specs.Samples.{outcome, samples, expected, shownBy, tableP, scheduleP, shownP}
 
 -- to unfold this is to unfold every definition that a run computes with
 unfoldable pub opened : ℕ
@@ -27,6 +27,6 @@ pub m-items : map outcome samples ≡ map expected samples
 unfolding opened
 m-items = refl
 
-pub run-of-P : runOf (tableOf tableP) scheduleP ≡ runP
+pub run-of-P : shownBy (tableOf tableP) scheduleP ≡ shownP
 unfolding opened
 run-of-P = refl

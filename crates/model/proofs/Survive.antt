@@ -5,21 +5,21 @@ use mathlib.Core.Bool.{true}
 use mathlib.Core.List.{List, [], _∷_, _++_}
 use Prim.Native.Nat.{ℕ, _<_, _*_, zero, suc, _+_, _%_, _/_, _≤_}
 use borrow.Author.Tests.{lt-ltb, ltb-true}
-use lib.Dec.{T, ltb, eqb}
+use lib.Dec.{T, ltb}
 use lib.ListN.{drop, getD, take, length, length-drop, take-append-drop}
 use lib.Seq.{drop-drop, drop-cons, take-add, length-take-le, getD-drop, take-length}
 use native.Mathlib.Numerals.{add-one}
 use native.Mathlib.Omega.{arith}
 use Rattle.model.specs.Tables.{chordAt}
 use Rattle.model.specs.Layout.{tableRefusal, countR, chordPart, tableOf, chordRefusal, chordsStart, countT}
-use Rattle.model.specs.Layout.{membersStart, allBytes, two, word, writtenHeader, countM, flag, writtenMembers}
+use Rattle.model.specs.Layout.{membersStart, allBytes, two, word, writtenHeader, countM, writtenMembers}
 use Rattle.model.specs.Layout.{chordsFrom, membersSum, chordsOk, writtenChords, chordOk, memberBytes}
 use Rattle.model.specs.Layout.{chordBytes, tableBytes, Tables-survive}
 use Rattle.model.proofs.Tests.{both}
 use Rattle.model.proofs.Accepted.{accepted, Accepted}
 use Rattle.model.proofs.AcceptedChords.{says-at, channels-of, chord-says, length-members, length-kinds}
 use Rattle.model.proofs.AcceptedChords.{length-chords}
-use Rattle.model.proofs.Written.{table-there}
+use Rattle.model.proofs.Written.{flag-byte, table-there}
 
 -- a chord's channels as a part of the bytes
 chord-part : (s : List ℕ) (r : ℕ) → tableRefusal s ≡ 0 → r < countR s
@@ -65,11 +65,6 @@ take-header s a b =
       a .chords-from,
       a .members-from,
     )
-
-flag-byte : (k : ℕ) → k ≤ 1 → flag (eqb k 1) ≡ k
-flag-byte zero h = refl
-flag-byte (suc zero) h = refl
-flag-byte (suc (suc k)) h = absurd (omega arith)
 
 members-back : (n : ℕ) (s ms : List ℕ) → writtenMembers (chordsFrom n s ms) ≡ take (membersSum n s) ms
 members-back zero s ms = refl

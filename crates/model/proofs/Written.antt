@@ -3,7 +3,7 @@
 use mathlib.Core.Path.{_≡_, refl, sym}
 use mathlib.Core.Bool.{true, Bool, false}
 use mathlib.Core.List.{List, [], _∷_, _++_}
-use Prim.Native.Nat.{ℕ, _*_, _+_}
+use Prim.Native.Nat.{ℕ, zero, suc, _*_, _+_, _≤_}
 use borrow.Author.Tests.{eq-eqb, leb-true}
 use lib.Dec.{T, leb, eqb, ltb}
 use lib.ListN.{length, length-append, take, drop}
@@ -36,13 +36,19 @@ chord-kept T c e =
     let q = both {t = leb (length (c .channels)) 8} (p .1) in
     (p .0, q .0, q .1)
 
+-- a flag as a byte
 pub flag-small : (b : Bool) → leb (flag b) 1 ≡ true
 flag-small true = refl
 flag-small false = refl
 
-flag-read : (b : Bool) → eqb (flag b) 1 ≡ b
+pub flag-read : (b : Bool) → eqb (flag b) 1 ≡ b
 flag-read true = refl
 flag-read false = refl
+
+pub flag-byte : (k : ℕ) → k ≤ 1 → flag (eqb k 1) ≡ k
+flag-byte zero h = refl
+flag-byte (suc zero) h = refl
+flag-byte (suc (suc k)) h = absurd (omega arith)
 
 pub length-entries : (next : ℕ) (cs : List Chord) → length (writtenChords next cs) ≡ 4 * length cs
 length-entries next [] = refl

@@ -92,14 +92,14 @@ scheduleP = scheduleFor 7
 
 -- The run of P: "Printed, a line each", then "match 0 rule 0 cents 5000 items 1 0 / quiet yes", and no `open` line
 
-pub record Run : Type 0 where
+pub record Shown : Type 0 where
   pub said : List Said
   pub matches : List MatchRead
   pub statuses : List Status
   pub quiet : Bool
 
-abbrev pub runOf : Table → List Call → Run
-runOf t cs = record {
+abbrev pub shownBy : Table → List Call → Shown
+shownBy t cs = record {
   said = saidTo t cs;
   matches = matchReads t (boardAfter t builtinBackoffs cs);
   statuses = map (λ x. x .status) (boardAfter t builtinBackoffs cs .messages);
@@ -112,8 +112,8 @@ saidP =
     Item 1 ∷ Looked 1 ∷ Looked 0 ∷ Claimed 1 ∷ Claimed 0 ∷ Woke 0 ∷ Freed 1 ∷ Signalled 0 ∷
     Resumed ∷ Looked 1 ∷ Looked 0 ∷ Claimed 1 ∷ Matched 0 ∷ Consumed 1 ∷ Consumed 0 ∷ Refused 13 ∷ []
 
-abbrev pub runP : Run
-runP = record {
+abbrev pub shownP : Shown
+shownP = record {
   said = saidP;
   matches = record { chord = 0; messages = 1 ∷ 0 ∷ []; cents = pos 5000 } ∷ [];
   statuses = consumed ∷ consumed ∷ [];

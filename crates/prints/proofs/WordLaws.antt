@@ -68,7 +68,8 @@ module _ (w : ℕ) (h : w < 18) where
 module _ (s : Said) {w : ℕ} (e : w ≡ wordOf s) {out mid done : List ℕ} {at p r : ℕ}
     (text : Printed out at (wordAt w .text) p mid) where
   pub line-named : {more : List ℕ} {q : ℕ} → wordAt w .numbered ≡ true
-      → Printed mid p (spaced (numberBeside s)) q more → Printed more q feed r done → Printed out at (answerLine s) r done
+      → Printed mid p (spaced (numberBeside s)) q more → Printed more q feed r done
+      → Printed out at (answerLine s) r done
   line-named f number end = rw (sym e, f) (then text (then number end))
 
   pub line-alone : wordAt w .numbered ≡ false → Printed mid p feed r done → Printed out at (answerLine s) r done

@@ -36,7 +36,8 @@ seen-channel b n m ch sees v = go (tested (ltb v n))
     go (inl e) = rw e (sees .channel v (ltb-true v n e))
     go (inr e) =
         let l = ltb-false v n e in
-        rw e (ap (λ (x : Message). x .sent .channel) (List·getD-eq-default (b .messages) noMessage (omega (arith, sees .count))))
+        let d = List·getD-eq-default (b .messages) noMessage {n = v} (omega (arith, sees .count)) in
+        rw e (ap (λ (x : Message). x .sent .channel) d)
 
 pub flag-le : (c : Bool) → flag c ≤ 1
 flag-le true = omega arith

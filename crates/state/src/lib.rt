@@ -137,6 +137,7 @@ pub fn value_of(said: Said) -> u16
         Said::Lost(n) => n,
         Said::Reverted(n) => n,
         Said::Matched(n) => n,
+        Said::Answered(n) => n,
         Said::Consumed(n) => n,
         Said::Told(n) => n,
         Said::Woke(n) => n,
@@ -145,7 +146,6 @@ pub fn value_of(said: Said) -> u16
         Said::Again => 0,
         Said::Ended => 0,
         Said::Rested => 0,
-        Said::Answered(n) => n,
         Said::Resumed => 0,
         Said::Refused(_) => 0,
     }
@@ -386,8 +386,8 @@ fn sync_end(table: &[u8], d: Sender, subject: u16, channel: u8, consumed: bool) 
     matched_end(d)
 }
 
-// The end of a job, by what was read: whether the own message's channel is synchronous, the waker's channel, and whether
-// the waker is consumed.
+// The end of a job, by what was read: whether the own message's channel is synchronous, the waker's channel, and
+// whether the waker is consumed.
 pub fn job_end(
     table: &[u8],
     d: Sender,

@@ -6,12 +6,25 @@ use borrow.Author.Needs.{needs}
 use Rattle.lines.proofs.add_of.Statement.{statement}
 use Rattle.lines.proofs.add_of.Tie as tie
 
+abbrev start : tie.After-number → tie.Start
+start c = c .before .before .before .before .before
+
+-- one, two and three fields read
+abbrev one : tie.After-number2 → tie.After-number
+one c = c .before .before
+
+abbrev two : tie.After-number3 → tie.After-number2
+two c = c .before .before
+
+abbrev three : tie.After-unsigned-cents → tie.After-number3
+three c = c .before .before
+
 number-requires : tie.Need-number-requires
 number-requires c κs = search needs
 
 returns : tie.Need-returns
 returns c =
-    let a = c .before .before .before .before .before .before .args in
+    let a = start (c .before) .args in
     let e = c .before .number .ensures .0 in
     no-sender (a .sender .now) (a .channel .now) (a .property .now) (a .cents .now) _ e (c .if1 .taken)
 
@@ -20,7 +33,7 @@ number-requires-2 c κs = search needs
 
 returns-2 : tie.Need-returns-2
 returns-2 c =
-    let a = c .before .before .before .before .before .before .before .before .args in
+    let a = start (one (c .before)) .args in
     let e = c .before .number2 .ensures .0 in
     no-channel (a .sender .now) (a .channel .now) (a .property .now) (a .cents .now) _ e (c .if2 .taken)
 
@@ -29,7 +42,7 @@ number-requires-3 c κs = search needs
 
 returns-3 : tie.Need-returns-3
 returns-3 c =
-    let a = c .before .before .before .before .before .before .before .before .before .before .args in
+    let a = start (one (two (c .before))) .args in
     let e = c .before .number3 .ensures .0 in
     no-property (a .sender .now) (a .channel .now) (a .property .now) (a .cents .now) _ e (c .if3 .taken)
 
@@ -38,7 +51,7 @@ unsigned-cents-requires c κs = search needs
 
 returns-4 : tie.Need-returns-4
 returns-4 c =
-    let a = c .before .before .before .before .before .before .before .before .before .before .before .before .args in
+    let a = start (one (two (three (c .before)))) .args in
     let e = c .before .unsigned-cents .ensures .0 in
     no-cents (a .sender .now) (a .channel .now) (a .property .now) (a .cents .now) _ e (c .if4 .taken)
 
@@ -75,7 +88,7 @@ returns-5 c =
     let c3 = c4 .before .before in
     let c2 = c3 .before .before in
     let c1 = c2 .before .before in
-    let a = c1 .before .before .before .before .before .before .args in
+    let a = start (c1 .before) .args in
     let back = toZ-ofZ w64 (c .signed .result) (record { sfits = c .signed .ok }) in
     rw
     (back, c .signed .ensures, c .before .is-minus .ensures)

@@ -42,8 +42,8 @@ returns c =
     let s = saidIn (w .before .before .args .said) in
     let e : n .before .number-beside .result ≡ numberBeside s = n .before .number-beside .ensures in (
       line-named s (w .word-of .ensures .0) (p .put-word .ensures .0)
-          (numbered-is (w .word-of .result) (w .word-of .ensures .1) (i .if1 .taken)) (rw e at (n .put-spaced .ensures .0))
-          (f .put .ensures),
+          (numbered-is (w .word-of .result) (w .word-of .ensures .1) (i .if1 .taken))
+          (rw e at (n .put-spaced .ensures .0)) (f .put .ensures),
       omega (arith, p .put-word .ensures .1, n .put-spaced .ensures .1, f .put .ensures .place),
     )
 

@@ -7,12 +7,15 @@ use borrow.Author.Needs.{needs}
 use Rattle.steps.proofs.effect_of.Statement.{statement}
 use Rattle.steps.proofs.effect_of.Tie as tie
 
+abbrev start : tie.After-shared-slice-known6 → tie.Start
+start c = c .before .before .before .before .before .before
+
 enum-told : tie.Need-enum-told
 enum-told c = search needs
 
 returns : tie.Need-returns
 returns c =
-    let s = c .before .before .before .before .before .before .before .before in
+    let s = start (c .before .before) in
     not-idle (s .args .d) (s .pre .0 .1) (c .enum-told .given .1)
 
 enum-told-2 : tie.Need-enum-told-2
@@ -24,7 +27,7 @@ job-step-requires c κs = search needs
 returns-2 : tie.Need-returns-2
 returns-2 c =
     let g = c .before in
-    let s = g .before .before .before .before .before .before .before .before in
+    let s = start (g .before .before) in
     let a = s .args in
     λ o em eb ea ew. work-is (tableOf (a .table .now))
     (boardBy (a .channels .now) (a .properties .now) (a .statuses .now) (a .n) o) (a .d) (g .enum-told2 .given .1)
@@ -35,7 +38,7 @@ enum-told-3 c = search needs
 
 blocked-step-requires : tie.Need-blocked-step-requires
 blocked-step-requires c κs =
-    let s = c .before .before .before .before .before .before .before .before in
+    let s = start (c .before .before) in
     let r = s .pre .1 .0 in
     let l = r .lent in (
       (s .pre .0 .0, own-some _ _ _ _ _ _ _ r (c .enum-told3 .given .1), own-in _ _ _ _ _ _ _ r),
@@ -45,7 +48,7 @@ blocked-step-requires c κs =
 returns-3 : tie.Need-returns-3
 returns-3 c =
     let g = c .before in
-    let s = g .before .before .before .before .before .before .before .before in
+    let s = start (g .before .before) in
     let a = s .args in
     λ o em eb ea ew. blocked-is (tableOf (a .table .now))
     (boardBy (a .channels .now) (a .properties .now) (a .statuses .now) (a .n) o) (a .d) (g .enum-told3 .given .1)
