@@ -14,16 +14,15 @@ use Rattle.columns.specs.MatchColumns.{MatchColumns}
 use Rattle.columns.proofs.Messages.{length-messages}
 use Rattle.state.specs.declared.Sender as DD
 use Rattle.state.specs.Views.{senderIn}
-use Rattle.boards.specs.declared.Board as DB
-use Rattle.boards.specs.Boards.{boardIn}
+use Rattle.boards.specs.Boards.{HeldBoard, boardIn}
 use Rattle.boards.proofs.SenderLaws.{set-sender}
 use Rattle.adds.proofs.MessageLaws.{Room, message-added}
 
 -- the board with sender i and one message more
-abbrev pub withMessage : DB.Board → ℕ → DD.Sender → DB.Board
+abbrev pub withMessage : HeldBoard → ℕ → DD.Sender → HeldBoard
 withMessage b i d = record { messages = b .messages + 1; matches = b .matches; senders = set (b .senders) i d }
 
-module _ (t : Table) (b : DB.Board) (i : ℕ) (x : Sent) (d : DD.Sender) (c : Columns) (m : MatchColumns)
+module _ (t : Table) (b : HeldBoard) (i : ℕ) (x : Sent) (d : DD.Sender) (c : Columns) (m : MatchColumns)
     (room : Room c (b .messages)) where
   abbrev n : ℕ
   n = b .messages

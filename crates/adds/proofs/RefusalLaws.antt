@@ -10,12 +10,11 @@ use Rattle.columns.specs.MatchColumns.{MatchColumns}
 use Rattle.columns.proofs.Messages.{length-messages}
 use Rattle.state.specs.Views.{senderIn, idleIs}
 use Rattle.state.proofs.StateLaws.{idle-is}
-use Rattle.boards.specs.declared.Board as DB
-use Rattle.boards.specs.Boards.{boardIn}
+use Rattle.boards.specs.Boards.{HeldBoard, boardIn}
 use Rattle.boards.specs.Boards.{zeroSender}
 use Rattle.adds.specs.Sends.{refusalBy}
 
-pub refusal-is : (t : Table) (b : DB.Board) (c : Columns) (m : MatchColumns) (i : ℕ) (x : Sent)
+pub refusal-is : (t : Table) (b : HeldBoard) (c : Columns) (m : MatchColumns) (i : ℕ) (x : Sent)
     → addRefusal t (boardIn t b c m) i x
     ≡ refusalBy t i (idleIs (getD (b .senders) i zeroSender .state)) (x .channel) (x .cents) (b .messages)
 unfolding addRefusal

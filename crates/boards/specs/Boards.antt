@@ -1,6 +1,7 @@
--- The declared board with its lent columns as the model's board.
+-- What is held of a board beside its columns, and with them the model's board.
 use mathlib.Core.Bool.{false}
-use mathlib.Core.List.{[], map}
+use mathlib.Core.List.{List, [], map}
+use Prim.Native.Nat.{ℕ}
 use Rattle.model.specs.Tables.{Table}
 use Rattle.model.specs.Boards.{Board, builtinBackoffs}
 use Rattle.columns.specs.Columns.{Columns, messagesFrom}
@@ -9,9 +10,14 @@ use Rattle.state.specs.declared.Phase.the-variants as P
 use Rattle.state.specs.declared.State.the-variants as S
 use Rattle.state.specs.declared.Sender as DD
 use Rattle.state.specs.Views.{senderIn}
-use Rattle.boards.specs.declared.Board as DB
 
-abbrev pub boardIn : Table → DB.Board → Columns → MatchColumns → Board
+-- the board without its columns: how many messages and matches there are, and the senders
+pub record HeldBoard : Type 0 where
+  pub messages : ℕ
+  pub matches : ℕ
+  pub senders : List DD.Sender
+
+abbrev pub boardIn : Table → HeldBoard → Columns → MatchColumns → Board
 boardIn t b c m = record {
   messages = messagesFrom c 0 (b .messages);
   matches = matchesFrom t m 0 (b .matches);

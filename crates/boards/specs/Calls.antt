@@ -7,23 +7,22 @@ use Rattle.model.specs.Boards as MB
 use Rattle.model.specs.Pools as MP
 use Rattle.columns.specs.Columns.{Columns, columnsOf}
 use Rattle.columns.specs.MatchColumns.{MatchColumns, matchesOf}
-use Rattle.boards.specs.Boards.{boardIn}
-use Rattle.boards.specs.declared.Board as DB
+use Rattle.boards.specs.Boards.{HeldBoard, boardIn}
 use Rattle.boards.specs.declared.Sent as DS
 use Rattle.boards.specs.declared.Call as DC
 use Rattle.boards.specs.declared.Call.the-variants as C
 
 -- the board, and the columns that the host lends with it
 pub record Held : Type 0 where
-  pub board : DB.Board
+  pub board : HeldBoard
   pub columns : Columns
   pub matches : MatchColumns
 
-abbrev pub held : DB.Board → Columns → MatchColumns → Held
+abbrev pub held : HeldBoard → Columns → MatchColumns → Held
 held b c m = record { board = b; columns = c; matches = m }
 
 -- the same by its columns, in the order of the calls' parameters
-abbrev pub heldBy : DB.Board → List ℕ → List ℕ → List ℤ → List ℕ → List ℕ → List ℕ → List ℕ → List ℕ → Held
+abbrev pub heldBy : HeldBoard → List ℕ → List ℕ → List ℤ → List ℕ → List ℕ → List ℕ → List ℕ → List ℕ → Held
 heldBy b channels properties cents statuses matched wakers chords messages =
     held b (columnsOf channels properties cents statuses matched wakers) (matchesOf chords messages)
 

@@ -4,8 +4,6 @@ ghost use lib.ListN.{length};
 ghost use Rattle.boards.specs.Layout.{bytesLen, linksLen, keysLen};
 ghost use Rattle.boards.specs.Layout.{channelsIn, statusesIn, chordsIn, matchedIn, wakersIn, membersIn};
 ghost use Rattle.boards.specs.Layout.{propertiesIn};
-use state::Said;
-use state::Sender;
 
 // Lengths, and the places of columns that are not the first of their list.
 pub const BOARD_LEN: usize = 674;
@@ -25,19 +23,6 @@ pub const CHORDS: usize = 2048;
 pub const WAKERS: usize = 1024;
 
 pub const MEMBERS: usize = 2048;
-
-// How many messages and matches there are, and the senders.
-pub struct Board {
-    pub messages: u16,
-    pub matches: u16,
-    pub senders: [Sender; 32],
-}
-
-// What is said to a call, and the board after it.
-pub struct Answer {
-    pub said: Said,
-    pub board: Board,
-}
 
 // A message as it is added.
 pub struct Sent {

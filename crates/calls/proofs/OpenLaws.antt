@@ -16,10 +16,9 @@ use Rattle.model.proofs.Tests.{refused-first, first-none}
 use Rattle.columns.specs.Columns.{Columns}
 use Rattle.columns.specs.MatchColumns.{MatchColumns}
 use Rattle.state.specs.declared.Sender as DD
-use Rattle.boards.specs.declared.Board as DB
-use Rattle.boards.specs.Boards.{boardIn}
+use Rattle.boards.specs.Boards.{HeldBoard, boardIn}
 use Rattle.boards.specs.Layout.{Lists, boardLen, Sized, columnsIn, matchesIn}
-use Rattle.rows.specs.Flat.{boardNumbers, flatOk}
+use Rattle.rows.specs.Numbers.{boardNumbers, numbersOk}
 use Rattle.rows.specs.Decoded.{boardFrom}
 use Rattle.rows.specs.Fits.{SenderFits, SendersFit, BoardFits}
 use Rattle.rows.specs.Fresh.{freshSender}
@@ -87,14 +86,14 @@ module _ (s : List ℕ) (l : Lists) where
 
   pub opened-empty : l .board ≡ boardNumbers freshBoard → boardOf s (heldOf l) ≡ emptyBoard builtinBackoffs
   opened-empty f =
-      ap (λ (b : DB.Board). boardIn (tableOf s) b (columnsIn l) (matchesIn l)) (fresh-is f)
+      ap (λ (b : HeldBoard). boardIn (tableOf s) b (columnsIn l) (matchesIn l)) (fresh-is f)
       ∙ opens-empty (tableOf s) (columnsIn l) (matchesIn l)
 
   pub opened-accepted : tableRefusal s ≡ 0 → l .board ≡ boardNumbers freshBoard → Sized l → Accepted s l
   opened-accepted e f z = record {
-    numbers = ap flatOk f ∙ encoded-ok freshBoard fresh-fits;
+    numbers = ap numbersOk f ∙ encoded-ok freshBoard fresh-fits;
     sized = z;
     accepted = accepts s (heldOf l) e (columns-sized l z)
-        (ap (λ (b : DB.Board). statusesOk (b .messages) (columnsIn l .statuses)) (fresh-is f) ∙ none-known _)
+        (ap (λ (b : HeldBoard). statusesOk (b .messages) (columnsIn l .statuses)) (fresh-is f) ∙ none-known _)
         (ap (sound (tableOf s)) (opened-empty f) ∙ empty-sound (tableOf s) builtinBackoffs);
   }

@@ -6,13 +6,13 @@ use lib.Dec.{eqb}
 use lib.ListN.{length, replicate}
 use Rattle.model.specs.Basics.{unless, firstOf}
 use Rattle.model.specs.Layout.{tableRefusal}
-use Rattle.boards.specs.declared.Board as DB
+use Rattle.boards.specs.Boards.{HeldBoard}
 use Rattle.boards.specs.Layout.{boardLen}
-use Rattle.rows.specs.Flat.{boardNumbers}
+use Rattle.rows.specs.Numbers.{boardNumbers}
 use Rattle.rows.specs.Fresh.{freshSender}
 use Rattle.calls.specs.Reads.{answered}
 
-abbrev pub freshBoard : DB.Board
+abbrev pub freshBoard : HeldBoard
 freshBoard = record { messages = 0; matches = 0; senders = replicate 32 freshSender }
 
 -- the table's refusal, then 30 for numbers of another length than a board's

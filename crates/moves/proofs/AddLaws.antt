@@ -14,8 +14,7 @@ use Rattle.model.specs.Adds.{addRefusal, added}
 use Rattle.model.specs.Pools.{adds}
 use Rattle.columns.specs.Columns.{Columns}
 use Rattle.columns.proofs.Messages.{length-messages}
-use Rattle.boards.specs.declared.Board as DB
-use Rattle.boards.specs.Boards.{boardIn}
+use Rattle.boards.specs.Boards.{HeldBoard, boardIn}
 use Rattle.boards.specs.Calls.{Held, held}
 use Rattle.refusals.specs.Judged.{Lengths}
 use Rattle.refusals.specs.Calls.{boardOf, refusalOf, Beyond, Plays}
@@ -47,7 +46,7 @@ module _ (s : List ℕ) (h : Held) (i : ℕ) (x : Sent) (z : refusalOf s h ≡ 0
       let q = sym e in
       plays-nothing s h (adds i x) z (Refused (suc f)) (rw q) (rw q)
 
-  module _ (b′ : DB.Board) (c′ : Columns) (w : Wrote (h .columns) c′ (h .board .messages) x)
+  module _ (b′ : HeldBoard) (c′ : Columns) (w : Wrote (h .columns) c′ (h .board .messages) x)
       (q : b′ .messages ≡ h .board .messages + 1) (k : b′ .matches ≡ h .board .matches) where
     abbrev n : ℕ
     n = h .board .messages

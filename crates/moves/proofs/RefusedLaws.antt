@@ -17,8 +17,7 @@ use Rattle.model.specs.Adds.{centsOk}
 use Rattle.model.specs.Pools.{Call, adds, steps}
 use Rattle.model.proofs.Tests.{unless-none}
 use Rattle.state.specs.Views.{senderIn, idleIs, canStep}
-use Rattle.boards.specs.declared.Board as DB
-use Rattle.boards.specs.Boards.{zeroSender}
+use Rattle.boards.specs.Boards.{HeldBoard, zeroSender}
 use Rattle.boards.specs.Calls.{Held}
 use Rattle.boards.proofs.SenderLaws.{nth-sender}
 use Rattle.refusals.specs.Calls.{boardOf, refusalOf, Plays}
@@ -33,7 +32,7 @@ pub place-in : (i : ℕ) → i < 32 → placeOf i ≡ i
 place-in i l = rw (lt-ltb i 32 l)
 
 -- a step is refused by its sender's number, or by its sender
-module _ (t : Table) (b : DB.Board) (i : ℕ) where
+module _ (t : Table) (b : HeldBoard) (i : ℕ) where
   pub step-8 : 32 ≤ i → 8 ≡ callRefusal t b (steps i)
   step-8 l = rw (le-ltb i 32 l)
 
@@ -44,7 +43,7 @@ module _ (t : Table) (b : DB.Board) (i : ℕ) where
   step-0 l e = rw (lt-ltb i 32 l, e)
 
 -- an add is refused by what is read at its sender's place
-pub add-by : (t : Table) (b : DB.Board) (i : ℕ) (x : Sent) (idle : Bool) (n : ℕ)
+pub add-by : (t : Table) (b : HeldBoard) (i : ℕ) (x : Sent) (idle : Bool) (n : ℕ)
     → idle ≡ idleIs (getD (b .senders) (placeOf i) zeroSender .state) → n ≡ b .messages
     → refusalBy t i idle (x .channel) (x .cents) n ≡ callRefusal t b (adds i x)
 add-by t b i x idle n e k = rw (e, k) (go (ltb i 32) refl)
@@ -67,13 +66,13 @@ unrefused t i idle channel cents n e =
     (ltb-true i 32 (p .0), ltb-true channel _ (u .0), ltb-true n 1024 (w .0))
 
 -- what a step that is not refused has
-pub may-step : (t : Table) (b : DB.Board) (i : ℕ) → callRefusal t b (steps i) ≡ 0
+pub may-step : (t : Table) (b : HeldBoard) (i : ℕ) → callRefusal t b (steps i) ≡ 0
     → (i < 32) × (canStep (getD (b .senders) i zeroSender) ≡ true)
 may-step t b i e =
     let p = unless-none (ltb i 32) 7 _ e in
     (ltb-true i 32 (p .0), unless-none (canStep (getD (b .senders) i zeroSender)) 12 0 (p .1) .0)
 
-pub caller-in : (t : Table) (b : DB.Board) (k : Call) → callRefusal t b k ≡ 0 → callerOf k < 32
+pub caller-in : (t : Table) (b : HeldBoard) (k : Call) → callRefusal t b k ≡ 0 → callerOf k < 32
 caller-in t b (adds i x) e =
     unrefused t i (idleIs (getD (b .senders) i zeroSender .state)) (x .channel) (x .cents) (b .messages) e .0
 caller-in t b (steps i) e = may-step t b i e .0

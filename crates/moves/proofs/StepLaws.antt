@@ -27,8 +27,7 @@ use Rattle.columns.proofs.Messages.{length-messages, nth-channel}
 use Rattle.state.specs.declared.Sender as DD
 use Rattle.state.specs.declared.Effect as DE
 use Rattle.state.specs.Views.{senderIn, effectIn}
-use Rattle.boards.specs.Boards.{boardIn}
-use Rattle.boards.specs.declared.Board as DB
+use Rattle.boards.specs.Boards.{HeldBoard, boardIn}
 use Rattle.boards.specs.Calls.{Held}
 use Rattle.refusals.specs.Judged.{boardRefusal}
 use Rattle.refusals.specs.Calls.{boardOf, refusalOf, Plays}
@@ -52,7 +51,7 @@ module _ {ch pr st ch′ pr′ st′ : List ℕ} (a : ch ≡ ch′) (b : pr ≡ 
       effect-by p = rw (← a, ← b, ← c, ← e, ← f) p
 
 -- d is sender i of the board
-abbrev pub SenderIs : DB.Board → ℕ → DD.Sender → Type 0
+abbrev pub SenderIs : HeldBoard → ℕ → DD.Sender → Type 0
 SenderIs b i d = (t : Table) (c : Columns) (m : MatchColumns) → senderIn t d ≡ senderAt (boardIn t b c m) i
 
 -- a chord outside the table has no members
@@ -97,7 +96,7 @@ pub effect-accepted : (t : Table) (b : Board) (i : ℕ) (x : Effect) → stepBy 
     → numberOf (x .said) ≡ 0
 effect-accepted t b i x e = no-number (x .said) (subst OutcomeSpeaks e (step-speaks t b i) .unrefused)
 
-module _ (s : List ℕ) (b : DB.Board) (c : Columns) (m : MatchColumns) (e : boardRefusal s b c m ≡ 0) where
+module _ (s : List ℕ) (b : HeldBoard) (c : Columns) (m : MatchColumns) (e : boardRefusal s b c m ≡ 0) where
   abbrev pub t : Table
   t = tableOf s
 

@@ -6,8 +6,7 @@ use Rattle.model.specs.Basics.{pick, unless}
 use Rattle.model.specs.Tables.{Table}
 use Rattle.model.specs.Pools.{Call, adds, steps}
 use Rattle.state.specs.Views.{idleIs, canStep}
-use Rattle.boards.specs.declared.Board as DB
-use Rattle.boards.specs.Boards.{zeroSender}
+use Rattle.boards.specs.Boards.{HeldBoard, zeroSender}
 use Rattle.adds.specs.Sends.{refusalBy}
 
 abbrev pub callerOf : Call → ℕ
@@ -19,7 +18,7 @@ abbrev pub placeOf : ℕ → ℕ
 placeOf i = pick (ltb i 32) i 0
 
 -- 8 to 12 for an add, 8 or 13 for a step; 0 for none
-abbrev pub callRefusal : Table → DB.Board → Call → ℕ
+abbrev pub callRefusal : Table → HeldBoard → Call → ℕ
 callRefusal t b (adds i x) =
     refusalBy t i (idleIs (getD (b .senders) i zeroSender .state)) (x .channel) (x .cents) (b .messages)
 callRefusal t b (steps i) = unless (ltb i 32) 8 (unless (canStep (getD (b .senders) i zeroSender)) 13 0)

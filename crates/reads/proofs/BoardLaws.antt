@@ -14,11 +14,10 @@ use Rattle.columns.specs.Columns.{Columns, messageIn}
 use Rattle.columns.specs.MatchColumns.{MatchColumns, matchIn}
 use Rattle.columns.proofs.ListFrom.{length-from, nth-from}
 use Rattle.columns.proofs.Messages.{length-messages, nth-message}
-use Rattle.boards.specs.declared.Board as DB
-use Rattle.boards.specs.Boards.{boardIn}
+use Rattle.boards.specs.Boards.{HeldBoard, boardIn}
 use Rattle.reads.specs.Reads.{Readable}
 
-module _ (t : Table) (b : DB.Board) (c : Columns) (m : MatchColumns) where
+module _ (t : Table) (b : HeldBoard) (c : Columns) (m : MatchColumns) where
   pub message-at : (n : ℕ) → n < b .messages → messageIn c n ≡ messageAt (boardIn t b c m) n
   message-at n h = sym (nth-message c (b .messages) n h)
 

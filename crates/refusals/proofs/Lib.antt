@@ -5,5 +5,5 @@ pub mod CallLaws
 pub mod PhaseBy
 pub mod RowLaws
 pub mod RowWalks
-pub mod FlatSound
+pub mod SoundNumbers
 pub mod HeldLaws

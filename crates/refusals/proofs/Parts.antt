@@ -14,8 +14,7 @@ use Rattle.columns.specs.MatchColumns.{MatchColumns, matchIn, matchesFrom}
 use Rattle.columns.proofs.ListFrom.{length-from}
 use Rattle.columns.proofs.Messages.{length-messages, nth-channel}
 use Rattle.state.specs.Views.{senderIn}
-use Rattle.boards.specs.Boards.{boardIn}
-use Rattle.boards.specs.declared.Board as DB
+use Rattle.boards.specs.Boards.{HeldBoard, boardIn}
 use Rattle.soundness.specs.Tests.{messagesOk}
 use Rattle.senders.specs.Seen.{Seen, Known}
 use Rattle.senders.proofs.Lent.{known-by}
@@ -30,7 +29,7 @@ sorted false true true m z = refl
 sorted false true false m z = refl
 sorted false false y m z = refl
 
-module _ (t : Table) (b : DB.Board) (c : Columns) (m : MatchColumns) where
+module _ (t : Table) (b : HeldBoard) (c : Columns) (m : MatchColumns) where
   -- the senders, each by itself and all together
   abbrev pub sendersTest : Bool
   sendersTest =

@@ -9,7 +9,7 @@ use lib.Dec.{eqb, leb}
 use lib.ListN.{getD}
 use native.Mathlib.Omega.{arith}
 use Rattle.model.proofs.Tests.{same?}
-use Rattle.rows.specs.Flat.{phaseOk}
+use Rattle.rows.specs.Numbers.{phaseOk}
 
 abbrev pub places : List ℕ
 places = 255 ∷ 255 ∷ 255 ∷ 255 ∷ 255 ∷ 0 ∷ 255 ∷ 0 ∷ 0 ∷ 255 ∷ []

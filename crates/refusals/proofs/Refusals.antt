@@ -15,8 +15,7 @@ use Rattle.columns.specs.Columns.{Columns}
 use Rattle.columns.specs.MatchColumns.{MatchColumns, matchIn}
 use Rattle.columns.proofs.ListFrom.{length-from}
 use Rattle.columns.proofs.Messages.{length-messages}
-use Rattle.boards.specs.Boards.{boardIn}
-use Rattle.boards.specs.declared.Board as DB
+use Rattle.boards.specs.Boards.{HeldBoard, boardIn}
 use Rattle.refusals.specs.Judged.{lentOk, statusesOk, boardRefusal, Lengths}
 
 module _ (c : Columns) (m : MatchColumns) where
@@ -42,7 +41,7 @@ module _ (c : Columns) (m : MatchColumns) where
         messages-len = eqb-true _ _ (e7 .1);
       }
 
-module _ (s : List ℕ) (b : DB.Board) (c : Columns) (m : MatchColumns) (e : boardRefusal s b c m ≡ 0) where
+module _ (s : List ℕ) (b : HeldBoard) (c : Columns) (m : MatchColumns) (e : boardRefusal s b c m ≡ 0) where
   -- the three tests, all passed
   three : (tableRefusal s ≡ 0) × (lentOk c m ≡ true) ×
       ((statusesOk (b .messages) (c .statuses) && sound (tableOf s) (boardIn (tableOf s) b c m)) ≡ true)

@@ -19,7 +19,7 @@ use Rattle.state.specs.Views.{jobIn, idleIs, stateIn}
 use Rattle.soundness.specs.Tests.{eachBelow}
 use Rattle.soundness.proofs.Each.{each-at}
 use Rattle.senders.specs.Seen.{Seen, markBy}
-use Rattle.rows.specs.Flat.{phaseOk, senderOk}
+use Rattle.rows.specs.Numbers.{phaseOk, senderOk}
 use Rattle.rows.specs.Decoded.{senderFrom}
 use Rattle.rows.proofs.PhaseLaws.{kind-fits, place-fits}
 use Rattle.rows.proofs.SenderLaws.{sender-fits}

@@ -12,7 +12,7 @@ use Rattle.model.specs.Boards.{Board}
 use Rattle.model.specs.Sound.{senderOk as soundOk}
 use Rattle.state.specs.declared.Sender as DD
 use Rattle.state.specs.Views.{senderIn}
-use Rattle.rows.specs.Flat.{senderOk, sendersOk}
+use Rattle.rows.specs.Numbers.{senderOk, sendersOk}
 use Rattle.rows.proofs.DecodeLaws.{sender-from}
 use Rattle.rows.specs.Decoded.{boardFrom, senderFrom, sendersFrom}
 use Rattle.refusals.specs.Rows.{row, senderAt, rowOk, rowsOk, sendersIn}

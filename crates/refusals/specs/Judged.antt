@@ -11,8 +11,7 @@ use Rattle.model.specs.Layout.{tableRefusal, tableOf}
 use Rattle.model.specs.Sound.{sound}
 use Rattle.columns.specs.Columns.{Columns}
 use Rattle.columns.specs.MatchColumns.{MatchColumns}
-use Rattle.boards.specs.Boards.{boardIn}
-use Rattle.boards.specs.declared.Board as DB
+use Rattle.boards.specs.Boards.{HeldBoard, boardIn}
 
 -- "lent list not 1,024 records": each column of messages has 1,024, and the matches have 1,024 chords, with eight
 -- messages each
@@ -33,7 +32,7 @@ unfoldable pub statusesOk : ℕ → List ℕ → Bool
 statusesOk n s = every (λ x. leb x 3) (take n s)
 
 -- the reader's numbers for the table, then "30, lent list not 1,024 records, or board not sound"
-unfoldable pub boardRefusal : List ℕ → DB.Board → Columns → MatchColumns → ℕ
+unfoldable pub boardRefusal : List ℕ → HeldBoard → Columns → MatchColumns → ℕ
 boardRefusal s b c m =
     firstOf (tableRefusal s)
     (unless (lentOk c m) 30

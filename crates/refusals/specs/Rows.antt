@@ -10,7 +10,7 @@ use Rattle.model.specs.Sound as Sound
 use Rattle.soundness.specs.Tests.{eachBelow}
 use Rattle.state.specs.declared.Sender as DD
 use Rattle.state.specs.Views.{senderIn}
-use Rattle.rows.specs.Flat.{senderOk}
+use Rattle.rows.specs.Numbers.{senderOk}
 use Rattle.rows.specs.Decoded.{senderFrom, sendersFrom}
 
 -- the 21 numbers from a place on

@@ -10,7 +10,7 @@ ghost use Rattle.model.specs.Sound.{stateOk, noneShared};
 ghost use Rattle.state.specs.Views.{senderIn};
 ghost use Rattle.boards.specs.Layout.{boardLen, bytesLen, linksLen, centsLen, lists, listsOk};
 ghost use Rattle.senders.specs.Seen.{Seen, Known, markBy};
-ghost use Rattle.rows.specs.Flat.{phaseOk, senderOk};
+ghost use Rattle.rows.specs.Numbers.{phaseOk, senderOk};
 ghost use Rattle.rows.specs.Decoded.{senderFrom};
 ghost use Rattle.refusals.specs.Rows.{row, within, limits, senderAt, rowOk, rowsOk, sendersIn};
 ghost use Rattle.refusals.specs.Held.{heldIn, soundIn};

@@ -16,8 +16,7 @@ use Rattle.columns.specs.Columns.{Columns, messageIn, statusOf}
 use Rattle.columns.specs.MatchColumns.{MatchColumns, matchIn}
 use Rattle.columns.proofs.ListFrom.{length-from}
 use Rattle.columns.proofs.Messages.{length-messages, nth-message}
-use Rattle.boards.specs.Boards.{boardIn}
-use Rattle.boards.specs.declared.Board as DB
+use Rattle.boards.specs.Boards.{HeldBoard, boardIn}
 use Rattle.reads.specs.declared.MatchRead as DR
 use Rattle.reads.specs.Reads.{readOf}
 use Rattle.reads.proofs.BoardLaws.{match-at}
@@ -62,7 +61,7 @@ module _ {A : Type 0} (f : ℕ → A → List ℕ) where
 second-at : (vs ws : List (List ℕ)) (i n : ℕ) → i ≡ length vs + n → getD (vs ++ ws) i [] ≡ getD ws n []
 second-at vs ws i n e = rw e (getD-append-add vs ws n [])
 
-module _ (t : Table) (b : DB.Board) (c : Columns) (m : MatchColumns) where
+module _ (t : Table) (b : HeldBoard) (c : Columns) (m : MatchColumns) where
   abbrev on : MB.Board
   on = boardIn t b c m
 

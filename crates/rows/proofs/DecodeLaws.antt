@@ -10,8 +10,8 @@ use lib.Seq.{drop-drop, length-take-le}
 use native.Mathlib.Omega.{arith}
 use Rattle.model.proofs.Tests.{both}
 use Rattle.state.specs.declared.Sender as DD
-use Rattle.rows.specs.Flat.{stateNumber, phaseNumbers, senderNumbers, sendersNumbers, boardNumbers}
-use Rattle.rows.specs.Flat.{placeless, phaseOk, senderOk, sendersOk, flatOk}
+use Rattle.rows.specs.Numbers.{stateNumber, phaseNumbers, senderNumbers, sendersNumbers, boardNumbers}
+use Rattle.rows.specs.Numbers.{placeless, phaseOk, senderOk, sendersOk, numbersOk}
 use Rattle.rows.specs.Decoded.{stateFrom, phaseFrom, senderFrom, sendersFrom, boardFrom}
 use Rattle.rows.specs.Fits.{SenderFits, SendersFit, BoardFits}
 use Rattle.rows.proofs.PhaseLaws.{three-are, kind-fits, no-place, no-second, flag-one}
@@ -70,7 +70,7 @@ senders-from-back (suc n) s l ok =
     (rw (d .0, r .0) (take-append-drop 21 s), (d .1, r .1), omega (arith, r .2))
 
 -- numbers that pass are those of their board, which fits its types
-pub from-back : (s : List ℕ) → flatOk s ≡ true → (boardNumbers (boardFrom s) ≡ s) × BoardFits (boardFrom s)
+pub from-back : (s : List ℕ) → numbersOk s ≡ true → (boardNumbers (boardFrom s) ≡ s) × BoardFits (boardFrom s)
 unfolding boardNumbers boardFrom
 from-back s ok =
     let p = all-numbers s ok in

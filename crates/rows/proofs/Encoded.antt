@@ -15,9 +15,9 @@ use Rattle.state.specs.declared.Phase.the-variants as P
 use Rattle.state.specs.declared.State as DS
 use Rattle.state.specs.declared.State.the-variants as S
 use Rattle.state.specs.declared.Sender as DD
-use Rattle.boards.specs.declared.Board as DB
-use Rattle.rows.specs.Flat.{stateNumber, kind, place, second, senderNumbers, sendersNumbers, boardNumbers}
-use Rattle.rows.specs.Flat.{phaseOk, senderOk, sendersOk, flatOk}
+use Rattle.boards.specs.Boards.{HeldBoard}
+use Rattle.rows.specs.Numbers.{stateNumber, kind, place, second, senderNumbers, sendersNumbers, boardNumbers}
+use Rattle.rows.specs.Numbers.{phaseOk, senderOk, sendersOk, numbersOk}
 use Rattle.rows.specs.Decoded.{stateFrom, phaseFrom, senderFrom, sendersFrom, boardFrom}
 use Rattle.rows.specs.Fits.{PhaseFits, SenderFits, SendersFit, BoardFits}
 use Rattle.rows.proofs.SenderLaws.{numbers-listed, sender-long}
@@ -74,8 +74,8 @@ senders-pass (d ∷ ds) f =
     (and (sender-passes d (f .0)) (senders-pass ds (f .1)))
 
 -- the numbers of every board that the types can hold pass
-pub encoded-ok : (b : DB.Board) → BoardFits b → flatOk (boardNumbers b) ≡ true
-unfolding flatOk boardNumbers
+pub encoded-ok : (b : HeldBoard) → BoardFits b → numbersOk (boardNumbers b) ≡ true
+unfolding numbersOk boardNumbers
 encoded-ok b f =
     let l = senders-long (b .senders) (f .each) in
     let n : length (b .messages ∷ b .matches ∷ sendersNumbers (b .senders)) ≡ 674 = omega (arith, l, f .all) in
@@ -125,10 +125,10 @@ senders-back (d ∷ ds) f =
       senders-back ds (f .1),
     )
 
-pub board-back : (b : DB.Board) → BoardFits b → boardFrom (boardNumbers b) ≡ b
+pub board-back : (b : HeldBoard) → BoardFits b → boardFrom (boardNumbers b) ≡ b
 unfolding boardNumbers boardFrom
 board-back b f = rw (rw (f .all) at (senders-back (b .senders) (f .each)))
 
 -- no two boards have the same numbers
-pub one-board : (b b′ : DB.Board) → BoardFits b → BoardFits b′ → boardNumbers b ≡ boardNumbers b′ → b ≡ b′
+pub one-board : (b b′ : HeldBoard) → BoardFits b → BoardFits b′ → boardNumbers b ≡ boardNumbers b′ → b ≡ b′
 one-board b b′ f f′ e = sym (board-back b f) ∙ ap boardFrom e ∙ board-back b′ f′

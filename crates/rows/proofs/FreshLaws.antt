@@ -6,7 +6,7 @@ use lib.ListN.{length, getD, take, set, replicate, getD-replicate, length-replic
 use lib.Seq.{paste}
 use native.Mathlib.Omega.{arith}
 use Rattle.state.specs.declared.Sender as DD
-use Rattle.rows.specs.Flat.{senderNumbers, sendersNumbers, boardNumbers}
+use Rattle.rows.specs.Numbers.{senderNumbers, sendersNumbers, boardNumbers}
 use Rattle.rows.specs.Fresh.{freshSender}
 use Rattle.rows.proofs.WalkLaws.{write-next, write-end, counts-set}
 

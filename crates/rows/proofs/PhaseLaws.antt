@@ -12,7 +12,7 @@ use Rattle.model.proofs.Tests.{all-four, either, both, same?, never}
 use Rattle.state.specs.declared.Phase as DP
 use Rattle.state.specs.Views.{stepsIn}
 use Rattle.rows.specs.Decoded.{stateFrom}
-use Rattle.rows.specs.Flat.{place, phaseOk, placeless}
+use Rattle.rows.specs.Numbers.{place, phaseOk, placeless}
 use Rattle.rows.specs.Fits.{PhaseFits}
 
 pub three-are : {n k s n′ k′ s′ : ℕ} → n′ ≡ n → k′ ≡ k → s′ ≡ s → n′ ∷ k′ ∷ s′ ∷ [] ≡ n ∷ k ∷ s ∷ []

@@ -17,7 +17,7 @@ use Rattle.state.specs.declared.Phase.the-variants as P
 use Rattle.state.specs.declared.Sender as DD
 use Rattle.rows.specs.Fits.{PhaseFits, SenderFits}
 use Rattle.rows.proofs.PhaseLaws.{place-fits, second-fits}
-use Rattle.rows.specs.Flat.{stateNumber, phaseNumbers, kind, place, second, senderNumbers, phaseOk, senderOk}
+use Rattle.rows.specs.Numbers.{stateNumber, phaseNumbers, kind, place, second, senderNumbers, phaseOk, senderOk}
 
 -- what a sender's numbers hold to
 pub record NumbersFit (a : List ℕ) : Type 0 where

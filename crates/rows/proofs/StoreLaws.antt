@@ -8,7 +8,7 @@ use native.Mathlib.Numerals.{add-one}
 use native.Mathlib.Omega.{arith}
 use Rattle.model.specs.Layout.{flag}
 use Rattle.state.specs.declared.Sender as DD
-use Rattle.rows.specs.Flat.{stateNumber, kind, place, second, senderNumbers}
+use Rattle.rows.specs.Numbers.{stateNumber, kind, place, second, senderNumbers}
 use Rattle.rows.proofs.SenderLaws.{numbers-listed}
 
 -- numbers stored one by one, from place at + k on

@@ -12,7 +12,7 @@ use native.Mathlib.Omega.{arith}
 use Rattle.model.proofs.Tests.{both}
 use Rattle.state.specs.declared.Sender as DD
 use Rattle.rows.specs.Fits.{SenderFits, SendersFit}
-use Rattle.rows.specs.Flat.{senderNumbers, sendersNumbers, senderOk, sendersOk, flatOk}
+use Rattle.rows.specs.Numbers.{senderNumbers, sendersNumbers, senderOk, sendersOk, numbersOk}
 
 -- a sender's part of the numbers
 pub span : (at : ℕ) → at + 21 - at ≡ 21
@@ -106,7 +106,7 @@ counts-read (x ∷ []) h = absurd (omega arith)
 counts-read (x ∷ y ∷ s) h = refl
 
 -- numbers that pass are 674, and their senders pass
-pub all-numbers : (s : List ℕ) → flatOk s ≡ true → (length s ≡ 674) × (sendersOk 32 (drop 2 s) ≡ true)
-unfolding flatOk
+pub all-numbers : (s : List ℕ) → numbersOk s ≡ true → (length s ≡ 674) × (sendersOk 32 (drop 2 s) ≡ true)
+unfolding numbersOk
 all-numbers s e =
     let p = both {t = eqb (length s) 674} e in (eqb-true (length s) 674 (p .0), p .1)

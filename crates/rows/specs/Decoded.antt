@@ -9,7 +9,7 @@ use Rattle.state.specs.declared.Phase.the-variants as P
 use Rattle.state.specs.declared.State as DS
 use Rattle.state.specs.declared.State.the-variants as S
 use Rattle.state.specs.declared.Sender as DD
-use Rattle.boards.specs.declared.Board as DB
+use Rattle.boards.specs.Boards.{HeldBoard}
 
 abbrev pub stateFrom : ℕ → DS.State
 stateFrom n = pick (eqb n 0) S.Idle (pick (eqb n 1) S.Working S.Blocked)
@@ -44,5 +44,5 @@ unfoldable pub sendersFrom : ℕ → List ℕ → List DD.Sender
 sendersFrom zero s = []
 sendersFrom (suc n) s = senderFrom (take 21 s) ∷ sendersFrom n (drop 21 s)
 
-unfoldable pub boardFrom : List ℕ → DB.Board
+unfoldable pub boardFrom : List ℕ → HeldBoard
 boardFrom s = record { messages = getD s 0 0; matches = getD s 1 0; senders = sendersFrom 32 (drop 2 s) }

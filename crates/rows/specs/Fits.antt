@@ -6,7 +6,7 @@ use lib.ListN.{length}
 use Rattle.state.specs.declared.Phase as DP
 use Rattle.state.specs.declared.Phase.the-variants as P
 use Rattle.state.specs.declared.Sender as DD
-use Rattle.boards.specs.declared.Board as DB
+use Rattle.boards.specs.Boards.{HeldBoard}
 
 abbrev pub PhaseFits : DP.Phase → Type 0
 PhaseFits (P.Look k) = k ≤ 255
@@ -30,6 +30,6 @@ abbrev pub SendersFit : List DD.Sender → Type 0
 SendersFit [] = Unit {0}
 SendersFit (d ∷ ds) = SenderFits d × SendersFit ds
 
-pub record BoardFits (b : DB.Board) : Type 0 where
+pub record BoardFits (b : HeldBoard) : Type 0 where
   pub all : length (b .senders) ≡ 32
   pub each : SendersFit (b .senders)

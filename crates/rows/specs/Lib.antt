@@ -1,5 +1,5 @@
 -- The board as plain numbers.
-pub mod Flat
+pub mod Numbers
 pub mod Fits
 pub mod Decoded
 pub mod Fresh

@@ -1,21 +1,20 @@
 // The board as plain numbers, which a host in another language can hold: read from a lent slice, and written to one.
 ghost use mathlib.Core.Path.{_≡_};
 ghost use mathlib.Core.Bool.{true};
-ghost use mathlib.Core.List.{[], _∷_, _++_};
+ghost use mathlib.Core.List.{[], _∷_};
 ghost use Prim.Native.Nat.{_+_, _<_, _≤_};
 ghost use lib.Dec.{eqb};
-ghost use lib.ListN.{length, getD, take, drop, replicate};
+ghost use lib.ListN.{length, getD, drop, replicate};
 ghost use lib.Seq.{paste};
 ghost use Rattle.model.specs.Layout.{flag};
 ghost use Rattle.state.specs.Views.{stepsIn, canStep, idleIs};
 ghost use Rattle.boards.specs.Boards.{zeroSender};
 ghost use Rattle.rows.specs.Decoded.{stateFrom, boardFrom};
-ghost use Rattle.rows.specs.Flat.{stateNumber, phaseNumbers, kind, place, second};
-ghost use Rattle.rows.specs.Flat.{senderNumbers, sendersNumbers, boardNumbers};
+ghost use Rattle.rows.specs.Numbers.{stateNumber, phaseNumbers, kind, place, second};
+ghost use Rattle.rows.specs.Numbers.{senderNumbers, boardNumbers};
 ghost use Rattle.rows.specs.Fresh.{freshSender};
-ghost use Rattle.rows.specs.Fits.{PhaseFits, SenderFits, SendersFit, BoardFits};
-ghost use Rattle.rows.specs.Flat.{phaseOk, senderOk, flatOk};
-use boards::Board;
+ghost use Rattle.rows.specs.Fits.{PhaseFits, SenderFits};
+ghost use Rattle.rows.specs.Numbers.{phaseOk, senderOk, numbersOk};
 use state::Job;
 use state::Phase;
 use state::Sender;
@@ -206,7 +205,7 @@ pub fn sender_of(a: &[u16]) -> Sender
 
 // The sender at a place.
 pub fn sender_at(s: &[u16], i: u8) -> Sender
-    requires { ⌜ (flatOk (now s) ≡ true) × (i < 32) ⌝ }
+    requires { ⌜ (numbersOk (now s) ≡ true) × (i < 32) ⌝ }
     ensures { λ r. ⌜ r ≡ getD (boardFrom (now (s .entry)) .senders) i zeroSender ⌝ }
 {
     let at = 2 + 21 * (i as usize);
@@ -215,7 +214,7 @@ pub fn sender_at(s: &[u16], i: u8) -> Sender
 
 // Whether the sender at a place may step.
 pub fn may_step(s: &[u16], i: u8) -> bool
-    requires { ⌜ (flatOk (now s) ≡ true) × (i < 32) ⌝ }
+    requires { ⌜ (numbersOk (now s) ≡ true) × (i < 32) ⌝ }
     ensures { λ r. ⌜ r ≡ canStep (getD (boardFrom (now (s .entry)) .senders) i zeroSender) ⌝ }
 {
     let at = 2 + 21 * (i as usize);
@@ -224,7 +223,7 @@ pub fn may_step(s: &[u16], i: u8) -> bool
 
 // Whether the sender at a place is idle.
 pub fn is_idle(s: &[u16], i: u8) -> bool
-    requires { ⌜ (flatOk (now s) ≡ true) × (i < 32) ⌝ }
+    requires { ⌜ (numbersOk (now s) ≡ true) × (i < 32) ⌝ }
     ensures { λ r. ⌜ r ≡ idleIs (getD (boardFrom (now (s .entry)) .senders) i zeroSender .state) ⌝ }
 {
     let at = 2 + 21 * (i as usize);
@@ -267,30 +266,6 @@ pub fn put_sender(d: Sender, s: &mut [u16], at: usize)
     s[at + 11] = flag_number(job.retry);
     s[at + 12] = job.retries as u16;
     put_chosen(s, at + 13, chosen);
-}
-
-// The senders' numbers, one after another.
-fn put_senders(senders: [Sender; 32], s: &mut [u16])
-    requires { ⌜ length (now s) ≡ 674 ⌝ }
-    ensures { λ _. ⌜ (now (s .exit) ≡ take 2 (now (s .entry)) ++ sendersNumbers senders) × SendersFit senders ⌝ }
-{
-    let mut i: usize = 0;
-    while i < 32 {
-        let d = senders[i];
-        put_sender(d, s, 2 + 21 * i);
-        i += 1;
-    }
-}
-
-// The board's numbers.
-pub fn put_board(b: Board, s: &mut [u16])
-    requires { ⌜ length (now s) ≡ 674 ⌝ }
-    ensures { λ _. ⌜ (now (s .exit) ≡ boardNumbers b) × BoardFits b ⌝ }
-{
-    let senders = b.senders;
-    put_senders(senders, s);
-    s[0] = b.messages;
-    s[1] = b.matches;
 }
 
 // An idle sender as it is opened.

@@ -8,7 +8,7 @@ use lib.IntN.{ℤ}
 use lib.ListN.{length, getD, set, length-set}
 use Rattle.columns.specs.Columns.{Columns, columnsOf}
 use Rattle.columns.specs.MatchColumns.{MatchColumns}
-use Rattle.boards.specs.declared.Board as DB
+use Rattle.boards.specs.Boards.{HeldBoard}
 use Rattle.boards.specs.declared.Sent as DS
 use Rattle.boards.specs.Calls.{held}
 use Rattle.boards.specs.Layout.{Lists, lists, columnsIn, matchesIn, statusesAt, wakersAt, Sized}
@@ -94,7 +94,7 @@ module _ (n : ℕ) (x : DS.Sent) (b w ks : List ℕ) (cs : List ℤ) (b′ w′ 
   pub added-by : (u v : Bool) → u ≡ v → Added v → Added u
   added-by u v e p = subst Added (sym e) p
 
-held-by : (b b′ : DB.Board) (c c′ : Columns) (m m′ : MatchColumns) → b ≡ b′ → c ≡ c′ → m ≡ m′
+held-by : (b b′ : HeldBoard) (c c′ : Columns) (m m′ : MatchColumns) → b ≡ b′ → c ≡ c′ → m ≡ m′
     → held b c m ≡ held b′ c′ m′
 held-by b b′ c c′ m m′ p q r = rw (p, q, r)
 

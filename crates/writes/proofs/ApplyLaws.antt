@@ -14,8 +14,7 @@ use Rattle.state.specs.declared.Change.the-variants as G
 use Rattle.state.specs.declared.Turn.the-variants as U
 use Rattle.state.specs.declared.Effect as DE
 use Rattle.state.specs.Views.{effectIn}
-use Rattle.boards.specs.declared.Board as DB
-use Rattle.boards.specs.Boards.{boardIn}
+use Rattle.boards.specs.Boards.{HeldBoard, boardIn}
 use Rattle.boards.proofs.SenderLaws.{set-sender}
 use Rattle.writes.specs.Writes.{ChordsFit, Sure, effectBoard}
 use Rattle.writes.specs.Writes.{statusesBy, matchedBy, wakersBy, chordsBy, matchMessagesBy}
@@ -24,7 +23,7 @@ use Rattle.writes.proofs.MatchLaws.{match-added}
 use Rattle.writes.proofs.SignalledSenders.{signalled-all}
 
 -- the columns after effect e
-module _ (b : DB.Board) (e : DE.Effect) where
+module _ (b : HeldBoard) (e : DE.Effect) where
   abbrev pub columnsAfter : Columns → Columns
   columnsAfter c =
       columnsOf (c .channels) (c .properties) (c .cents) (statusesBy (e .change) (c .statuses))
@@ -43,7 +42,7 @@ pub record Whole (c : Columns) (m : MatchColumns) : Type 0 where
   pub chords-len : length (m .chords) ≡ 1024
   pub messages-len : length (m .messages) ≡ 8192
 
-module _ (t : Table) (b : DB.Board) (i : ℕ) (e : DE.Effect) (c : Columns) (m : MatchColumns) (few : b .messages ≤ 1024)
+module _ (t : Table) (b : HeldBoard) (i : ℕ) (e : DE.Effect) (c : Columns) (m : MatchColumns) (few : b .messages ≤ 1024)
     (w : Whole c m) (eight : length (e .sender .job .chosen) ≡ 8) (fit : ChordsFit t) where
   pub applied : (g : DG.Change) → e .change ≡ g → Sure (b .messages) (b .matches) g
       → boardIn t (effectBoard b i e) (columnsAfter b e c) (matchColumnsAfter b e m)

@@ -8,13 +8,13 @@ use lib.ListN.{getD, set, length-set}
 use lib.Seq.{paste}
 use native.Mathlib.Omega.{arith}
 use Rattle.state.specs.declared.Sender as DD
-use Rattle.boards.specs.declared.Board as DB
+use Rattle.boards.specs.Boards.{HeldBoard}
 use Rattle.writes.specs.Writes.{signalBy, signalledBy, matchesBy}
 use Rattle.writes.specs.declared.Move as DM
 use Rattle.writes.specs.Moves.{messagesBy, movedBoard}
 use Rattle.writes.proofs.ChangeLaws.{signal-none, signal-some, moved-by}
 use Rattle.rows.specs.Fits.{SenderFits, SendersFit, BoardFits}
-use Rattle.rows.specs.Flat.{senderNumbers, sendersNumbers, boardNumbers, flatOk}
+use Rattle.rows.specs.Numbers.{senderNumbers, sendersNumbers, boardNumbers, numbersOk}
 use Rattle.rows.specs.Decoded.{boardFrom}
 use Rattle.rows.proofs.DecodeLaws.{from-back}
 use Rattle.writes.specs.Signals.{signalledBoard}
@@ -22,7 +22,7 @@ use Rattle.writes.proofs.PlaceLaws.{paste-behind, senders-paste}
 use Rattle.writes.proofs.SignalLaws.{IsBoard, is-board}
 
 -- the board with another sender at a place, and other counts
-abbrev pub withSender : DB.Board → ℕ → DD.Sender → ℕ → ℕ → DB.Board
+abbrev pub withSender : HeldBoard → ℕ → DD.Sender → ℕ → ℕ → HeldBoard
 withSender b i d n k = record { messages = n; matches = k; senders = set (b .senders) i d }
 
 fit-set : (ds : List DD.Sender) (i : ℕ) (d : DD.Sender) → SendersFit ds → SenderFits d → SendersFit (set ds i d)
@@ -30,7 +30,7 @@ fit-set [] i d f g = tt
 fit-set (x ∷ xs) zero d f g = (g, f .1)
 fit-set (x ∷ xs) (suc i) d f g = (f .0, fit-set xs i d (f .1) g)
 
-written : (b : DB.Board) (s : List ℕ) (i n k : ℕ) (d : DD.Sender) → BoardFits b → i < 32 → SenderFits d
+written : (b : HeldBoard) (s : List ℕ) (i n k : ℕ) (d : DD.Sender) → BoardFits b → i < 32 → SenderFits d
     → s ≡ paste (boardNumbers b) (2 + 21 * i) (senderNumbers d) 21
     → set (set s 0 n) 1 k ≡ boardNumbers (withSender b i d n k)
 unfolding boardNumbers
@@ -41,7 +41,7 @@ written b s i n k d f h g e =
     (senders-paste (b .senders) i d (omega (arith, f .all)) (f .each) g))
 
 -- the numbers of a sender and the two counts, written
-pub sender-put : (s s′ : List ℕ) (i n k : ℕ) (d : DD.Sender) → flatOk s ≡ true → i < 32 → SenderFits d
+pub sender-put : (s s′ : List ℕ) (i n k : ℕ) (d : DD.Sender) → numbersOk s ≡ true → i < 32 → SenderFits d
     → s′ ≡ paste s (2 + 21 * i) (senderNumbers d) 21
     → IsBoard (set (set s′ 0 n) 1 k) (withSender (boardFrom s) i d n k)
 sender-put s s′ i n k d ok h g e =

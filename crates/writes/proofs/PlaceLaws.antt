@@ -7,7 +7,7 @@ use lib.Seq.{take-all, drop-at, take-append-add, drop-append-add, getD-append-ad
 use native.Mathlib.Omega.{arith}
 use Rattle.state.specs.declared.Sender as DD
 use Rattle.rows.specs.Fits.{SenderFits, SendersFit}
-use Rattle.rows.specs.Flat.{senderNumbers, sendersNumbers}
+use Rattle.rows.specs.Numbers.{senderNumbers, sendersNumbers}
 use Rattle.rows.proofs.SenderLaws.{sender-long}
 
 -- past a front

@@ -13,12 +13,11 @@ use Rattle.state.specs.declared.State as DS
 use Rattle.state.specs.declared.State.the-variants as S
 use Rattle.state.specs.declared.Sender as DD
 use Rattle.state.specs.Views.{idleIs}
-use Rattle.boards.specs.declared.Board as DB
-use Rattle.boards.specs.Boards.{zeroSender}
+use Rattle.boards.specs.Boards.{HeldBoard, zeroSender}
 use Rattle.writes.specs.Writes.{signalledBy}
 use Rattle.writes.proofs.SignalledSenders.{mapped-step, mapped-end}
 use Rattle.rows.specs.Fits.{SenderFits, SendersFit, BoardFits}
-use Rattle.rows.specs.Flat.{stateNumber, senderNumbers, sendersNumbers, boardNumbers, flatOk}
+use Rattle.rows.specs.Numbers.{stateNumber, senderNumbers, sendersNumbers, boardNumbers, numbersOk}
 use Rattle.rows.specs.Decoded.{boardFrom}
 use Rattle.rows.proofs.SenderLaws.{numbers-listed}
 use Rattle.rows.proofs.Encoded.{encoded-ok, board-back}
@@ -26,10 +25,10 @@ use Rattle.writes.specs.Signals.{signalAt, signalledBoard}
 use Rattle.writes.proofs.PlaceLaws.{set-behind, number-at, number-set}
 
 -- numbers that are those of a board
-abbrev pub IsBoard : List ℕ → DB.Board → Type 0
-IsBoard s b = (flatOk s ≡ true) × (boardFrom s ≡ b)
+abbrev pub IsBoard : List ℕ → HeldBoard → Type 0
+IsBoard s b = (numbersOk s ≡ true) × (boardFrom s ≡ b)
 
-pub is-board : (s : List ℕ) (b : DB.Board) → BoardFits b → s ≡ boardNumbers b → IsBoard s b
+pub is-board : (s : List ℕ) (b : HeldBoard) → BoardFits b → s ≡ boardNumbers b → IsBoard s b
 is-board s b f e = rw e (encoded-ok b f, board-back b f)
 
 -- a sender with its signal set where u is yes
@@ -96,7 +95,7 @@ module _ (m k : ℕ) (ds : List DD.Sender) (i : ℕ) (h : i < length ds) (f : Se
       rw (a, b, state-idle (d .state), e) (by-test (not (idleIs (d .state)) && eqb (d .own) (n + 1)))
 
 -- the first i senders signalled
-abbrev pub signalledTo : ℕ → ℕ → DB.Board → DB.Board
+abbrev pub signalledTo : ℕ → ℕ → HeldBoard → HeldBoard
 signalledTo n i b = record {
   messages = b .messages;
   matches = b .matches;
@@ -117,13 +116,13 @@ module _ (n : ℕ) where
       let p = part-fits ds i (f .1) in
       ((signalled-fits d (f .0), p .0), ap suc (p .1))
 
-  to-fits : (b : DB.Board) (i : ℕ) → BoardFits b → BoardFits (signalledTo n i b)
+  to-fits : (b : HeldBoard) (i : ℕ) → BoardFits b → BoardFits (signalledTo n i b)
   to-fits b i f =
       let p = part-fits (b .senders) i (f .each) in
       record { all = p .1 ∙ f .all; each = p .0 }
 
   -- one sender more is signalled
-  pub signal-next : (b : DB.Board) (i own : ℕ) (s s′ : List ℕ) → BoardFits b → i < 32 → own ≡ n + 1
+  pub signal-next : (b : HeldBoard) (i own : ℕ) (s s′ : List ℕ) → BoardFits b → i < 32 → own ≡ n + 1
       → s ≡ boardNumbers (signalledTo n i b) → s′ ≡ signalAt s (2 + 21 * i) own
       → s′ ≡ boardNumbers (signalledTo n (i + 1) b)
   unfolding boardNumbers
@@ -136,7 +135,7 @@ module _ (n : ℕ) where
       ∙ rw (step, add-one i)
 
   -- all are signalled
-  pub signal-end : (b : DB.Board) (i : ℕ) (s : List ℕ) → BoardFits b → 32 ≤ i
+  pub signal-end : (b : HeldBoard) (i : ℕ) (s : List ℕ) → BoardFits b → 32 ≤ i
       → s ≡ boardNumbers (signalledTo n i b) → IsBoard s (signalledBoard n b)
   signal-end b i s f h e =
       let all = mapped-end (signalledBy n) (b .senders) i (omega (arith, f .all)) in

@@ -14,11 +14,10 @@ use Rattle.state.specs.declared.Change as DG
 use Rattle.state.specs.declared.Change.the-variants as G
 use Rattle.state.specs.declared.Job as DJ
 use Rattle.state.specs.Views.{turnIn, changeIn}
-use Rattle.boards.specs.declared.Board as DB
-use Rattle.boards.specs.Boards.{boardIn}
+use Rattle.boards.specs.Boards.{HeldBoard, boardIn}
 use Rattle.writes.specs.Writes.{WakerFits, Sure}
 
-module _ (t : Table) (b : DB.Board) (c : Columns) (m : MatchColumns) (few : b .messages ≤ 1024) where
+module _ (t : Table) (b : HeldBoard) (c : Columns) (m : MatchColumns) (few : b .messages ≤ 1024) where
   under : (n : ℕ) → n < length (messagesFrom c 0 (b .messages)) → n < b .messages
   under n l = omega (arith, length-messages c 0 (b .messages))
 

@@ -8,7 +8,7 @@ use Rattle.columns.specs.Columns.{columnsOf}
 use Rattle.columns.specs.MatchColumns.{matchesOf}
 use Rattle.state.specs.declared.Change as DG
 use Rattle.state.specs.declared.Change.the-variants as G
-use Rattle.boards.specs.declared.Board as DB
+use Rattle.boards.specs.Boards.{HeldBoard}
 use Rattle.boards.specs.Calls.{Held, held}
 use Rattle.writes.specs.Writes.{Sure, sendersBy, matchesBy}
 use Rattle.writes.specs.Writes.{statusesBy, matchedBy, wakersBy, chordsBy, matchMessagesBy}
@@ -31,7 +31,7 @@ turnedFrom (G.Record n) start = n
 turnedFrom (G.Signal n) start = start
 
 -- the board after a move of the sender at place i
-abbrev pub movedBoard : DB.Board → ℕ → DM.Move → DB.Board
+abbrev pub movedBoard : HeldBoard → ℕ → DM.Move → HeldBoard
 movedBoard b i m = record {
   messages = messagesBy (m .adds) (b .messages);
   matches = matchesBy (m .change) (b .matches);

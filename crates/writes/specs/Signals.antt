@@ -5,7 +5,7 @@ use Prim.Native.Nat.{ℕ, _+_}
 use lib.Dec.{eqb}
 use lib.ListN.{getD, set}
 use Rattle.model.specs.Basics.{pick}
-use Rattle.boards.specs.declared.Board as DB
+use Rattle.boards.specs.Boards.{HeldBoard}
 use Rattle.writes.specs.Writes.{signalledBy}
 
 -- the sender whose numbers are from a place on is not idle, and own is its own message plus 1
@@ -17,7 +17,7 @@ abbrev pub signalAt : List ℕ → ℕ → ℕ → List ℕ
 signalAt s at own = pick (ownedAt s at own) (set s (at + 1) 1) s
 
 -- every sender signalled, where message n is its own
-abbrev pub signalledBoard : ℕ → DB.Board → DB.Board
+abbrev pub signalledBoard : ℕ → HeldBoard → HeldBoard
 signalledBoard n b = record {
   messages = b .messages;
   matches = b .matches;

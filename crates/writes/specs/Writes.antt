@@ -13,7 +13,7 @@ use Rattle.state.specs.declared.Change.the-variants as G
 use Rattle.state.specs.declared.Sender as DD
 use Rattle.state.specs.declared.Effect as DE
 use Rattle.state.specs.Views.{idleIs}
-use Rattle.boards.specs.declared.Board as DB
+use Rattle.boards.specs.Boards.{HeldBoard}
 
 -- eight numbers hold a match of any chord
 abbrev pub ChordsFit : Table → Type 0
@@ -127,7 +127,7 @@ sendersBy (G.Record n) ds = ds
 sendersBy (G.Signal n) ds = map (signalledBy n) ds
 
 -- the board after an effect of sender i
-abbrev pub effectBoard : DB.Board → ℕ → DE.Effect → DB.Board
+abbrev pub effectBoard : HeldBoard → ℕ → DE.Effect → HeldBoard
 effectBoard b i e = record {
   messages = b .messages;
   matches = matchesBy (e .change) (b .matches);

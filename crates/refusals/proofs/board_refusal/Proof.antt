@@ -11,7 +11,7 @@ use Rattle.boards.specs.Layout.{Lists, lists, listsOk}
 use Rattle.boards.proofs.LayoutLaws.{sized-by}
 use Rattle.refusals.specs.Calls.{refusalOf}
 use Rattle.refusals.specs.Held.{heldIn, soundIn}
-use Rattle.refusals.proofs.FlatSound.{flat-short}
+use Rattle.refusals.proofs.SoundNumbers.{numbers-short}
 use Rattle.refusals.proofs.HeldLaws.{refusal-is}
 use Rattle.refusals.proofs.board_refusal.Statement.{statement}
 use Rattle.refusals.proofs.board_refusal.Tie as tie
@@ -71,7 +71,7 @@ returns-3 : tie.Need-returns-3
 returns-3 c =
     let d = c .before in
     let e = d .before .before in
-    rw (in-order e, lists-pass d, flat-short (start (e .before) .args .board .now) (c .if3 .taken))
+    rw (in-order e, lists-pass d, numbers-short (start (e .before) .args .board .now) (c .if3 .taken))
 
 is-sound-requires : tie.Need-is-sound-requires
 is-sound-requires c κs =

@@ -23,7 +23,7 @@ use Rattle.rows.specs.Decoded.{boardFrom}
 use Rattle.refusals.specs.Held.{soundIn}
 use Rattle.refusals.specs.Rows.{rowsOk, sendersIn}
 use Rattle.refusals.proofs.Parts.{matchesTest}
-use Rattle.refusals.proofs.FlatSound.{boardOn, flat-sound, seen-flat, known-flat}
+use Rattle.refusals.proofs.SoundNumbers.{boardOn, numbers-sound, seen-numbers, known-numbers}
 use Rattle.refusals.proofs.is_sound.Statement.{statement}
 use Rattle.refusals.proofs.is_sound.Tie as tie
 
@@ -42,7 +42,7 @@ module _ (s : tie.Start) (keys : List ℕ) where
   board = boardOn (table s) (numbers s) (columnsIn lent) (matchesIn lent)
 
   sees : Seen board (getD (numbers s) 0 0) (getD (numbers s) 1 0) (columnsIn lent .channels)
-  sees = seen-flat (table s) (numbers s) (columnsIn lent) (matchesIn lent)
+  sees = seen-numbers (table s) (numbers s) (columnsIn lent) (matchesIn lent)
 
   in-order : soundIn (s .args .table .now) lent
       ≡ ((leb (getD (numbers s) 0 0) 1024 && leb (getD (numbers s) 1 0) 1024)
@@ -50,7 +50,7 @@ module _ (s : tie.Start) (keys : List ℕ) where
       && (matchesTest (table s) (boardFrom (numbers s)) (columnsIn lent) (matchesIn lent)
       && (rowsOk (table s) board 32 (drop 2 (numbers s))
       && noneShared (map (senderIn (table s)) (sendersIn (numbers s)))))))
-  in-order = flat-sound (table s) (numbers s) (columnsIn lent) (matchesIn lent) (s .pre .0 .1)
+  in-order = numbers-sound (table s) (numbers s) (columnsIn lent) (matchesIn lent) (s .pre .0 .1)
 
 same-columns : {ch ch′ st st′ ma ma′ wa wa′ : List ℕ} (p : List ℕ) (k : List ℤ) → ch ≡ ch′ → st ≡ st′ → ma ≡ ma′
     → wa ≡ wa′ → columnsOf ch p k st ma wa ≡ columnsOf ch′ p k st′ ma′ wa′
@@ -182,7 +182,7 @@ senders-ok-requires c κs =
     let e : length (columnsIn (lent s []) .channels) ≡ 1024 = rw (← l .0) (l .1) in (
       (
         s .pre .0 .0,
-        rw (l .0) (known-flat (table s) (numbers s) (columnsIn (lent s [])) (matchesIn (lent s [])) (omega arith)
+        rw (l .0) (known-numbers (table s) (numbers s) (columnsIn (lent s [])) (matchesIn (lent s [])) (omega arith)
             (messages-say q [] ∙ not-false _ (z .if2 .left))),
       ),
       s .pre .0 .1,

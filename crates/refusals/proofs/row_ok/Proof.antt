@@ -8,7 +8,7 @@ use borrow.Author.Needs.{needs}
 use lib.ListN.{getD}
 use native.Mathlib.Omega.{arith}
 use Rattle.model.specs.Layout.{tableOf}
-use Rattle.rows.specs.Flat.{phaseOk}
+use Rattle.rows.specs.Numbers.{phaseOk}
 use Rattle.refusals.specs.Rows.{row, within, limits}
 use Rattle.rows.proofs.WalkLaws.{part-at}
 use Rattle.refusals.proofs.RowLaws.{kind-below, numbers-ok, row-yes, row-no, phase-no}

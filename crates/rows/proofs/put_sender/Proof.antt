@@ -5,7 +5,7 @@ use lib.ListN.{length, length-set, length-map}
 use lib.Seq.{paste, length-paste}
 use native.Mathlib.Omega.{arith}
 use Rattle.rows.specs.Fits.{SenderFits}
-use Rattle.rows.specs.Flat.{senderNumbers}
+use Rattle.rows.specs.Numbers.{senderNumbers}
 use Rattle.rows.proofs.SenderLaws.{sender-long}
 use Rattle.rows.proofs.StoreLaws.{sender-stored}
 use Rattle.rows.proofs.put_sender.Statement.{statement}

@@ -11,7 +11,7 @@ use Rattle.state.specs.declared.Phase.the-variants as P
 use Rattle.state.specs.declared.State as DS
 use Rattle.state.specs.declared.State.the-variants as S
 use Rattle.state.specs.declared.Sender as DD
-use Rattle.boards.specs.declared.Board as DB
+use Rattle.boards.specs.Boards.{HeldBoard}
 
 abbrev pub stateNumber : DS.State → ℕ
 stateNumber S.Idle = 0
@@ -53,7 +53,7 @@ sendersNumbers [] = []
 sendersNumbers (d ∷ ds) = senderNumbers d ++ sendersNumbers ds
 
 -- 0 messages, 1 matches, then the senders
-unfoldable pub boardNumbers : DB.Board → List ℕ
+unfoldable pub boardNumbers : HeldBoard → List ℕ
 boardNumbers b = b .messages ∷ b .matches ∷ sendersNumbers (b .senders)
 
 -- wake, signal and pass end have no place
@@ -80,5 +80,5 @@ sendersOk zero s = true
 sendersOk (suc n) s = senderOk (take 21 s) && sendersOk n (drop 21 s)
 
 -- numbers, each below 65,536, that are those of a board
-unfoldable pub flatOk : List ℕ → Bool
-flatOk s = eqb (length s) 674 && sendersOk 32 (drop 2 s)
+unfoldable pub numbersOk : List ℕ → Bool
+numbersOk s = eqb (length s) 674 && sendersOk 32 (drop 2 s)

@@ -18,15 +18,15 @@ use Rattle.soundness.specs.Tests.{messagesOk}
 use Rattle.senders.specs.Seen.{Seen, Known}
 use Rattle.refusals.specs.Judged.{statusesOk}
 use Rattle.refusals.proofs.Parts.{matchesTest, sound-is, seen-on, known-on}
-use Rattle.rows.specs.Flat.{sendersOk, flatOk}
+use Rattle.rows.specs.Numbers.{sendersOk, numbersOk}
 use Rattle.rows.specs.Decoded.{boardFrom}
 use Rattle.refusals.specs.Rows.{rowsOk, sendersIn}
 use Rattle.refusals.proofs.RowWalks.{senders-count, rows-are}
 
 -- numbers of another length are no board's
-pub flat-short : (s : List ℕ) → (length s ≡ 674 → ⊥) → flatOk s ≡ false
-unfolding flatOk
-flat-short s e = rw (ne-eqb (length s) 674 e)
+pub numbers-short : (s : List ℕ) → (length s ≡ 674 → ⊥) → numbersOk s ≡ false
+unfolding numbersOk
+numbers-short s e = rw (ne-eqb (length s) 674 e)
 
 -- the numbers' test beside that of the senders
 moved : (f x y z e n : Bool) → (f && (x && (y && (z && (e && n))))) ≡ (x && (y && (z && ((f && e) && n))))
@@ -46,12 +46,12 @@ module _ (t : Table) (s : List ℕ) (c : Columns) (m : MatchColumns) where
   sendersTest = rowsOk t boardOn 32 (drop 2 s) && noneShared (map (senderIn t) (sendersIn s))
 
   -- numbers of a sound board, in the order of the code
-  pub flat-sound : length s ≡ 674
-      → (flatOk s && (statusesOk (boardFrom s .messages) (c .statuses) && sound t boardOn))
+  pub numbers-sound : length s ≡ 674
+      → (numbersOk s && (statusesOk (boardFrom s .messages) (c .statuses) && sound t boardOn))
       ≡ ((leb (getD s 0 0) 1024 && leb (getD s 1 0) 1024)
       && (messagesOk t boardOn c (getD s 0 0) && (matchesTest t (boardFrom s) c m && sendersTest)))
-  unfolding flatOk boardFrom
-  flat-sound e =
+  unfolding numbersOk boardFrom
+  numbers-sound e =
       rw (
         eq-eqb (length s) 674 e,
         sound-is t (boardFrom s) c m (senders-count 32 (drop 2 s)),
@@ -62,11 +62,11 @@ module _ (t : Table) (s : List ℕ) (c : Columns) (m : MatchColumns) where
       (every (senderOk t boardOn) (map (senderIn t) (sendersIn s))) (noneShared (map (senderIn t) (sendersIn s))))
 
   -- what the test of senders sees of the board
-  pub seen-flat : Seen boardOn (getD s 0 0) (getD s 1 0) (c .channels)
+  pub seen-numbers : Seen boardOn (getD s 0 0) (getD s 1 0) (c .channels)
   unfolding boardFrom
-  seen-flat = seen-on t (boardFrom s) c m
+  seen-numbers = seen-on t (boardFrom s) c m
 
-  pub known-flat : getD s 0 0 ≤ length (c .channels) → messagesOk t boardOn c (getD s 0 0) ≡ true
+  pub known-numbers : getD s 0 0 ≤ length (c .channels) → messagesOk t boardOn c (getD s 0 0) ≡ true
       → Known t (getD s 0 0) (c .channels)
   unfolding boardFrom
-  known-flat l e = known-on t (boardFrom s) c m l e
+  known-numbers l e = known-on t (boardFrom s) c m l e
