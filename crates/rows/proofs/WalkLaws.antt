@@ -50,18 +50,6 @@ numbers-more [] d = append-nil (senderNumbers d)
 numbers-more (x ∷ xs) d =
     rw (numbers-more xs d) (sym (append-assoc (senderNumbers x) (sendersNumbers xs) (senderNumbers d)))
 
--- one sender more that fits
-fit-more : (ds : List DD.Sender) (d : DD.Sender) → SendersFit ds → SenderFits d → SendersFit (ds ++ (d ∷ []))
-fit-more [] d f g = (g, tt)
-fit-more (x ∷ xs) d f g = (f .0, fit-more xs d (f .1) g)
-
-module _ (ds : List DD.Sender) (i : ℕ) (h : i < length ds) (f : SendersFit (take i ds)) where
-  pub fit-written : (z : DD.Sender) → SenderFits (getD ds i z) → SendersFit (take (i + 1) ds)
-  fit-written z g = rw (add-one i, take-suc ds i z h) (fit-more (take i ds) (getD ds i z) f g)
-
-pub fit-end : (ds : List DD.Sender) (i : ℕ) → length ds ≡ 32 → 32 ≤ i → SendersFit (take i ds) → SendersFit ds
-fit-end ds i l h f = rw (take-all i ds (omega arith)) at f
-
 -- no sender is written yet
 pub none-written : (front : List ℕ) → front ≡ front ++ sendersNumbers []
 unfolding sendersNumbers
