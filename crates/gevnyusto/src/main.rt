@@ -1,26 +1,25 @@
 // The matching board as a program: it reads `rules.bin`, plays the lines of its standard input, and prints what each
 // answers and, at the end, what is on the board.
 ghost use mathlib.Core.Path.{_≡_};
-ghost use Prim.Native.Nat.{_<_, _≤_};
-ghost use lib.ListN.{length};
+ghost use Prim.Native.Nat.{_≤_};
+ghost use lib.ListN.{length, getD};
 ghost use Rattle.model.specs.Layout.{tableRefusal};
-ghost use Rattle.boards.specs.Calls.{heldBy};
-ghost use Rattle.refusals.specs.Calls.{refusalOf};
-ghost use Rattle.columns.specs.Columns.{columnsOf};
-ghost use Rattle.columns.specs.MatchColumns.{matchesOf};
-ghost use Rattle.refusals.specs.Judged.{Lengths};
-ghost use Rattle.adding.specs.Opens.{emptyHeld};
+ghost use Rattle.columns.specs.Columns.{Passed};
+ghost use Rattle.boards.specs.Layout.{lists, statusesIn};
+ghost use Rattle.rows.specs.Flat.{boardNumbers};
+ghost use Rattle.refusals.specs.Held.{Accepted};
+ghost use Rattle.calls.specs.Opens.{freshBoard};
 ghost use Rattle.io.specs.Counts.{Counts};
-use boards::Board;
 use libc::STDIN_FILENO;
 use libc::STDOUT_FILENO;
 use sessions::Carry;
 use state::Said;
 
-// The board and the bytes since the last line feed, and whether the input may go on.
+// The bytes since the last line feed, where the messages start that are not all consumed, and whether the input may go
+// on.
 struct Fed {
-    board: Board,
     carry: Carry,
+    start: u16,
     more: bool,
 }
 
@@ -56,48 +55,41 @@ fn refuse(number: u8) {
 // A chunk of the input: its lines are served and their answers printed.
 fn serve_read(
     table: &[u8],
-    b: Board,
+    board: &mut [u16],
+    bytes: &mut [u8],
+    links: &mut [u16],
+    keys: &mut [u32],
+    cents: &mut [i64],
     carry: Carry,
     input: &[u8],
-    channels: &mut [u8],
-    properties: &mut [u32],
-    cents: &mut [i64],
-    statuses: &mut [u8],
-    matched: &mut [u16],
-    wakers: &mut [u16],
-    chords: &mut [u8],
-    messages: &mut [u16],
+    start: u16,
 ) -> Fed
-    requires { ⌜ refusalOf (now table) (heldBy b (now channels) (now properties) (now cents)
-        (now statuses) (now matched) (now wakers) (now chords) (now messages)) ≡ 0 ⌝ }
+    requires { ⌜ Accepted (now table) (lists (now board) (now bytes) (now links) (now keys) (now cents)) ⌝ }
+    requires { ⌜ Passed start (getD (now board) 0 0) (statusesIn (now bytes)) ⌝ }
     requires { ⌜ (carry .len ≤ 81) × (length (now input) ≤ 4096) ⌝ }
-    ensures { λ r. ⌜ refusalOf (now (table .entry))
-        (heldBy (r .board) (now (channels .exit)) (now (properties .exit)) (now (cents .exit)) (now (statuses .exit))
-        (now (matched .exit)) (now (wakers .exit)) (now (chords .exit)) (now (messages .exit))) ≡ 0 ⌝ }
+    ensures { λ _. ⌜ Accepted (now (table .entry))
+        (lists (now (board .exit)) (now (bytes .exit)) (now (links .exit)) (now (keys .exit)) (now (cents .exit))) ⌝ }
+    ensures { λ r. ⌜ Passed (r .start) (getD (now (board .exit)) 0 0) (statusesIn (now (bytes .exit))) ⌝ }
     ensures { λ r. ⌜ r .carry .len ≤ 81 ⌝ }
 {
     let mut out = io::large_buffer();
     let served = sessions::serve_chunk(
         table,
-        b,
+        board,
+        bytes,
+        links,
+        keys,
+        cents,
         carry,
         input,
         &mut out,
-        channels,
-        properties,
-        cents,
-        statuses,
-        matched,
-        wakers,
-        chords,
-        messages,
+        start,
     );
     say(&out, served.at);
-    let board = served.board;
     let rest = served.carry;
     Fed {
-        board: board,
         carry: rest,
+        start: served.start,
         more: true,
     }
 }
@@ -105,93 +97,69 @@ fn serve_read(
 // One read of standard input.
 fn serve_some(
     table: &[u8],
-    b: Board,
-    carry: Carry,
-    channels: &mut [u8],
-    properties: &mut [u32],
+    board: &mut [u16],
+    bytes: &mut [u8],
+    links: &mut [u16],
+    keys: &mut [u32],
     cents: &mut [i64],
-    statuses: &mut [u8],
-    matched: &mut [u16],
-    wakers: &mut [u16],
-    chords: &mut [u8],
-    messages: &mut [u16],
+    carry: Carry,
+    start: u16,
 ) -> Fed
-    requires { ⌜ refusalOf (now table) (heldBy b (now channels) (now properties) (now cents)
-        (now statuses) (now matched) (now wakers) (now chords) (now messages)) ≡ 0 ⌝ }
+    requires { ⌜ Accepted (now table) (lists (now board) (now bytes) (now links) (now keys) (now cents)) ⌝ }
+    requires { ⌜ Passed start (getD (now board) 0 0) (statusesIn (now bytes)) ⌝ }
     requires { ⌜ carry .len ≤ 81 ⌝ }
-    ensures { λ r. ⌜ refusalOf (now (table .entry))
-        (heldBy (r .board) (now (channels .exit)) (now (properties .exit)) (now (cents .exit)) (now (statuses .exit))
-        (now (matched .exit)) (now (wakers .exit)) (now (chords .exit)) (now (messages .exit))) ≡ 0 ⌝ }
+    ensures { λ _. ⌜ Accepted (now (table .entry))
+        (lists (now (board .exit)) (now (bytes .exit)) (now (links .exit)) (now (keys .exit)) (now (cents .exit))) ⌝ }
+    ensures { λ r. ⌜ Passed (r .start) (getD (now (board .exit)) 0 0) (statusesIn (now (bytes .exit))) ⌝ }
     ensures { λ r. ⌜ r .carry .len ≤ 81 ⌝ }
 {
     let mut input = [0u8; 4096];
     let got = libc::read(STDIN_FILENO, &mut input);
     if got <= 0 {
         return Fed {
-            board: b,
             carry: carry,
+            start: start,
             more: false,
         };
     }
     let n = io::count(got, &input);
     serve_read(
         table,
-        b,
+        board,
+        bytes,
+        links,
+        keys,
+        cents,
         carry,
         &input[..n],
-        channels,
-        properties,
-        cents,
-        statuses,
-        matched,
-        wakers,
-        chords,
-        messages,
+        start,
     )
 }
 
 // All of standard input.
 fn serve_all(
     table: &[u8],
-    b: Board,
-    channels: &mut [u8],
-    properties: &mut [u32],
+    board: &mut [u16],
+    bytes: &mut [u8],
+    links: &mut [u16],
+    keys: &mut [u32],
     cents: &mut [i64],
-    statuses: &mut [u8],
-    matched: &mut [u16],
-    wakers: &mut [u16],
-    chords: &mut [u8],
-    messages: &mut [u16],
 ) -> Fed
-    requires { ⌜ refusalOf (now table) (heldBy b (now channels) (now properties) (now cents)
-        (now statuses) (now matched) (now wakers) (now chords) (now messages)) ≡ 0 ⌝ }
-    ensures { λ r. ⌜ refusalOf (now (table .entry))
-        (heldBy (r .board) (now (channels .exit)) (now (properties .exit)) (now (cents .exit)) (now (statuses .exit))
-        (now (matched .exit)) (now (wakers .exit)) (now (chords .exit)) (now (messages .exit))) ≡ 0 ⌝ }
+    requires { ⌜ Accepted (now table) (lists (now board) (now bytes) (now links) (now keys) (now cents)) ⌝ }
+    ensures { λ _. ⌜ Accepted (now (table .entry))
+        (lists (now (board .exit)) (now (bytes .exit)) (now (links .exit)) (now (keys .exit)) (now (cents .exit))) ⌝ }
+    ensures { λ r. ⌜ Passed (r .start) (getD (now (board .exit)) 0 0) (statusesIn (now (bytes .exit))) ⌝ }
     ensures { λ r. ⌜ r .carry .len ≤ 81 ⌝ }
 {
     let mut fed = Fed {
-        board: b,
         carry: sessions::no_bytes(),
+        start: 0,
         more: true,
     };
     let mut turns = u64::MAX;
     while turns > 0 {
-        let board = fed.board;
         let carry = fed.carry;
-        fed = serve_some(
-            table,
-            board,
-            carry,
-            channels,
-            properties,
-            cents,
-            statuses,
-            matched,
-            wakers,
-            chords,
-            messages,
-        );
+        fed = serve_some(table, board, bytes, links, keys, cents, carry, fed.start);
         if !fed.more {
             return fed;
         }
@@ -203,301 +171,86 @@ fn serve_all(
 // The end of the input.
 fn finish(
     table: &[u8],
-    b: Board,
-    carry: Carry,
-    channels: &mut [u8],
-    properties: &mut [u32],
+    board: &mut [u16],
+    bytes: &mut [u8],
+    links: &mut [u16],
+    keys: &mut [u32],
     cents: &mut [i64],
-    statuses: &mut [u8],
-    matched: &mut [u16],
-    wakers: &mut [u16],
-    chords: &mut [u8],
-    messages: &mut [u16],
-) -> Board
-    requires { ⌜ refusalOf (now table) (heldBy b (now channels) (now properties) (now cents)
-        (now statuses) (now matched) (now wakers) (now chords) (now messages)) ≡ 0 ⌝ }
+    carry: Carry,
+    start: u16,
+)
+    requires { ⌜ Accepted (now table) (lists (now board) (now bytes) (now links) (now keys) (now cents)) ⌝ }
+    requires { ⌜ Passed start (getD (now board) 0 0) (statusesIn (now bytes)) ⌝ }
     requires { ⌜ carry .len ≤ 81 ⌝ }
-    ensures { λ r. ⌜ refusalOf (now (table .entry))
-        (heldBy r (now (channels .exit)) (now (properties .exit)) (now (cents .exit)) (now (statuses .exit))
-        (now (matched .exit)) (now (wakers .exit)) (now (chords .exit)) (now (messages .exit))) ≡ 0 ⌝ }
+    ensures { λ _. ⌜ Accepted (now (table .entry))
+        (lists (now (board .exit)) (now (bytes .exit)) (now (links .exit)) (now (keys .exit)) (now (cents .exit))) ⌝ }
 {
     let mut out = [0u8; 16];
     let served = sessions::serve_end(
         table,
-        b,
+        board,
+        bytes,
+        links,
+        keys,
+        cents,
         carry,
         &mut out,
-        channels,
-        properties,
-        cents,
-        statuses,
-        matched,
-        wakers,
-        chords,
-        messages,
+        start,
     );
     say(&out, served.at);
-    served.board
 }
 
-// The report.
-
-// The lines of matches from number k on, as many as a buffer holds; the number to go on with.
-fn say_some_matches(
-    table: &[u8],
-    b: Board,
-    channels: &[u8],
-    properties: &[u32],
-    cents: &[i64],
-    statuses: &[u8],
-    matched: &[u16],
-    wakers: &[u16],
-    chords: &[u8],
-    messages: &[u16],
-    k: u16,
-) -> u16
-    requires { ⌜ refusalOf (now table) (heldBy b (now channels) (now properties) (now cents)
-        (now statuses) (now matched) (now wakers) (now chords) (now messages)) ≡ 0 ⌝ }
-    requires { ⌜ k < b .matches ⌝ }
-    ensures { λ r. ⌜ (k < r) × (r ≤ b .matches) ⌝ }
+// What is on the board, in parts of a buffer each.
+fn report(table: &[u8], board: &[u16], bytes: &[u8], links: &[u16], keys: &[u32], cents: &[i64])
+    requires { ⌜ Accepted (now table) (lists (now board) (now bytes) (now links) (now keys) (now cents)) ⌝ }
 {
     let mut out = io::buffer();
-    let part = reports::match_lines(
-        table,
-        b,
-        channels,
-        properties,
-        cents,
-        statuses,
-        matched,
-        wakers,
-        chords,
-        messages,
-        k,
-        &mut out,
-    );
-    say(&out, part.at);
-    part.next
-}
-
-// The lines of all matches.
-fn say_matches(
-    table: &[u8],
-    b: Board,
-    channels: &[u8],
-    properties: &[u32],
-    cents: &[i64],
-    statuses: &[u8],
-    matched: &[u16],
-    wakers: &[u16],
-    chords: &[u8],
-    messages: &[u16],
-)
-    requires { ⌜ refusalOf (now table) (heldBy b (now channels) (now properties) (now cents)
-        (now statuses) (now matched) (now wakers) (now chords) (now messages)) ≡ 0 ⌝ }
-{
-    let mut k: u16 = 0;
-    while k < b.matches {
-        k = say_some_matches(
-            table,
-            b,
-            channels,
-            properties,
-            cents,
-            statuses,
-            matched,
-            wakers,
-            chords,
-            messages,
-            k,
-        );
+    let all = reports::line_count(board);
+    let mut next: usize = 0;
+    while next < all {
+        let part = reports::report_part(table, board, bytes, links, keys, cents, next, &mut out);
+        say(&out, part.at);
+        next = part.next;
     }
 }
 
-// The lines of open messages from number k on, as many as a buffer holds; the number to go on with.
-fn say_some_open(
-    table: &[u8],
-    b: Board,
-    channels: &[u8],
-    properties: &[u32],
-    cents: &[i64],
-    statuses: &[u8],
-    matched: &[u16],
-    wakers: &[u16],
-    chords: &[u8],
-    messages: &[u16],
-    k: u16,
-) -> u16
-    requires { ⌜ refusalOf (now table) (heldBy b (now channels) (now properties) (now cents)
-        (now statuses) (now matched) (now wakers) (now chords) (now messages)) ≡ 0 ⌝ }
-    requires { ⌜ k < b .messages ⌝ }
-    ensures { λ r. ⌜ (k < r) × (r ≤ b .messages) ⌝ }
-{
-    let mut out = io::buffer();
-    let part = reports::open_lines(
-        table,
-        b,
-        channels,
-        properties,
-        cents,
-        statuses,
-        matched,
-        wakers,
-        chords,
-        messages,
-        k,
-        &mut out,
-    );
-    say(&out, part.at);
-    part.next
-}
-
-// The lines of all messages that are not consumed.
-fn say_open(
-    table: &[u8],
-    b: Board,
-    channels: &[u8],
-    properties: &[u32],
-    cents: &[i64],
-    statuses: &[u8],
-    matched: &[u16],
-    wakers: &[u16],
-    chords: &[u8],
-    messages: &[u16],
-)
-    requires { ⌜ refusalOf (now table) (heldBy b (now channels) (now properties) (now cents)
-        (now statuses) (now matched) (now wakers) (now chords) (now messages)) ≡ 0 ⌝ }
-{
-    let mut k: u16 = 0;
-    while k < b.messages {
-        k = say_some_open(
-            table,
-            b,
-            channels,
-            properties,
-            cents,
-            statuses,
-            matched,
-            wakers,
-            chords,
-            messages,
-            k,
-        );
-    }
-}
-
-fn say_quiet(b: Board) {
-    let mut out = [0u8; 10];
-    let n = reports::quiet_line(b, &mut out);
-    say(&out, n);
-}
-
-// The input on an empty board, then the report.
+// The input on accepted lists, then the report.
 fn serve(
     table: &[u8],
-    b: Board,
-    channels: &mut [u8],
-    properties: &mut [u32],
+    board: &mut [u16],
+    bytes: &mut [u8],
+    links: &mut [u16],
+    keys: &mut [u32],
     cents: &mut [i64],
-    statuses: &mut [u8],
-    matched: &mut [u16],
-    wakers: &mut [u16],
-    chords: &mut [u8],
-    messages: &mut [u16],
 )
-    requires { ⌜ (tableRefusal (now table) ≡ 0) × (b ≡ emptyHeld) ⌝ }
-    requires { ⌜ Lengths (columnsOf (now channels) (now properties) (now cents) (now statuses) (now matched)
-        (now wakers)) (matchesOf (now chords) (now messages)) ⌝ }
+    requires { ⌜ Accepted (now table) (lists (now board) (now bytes) (now links) (now keys) (now cents)) ⌝ }
 {
-    let fed = serve_all(
-        table,
-        b,
-        channels,
-        properties,
-        cents,
-        statuses,
-        matched,
-        wakers,
-        chords,
-        messages,
-    );
-    let board = fed.board;
+    let fed = serve_all(table, board, bytes, links, keys, cents);
     let carry = fed.carry;
-    let last = finish(
-        table,
-        board,
-        carry,
-        channels,
-        properties,
-        cents,
-        statuses,
-        matched,
-        wakers,
-        chords,
-        messages,
-    );
-    say_matches(
-        table,
-        last,
-        channels,
-        properties,
-        cents,
-        statuses,
-        matched,
-        wakers,
-        chords,
-        messages,
-    );
-    say_open(
-        table,
-        last,
-        channels,
-        properties,
-        cents,
-        statuses,
-        matched,
-        wakers,
-        chords,
-        messages,
-    );
-    say_quiet(last);
+    finish(table, board, bytes, links, keys, cents, carry, fed.start);
+    report(table, board, bytes, links, keys, cents);
 }
 
-// An accepted table and an empty board.
-fn run(table: &[u8], b: Board)
-    requires { ⌜ (tableRefusal (now table) ≡ 0) × (b ≡ emptyHeld) ⌝ }
+// An accepted table and an opened board.
+fn run(table: &[u8], board: &mut [u16])
+    requires { ⌜ (tableRefusal (now table) ≡ 0) × (now board ≡ boardNumbers freshBoard) ⌝ }
 {
-    let mut channels = [0u8; 1024];
-    let mut properties = [0u32; 1024];
+    let mut bytes = [0u8; 3072];
+    let mut links = [0u16; 10240];
+    let mut keys = [0u32; 1024];
     let mut cents = [0i64; 1024];
-    let mut statuses = [0u8; 1024];
-    let mut matched = [0u16; 1024];
-    let mut wakers = [0u16; 1024];
-    let mut chords = [0u8; 1024];
-    let mut messages = [0u16; 8192];
-    serve(
-        table,
-        b,
-        &mut channels,
-        &mut properties,
-        &mut cents,
-        &mut statuses,
-        &mut matched,
-        &mut wakers,
-        &mut chords,
-        &mut messages,
-    );
+    serve(table, board, &mut bytes, &mut links, &mut keys, &mut cents);
 }
 
 fn main() {
     let mut file = [0u8; 413];
     let n = load(&mut file);
     let table = &file[..n];
-    let opened = adding::open_board(table);
-    if opened.number != 0 {
-        refuse(opened.number);
+    let mut board = [0u16; 674];
+    let number = calls::open(table, &mut board);
+    if number != 0 {
+        refuse(number);
         return;
     }
-    let b = opened.board;
-    run(table, b);
+    run(table, &mut board);
 }

@@ -1,2 +1,0 @@
--- What the proofs of the program share.
-pub mod Opened
