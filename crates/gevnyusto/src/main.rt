@@ -6,7 +6,7 @@ ghost use lib.ListN.{length, getD};
 ghost use Rattle.model.specs.Layout.{tableRefusal};
 ghost use Rattle.columns.specs.Columns.{Passed};
 ghost use Rattle.boards.specs.Layout.{lists, statusesIn};
-ghost use Rattle.rows.specs.Flat.{boardNumbers};
+ghost use Rattle.rows.specs.Numbers.{boardNumbers};
 ghost use Rattle.refusals.specs.Held.{Accepted};
 ghost use Rattle.calls.specs.Opens.{freshBoard};
 ghost use Rattle.io.specs.Counts.{Counts};
