@@ -101,7 +101,7 @@ fn damaged_table(pair: &mut Pair, random: &mut Random) -> Checked<()> {
 /// A replay of any numbers as they come, and one of whose lists one has another length.
 fn any_replay(pair: &mut Pair, random: &mut Random) -> Checked<()> {
     let table = pair.parsed().ok_or("the table is refused")?;
-    let count = 1 + random.below(40);
+    let count = random.below(40);
     let calls: Vec<Call> = (0..count).map(|_| random_call(random, &table, &pair.ours, 1)).collect();
     let mut rows = Rows::of(&calls);
     for kind in rows.calls.iter_mut().step_by(3) {
@@ -113,14 +113,14 @@ fn any_replay(pair: &mut Pair, random: &mut Random) -> Checked<()> {
         return Err(format!("a replay of any numbers answered {number}"));
     }
     pair.set(&lists);
-    let (list, length) = (random.below(ROWS.len()), random.below(LENGTHS.len()));
+    let (list, length) = (random.below(ROWS.len()), if count == 0 { 0 } else { random.below(LENGTHS.len()) });
     match list {
         0 => resize(&mut rows.calls, length),
         1 => resize(&mut rows.numbers, length),
         _ => resize(&mut rows.amounts, length),
     }
     pair.tally.seen.note(format!("{} {}", ROWS[list], LENGTHS[length]));
-    let (number, _) = pair.replay(&rows, random.pick(&[0, count - 1, count + 1]))?;
+    let (number, _) = pair.replay(&rows, random.pick(&[0, count, count + 1]))?;
     if number == 30 { Ok(()) } else { Err(format!("a replay of uneven rows answered {number}")) }
 }
 
