@@ -2,12 +2,11 @@
 use mathlib.Core.List.{List}
 use Prim.Native.Nat.{ℕ}
 use lib.IntN.{ℤ}
-use Rattle.model.specs.Tables.{Table}
 use Rattle.model.specs.Boards as MB
 use Rattle.model.specs.Pools as MP
 use Rattle.columns.specs.Columns.{Columns, columnsOf}
 use Rattle.columns.specs.MatchColumns.{MatchColumns, matchesOf}
-use Rattle.boards.specs.Boards.{HeldBoard, boardIn}
+use Rattle.boards.specs.Boards.{HeldBoard}
 use Rattle.boards.specs.declared.Sent as DS
 use Rattle.boards.specs.declared.Call as DC
 use Rattle.boards.specs.declared.Call.the-variants as C
@@ -25,10 +24,6 @@ held b c m = record { board = b; columns = c; matches = m }
 abbrev pub heldBy : HeldBoard → List ℕ → List ℕ → List ℤ → List ℕ → List ℕ → List ℕ → List ℕ → List ℕ → Held
 heldBy b channels properties cents statuses matched wakers chords messages =
     held b (columnsOf channels properties cents statuses matched wakers) (matchesOf chords messages)
-
--- as the model's board
-abbrev pub heldIn : Table → Held → MB.Board
-heldIn t h = boardIn t (h .board) (h .columns) (h .matches)
 
 abbrev pub sentIn : DS.Sent → MB.Sent
 sentIn x = record { channel = x .channel; property = x .property; cents = x .cents }

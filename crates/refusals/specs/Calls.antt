@@ -8,12 +8,13 @@ use Rattle.model.specs.Layout.{tableOf}
 use Rattle.model.specs.Boards.{Board}
 use Rattle.model.specs.Effects.{Said, Refused, numberOf}
 use Rattle.model.specs.Pools.{Call, answerTo}
-use Rattle.boards.specs.Calls.{Held, heldIn}
+use Rattle.boards.specs.Boards.{boardIn}
+use Rattle.boards.specs.Calls.{Held}
 use Rattle.refusals.specs.Judged.{boardRefusal}
 
 -- the model's board, by the table's bytes
 abbrev pub boardOf : List ℕ → Held → Board
-boardOf s h = heldIn (tableOf s) h
+boardOf s h = boardIn (tableOf s) (h .board) (h .columns) (h .matches)
 
 -- the number that every board call gives first; 0 for none
 abbrev pub refusalOf : List ℕ → Held → ℕ
