@@ -18,7 +18,7 @@ use Rattle.columns.specs.MatchColumns.{MatchColumns}
 use Rattle.state.specs.declared.Sender as DD
 use Rattle.boards.specs.Boards.{HeldBoard, boardIn}
 use Rattle.boards.specs.Layout.{Lists, boardLen, Sized, columnsIn, matchesIn}
-use Rattle.rows.specs.Numbers.{boardNumbers, numbersOk}
+use Rattle.rows.specs.Numbers.{boardNumbers, encodes}
 use Rattle.rows.specs.Decoded.{boardFrom}
 use Rattle.rows.specs.Fits.{SenderFits, SendersFit, BoardFits}
 use Rattle.rows.specs.Fresh.{freshSender}
@@ -91,7 +91,7 @@ module _ (s : List ℕ) (l : Lists) where
 
   pub opened-accepted : tableRefusal s ≡ 0 → l .board ≡ boardNumbers freshBoard → Sized l → Accepted s l
   opened-accepted e f z = record {
-    numbers = ap numbersOk f ∙ encoded-ok freshBoard fresh-fits;
+    numbers = ap encodes f ∙ encoded-ok freshBoard fresh-fits;
     sized = z;
     accepted = accepts s (heldOf l) e (columns-sized l z)
         (ap (λ (b : HeldBoard). statusesOk (b .messages) (columnsIn l .statuses)) (fresh-is f) ∙ none-known _)

@@ -15,7 +15,7 @@ use Rattle.columns.specs.Columns.{statusOf}
 use Rattle.reads.specs.declared.MessageRead as DM
 use Rattle.reads.specs.declared.MatchRead as DR
 use Rattle.reads.specs.Reads.{messageOf, readOf}
-use Rattle.host.specs.Reads.{statusNumber, messageNumbers, matchNumbers, stored}
+use Rattle.host.specs.Reads.{statusNumber, messageNumbers, matchNumbers, storedIn}
 
 -- a byte up to 3 is a status
 status-back : (x : ℕ) → x ≤ 3 → statusNumber (statusOf x) ≡ x
@@ -42,7 +42,7 @@ module _ (m : DM.MessageRead) (s : m .status ≤ 3) where
       → mag (m .cents) < 9223372036854775808 → m .matched < 65536 → m .waker < 65536
       → set (set (set (set (set (set out 0 (toZ w64 (m .channel))) 1 (toZ w64 (m .property)))
       2 (toZ w64 (ofZ w64 (m .cents)))) 3 (toZ w64 (m .status))) 4 (toZ w64 (m .matched))) 5 (toZ w64 (m .waker))
-      ≡ stored (messageNumbers (messageOf m)) out
+      ≡ storedIn (messageNumbers (messageOf m)) out
   message-put out h channel property cents matched waker =
       rw (
         message-spelled,
@@ -56,7 +56,7 @@ module _ (m : DM.MessageRead) (s : m .status ≤ 3) where
       (sets-eq (pos (m .channel) ∷ pos (m .property) ∷ m .cents ∷ pos (m .status) ∷ pos (m .matched) ∷
       pos (m .waker) ∷ []) out 0 h)
 
-pub one-put : (out : List ℤ) (a : ℤ) → 1 ≤ length out → set out 0 a ≡ stored (a ∷ []) out
+pub one-put : (out : List ℤ) (a : ℤ) → 1 ≤ length out → set out 0 a ≡ storedIn (a ∷ []) out
 one-put out a h = sets-eq (a ∷ []) out 0 h
 
 -- one of eight messages more
@@ -69,7 +69,7 @@ eight-next out ms i h l k f =
     (paste-suc out 3 (map pos ms) i (pos 0) (omega arith) (omega (arith, n)))
 
 three-put : (out xs : List ℤ) (a b c : ℤ) → 11 ≤ length out → length xs ≡ 8
-    → set (set (set (paste out 3 xs 8) 0 a) 1 b) 2 c ≡ stored (a ∷ b ∷ c ∷ xs) out
+    → set (set (set (paste out 3 xs 8) 0 a) 1 b) 2 c ≡ storedIn (a ∷ b ∷ c ∷ xs) out
 three-put [] xs a b c h l = absurd (omega arith)
 three-put (x ∷ []) xs a b c h l = absurd (omega arith)
 three-put (x ∷ y ∷ []) xs a b c h l = absurd (omega arith)
@@ -87,7 +87,7 @@ module _ (m : DR.MatchRead) (l : length (m .messages) ≡ 8) (k : m .len ≤ 8)
   pub match-put : (out : List ℤ) → 11 ≤ length out → m .chord < 256 → mag (m .cents) < 9223372036854775808
       → set (set (set (paste out 3 (map pos (m .messages)) 8) 0 (toZ w64 (m .chord))) 1 (toZ w64 (m .len)))
       2 (toZ w64 (ofZ w64 (m .cents)))
-      ≡ stored (matchNumbers (readOf m)) out
+      ≡ storedIn (matchNumbers (readOf m)) out
   match-put out h chord cents =
       rw (
         match-spelled,

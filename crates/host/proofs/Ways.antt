@@ -10,7 +10,7 @@ use lib.ListN.{length}
 use Rattle.model.specs.Basics.{unless, firstOf}
 use Rattle.boards.specs.Calls.{Held}
 use Rattle.calls.specs.Reads.{answered}
-use Rattle.host.specs.Reads.{Reading, stored, readNumber, readAfter}
+use Rattle.host.specs.Reads.{Reading, storedIn, readNumber, readAfter}
 
 -- a read answers n, and turns the lent slice from before to after
 abbrev pub Gives : List ℕ → Held → Reading → List ℤ → ℕ → List ℤ → Type 0
@@ -25,7 +25,7 @@ module _ (s : List ℕ) (h : Held) (q : Reading) (before : List ℤ) where
   pub read-refused : (n : ℕ) → n ≡ q .number s h → n ≢ 0 → Gives s h q before n before
   unfolding readNumber readAfter
   read-refused n e f =
-      let r = refused (q .number s h) (unless (leb (q .size) (length before)) 31 0) (stored (q .numbers s h) before)
+      let r = refused (q .number s h) (unless (leb (q .size) (length before)) 31 0) (storedIn (q .numbers s h) before)
       before (λ z. f (e ∙ z)) in
       (e ∙ r .0, r .1)
 
@@ -34,6 +34,6 @@ module _ (s : List ℕ) (h : Held) (q : Reading) (before : List ℤ) where
   read-short e l = rw (sym e, lt-leb (q .size) (length before) l) (refl, refl)
 
   pub read-given : (after : List ℤ) → 0 ≡ q .number s h → q .size ≤ length before
-      → after ≡ stored (q .numbers s h) before → Gives s h q before 0 after
+      → after ≡ storedIn (q .numbers s h) before → Gives s h q before 0 after
   unfolding readNumber readAfter
   read-given after e l g = rw (sym e, le-leb (q .size) (length before) l) (refl, g)

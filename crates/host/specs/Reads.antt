@@ -32,8 +32,8 @@ matchNumbers r =
     map pos (r .messages ++ drop (length (r .messages)) (replicate 8 0))
 
 -- a slice that begins with these numbers, and is kept past them
-abbrev pub stored : List ℤ → List ℤ → List ℤ
-stored numbers out = numbers ++ drop (length numbers) out
+abbrev pub storedIn : List ℤ → List ℤ → List ℤ
+storedIn numbers out = numbers ++ drop (length numbers) out
 
 -- a read: its refusal, how many numbers it gives, and which
 pub record Reading : Type 0 where
@@ -78,4 +78,4 @@ module _ (s : List ℕ) (h : Held) (q : Reading) (before : List ℤ) where
 
   -- the lent slice afterwards
   unfoldable pub readAfter : List ℤ
-  readAfter = answered readNumber (stored (q .numbers s h) before) before
+  readAfter = answered readNumber (storedIn (q .numbers s h) before) before

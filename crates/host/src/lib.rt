@@ -16,7 +16,7 @@ ghost use Rattle.plays.specs.Replays.{callRows};
 ghost use Rattle.calls.specs.Opens.{openNumber, openedNumbers};
 ghost use Rattle.calls.specs.Calls.{Replays-in};
 ghost use Rattle.host.specs.Answers.{Answers};
-ghost use Rattle.host.specs.Reads.{messageNumbers, matchNumbers, stored, ofMessage, ofMatch, ofReply, ofQuiet};
+ghost use Rattle.host.specs.Reads.{messageNumbers, matchNumbers, storedIn, ofMessage, ofMatch, ofReply, ofQuiet};
 ghost use Rattle.host.specs.Reads.{readNumber, readAfter};
 use boards::Sent;
 use reads::MatchRead;
@@ -136,7 +136,7 @@ pub extern "C" fn gv_replay(
 fn put_message(out: &mut [i64], m: MessageRead)
     requires { ⌜ 6 ≤ length (now out) ⌝ }
     requires { ⌜ m .status ≤ 3 ⌝ }
-    ensures { λ _. ⌜ now (out .exit) ≡ stored (messageNumbers (messageOf m)) (now (out .entry)) ⌝ }
+    ensures { λ _. ⌜ now (out .exit) ≡ storedIn (messageNumbers (messageOf m)) (now (out .entry)) ⌝ }
 {
     let cents = m.cents;
     out[0] = m.channel as i64;
@@ -150,7 +150,7 @@ fn put_message(out: &mut [i64], m: MessageRead)
 // One number.
 fn put_one(out: &mut [i64], n: u16)
     requires { ⌜ 1 ≤ length (now out) ⌝ }
-    ensures { λ _. ⌜ now (out .exit) ≡ stored (pos n ∷ []) (now (out .entry)) ⌝ }
+    ensures { λ _. ⌜ now (out .exit) ≡ storedIn (pos n ∷ []) (now (out .entry)) ⌝ }
 {
     out[0] = n as i64;
 }
@@ -171,7 +171,7 @@ fn put_eight(out: &mut [i64], messages: &[u16])
 fn put_match(out: &mut [i64], m: MatchRead)
     requires { ⌜ 11 ≤ length (now out) ⌝ }
     requires { ⌜ (m .len ≤ 8) × (drop (m .len) (m .messages) ≡ drop (m .len) (replicate 8 0)) ⌝ }
-    ensures { λ _. ⌜ now (out .exit) ≡ stored (matchNumbers (readOf m)) (now (out .entry)) ⌝ }
+    ensures { λ _. ⌜ now (out .exit) ≡ storedIn (matchNumbers (readOf m)) (now (out .entry)) ⌝ }
 {
     let messages = m.messages;
     let cents = m.cents;

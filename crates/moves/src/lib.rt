@@ -12,7 +12,7 @@ ghost use Rattle.state.specs.Views.{saidIn, canStep};
 ghost use Rattle.boards.specs.Boards.{zeroSender};
 ghost use Rattle.boards.specs.Calls.{Held, sentIn, callIn};
 ghost use Rattle.boards.specs.Layout.{lists, statusesIn};
-ghost use Rattle.rows.specs.Numbers.{numbersOk};
+ghost use Rattle.rows.specs.Numbers.{encodes};
 ghost use Rattle.rows.specs.Decoded.{boardFrom};
 ghost use Rattle.refusals.specs.Held.{heldOf, Accepted};
 ghost use Rattle.refusals.specs.Calls.{refusalOf, Plays};
@@ -46,7 +46,7 @@ fn place_of(i: u16) -> u8
 
 // The number that refuses a step of sender i; 0 for none.
 fn step_refusal(board: &[u16], i: u16) -> u8
-    requires { ⌜ numbersOk (now board) ≡ true ⌝ }
+    requires { ⌜ encodes (now board) ≡ true ⌝ }
     ensures { λ r. ⌜ ((t : Table) → r ≡ callRefusal t (boardFrom (now (board .entry))) (steps i)) ⌝ }
 {
     if i >= 32 {
@@ -60,7 +60,7 @@ fn step_refusal(board: &[u16], i: u16) -> u8
 
 // The number that refuses a call by itself; 0 for none.
 pub fn call_refusal(table: &[u8], board: &[u16], call: Call) -> u8
-    requires { ⌜ (tableRefusal (now table) ≡ 0) × (numbersOk (now board) ≡ true) ⌝ }
+    requires { ⌜ (tableRefusal (now table) ≡ 0) × (encodes (now board) ≡ true) ⌝ }
     ensures { λ r. ⌜ r ≡ callRefusal (tableOf (now (table .entry))) (boardFrom (now (board .entry))) (callIn call) ⌝ }
 {
     match call {

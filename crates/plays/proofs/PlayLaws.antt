@@ -10,7 +10,7 @@ use Rattle.model.specs.Effects.{Said, Refused, numberOf}
 use Rattle.model.specs.Pools.{Call}
 use Rattle.boards.specs.Calls.{Held}
 use Rattle.boards.specs.Layout.{Lists, Sized}
-use Rattle.rows.specs.Numbers.{numbersOk}
+use Rattle.rows.specs.Numbers.{encodes}
 use Rattle.refusals.specs.Held.{heldOf, Accepted}
 use Rattle.refusals.specs.Calls.{Plays}
 use Rattle.writes.specs.declared.Move as DM
@@ -23,7 +23,7 @@ use Rattle.plays.specs.Replays.{CallRows, callAt}
 module _ (s : List ℕ) (l : Lists) (k : Call) where
   -- the call's move by the sender at place i, written
   pub played : (l′ : Lists) (w : Said) (m : DM.Move) (i j : ℕ) → i ≡ j → Plays s (heldOf l) k w (movedHeld (heldOf l) j m)
-      → numberOf w ≡ 0 → heldOf l′ ≡ movedHeld (heldOf l) i m → numbersOk (l′ .board) ≡ true → Sized l′
+      → numberOf w ≡ 0 → heldOf l′ ≡ movedHeld (heldOf l) i m → encodes (l′ .board) ≡ true → Sized l′
       → PlaysIn s l k w l′
   played l′ w m i j at p n e f z = record {
     plays = subst (Plays s (heldOf l) k w) (sym (subst (λ x. heldOf l′ ≡ movedHeld (heldOf l) x m) at e)) p;

@@ -7,14 +7,14 @@ use Prim.Native.Nat.{ℕ}
 use Rattle.model.specs.Effects.{Said, numberOf}
 use Rattle.model.specs.Pools.{Call}
 use Rattle.boards.specs.Layout.{Lists, Sized}
-use Rattle.rows.specs.Numbers.{numbersOk}
+use Rattle.rows.specs.Numbers.{encodes}
 use Rattle.refusals.specs.Held.{heldOf}
 use Rattle.refusals.specs.Calls.{Plays}
 
 -- call k on l says w and leaves l′
 pub record PlaysIn (s : List ℕ) (l : Lists) (k : Call) (w : Said) (l′ : Lists) : Type 0 where
   pub plays : Plays s (heldOf l) k w (heldOf l′)
-  pub numbers : numbersOk (l′ .board) ≡ true
+  pub numbers : encodes (l′ .board) ≡ true
   pub sized : Sized l′
   -- a refused call leaves every list as found
   pub keeps : numberOf w ≢ 0 → l′ ≡ l

@@ -9,13 +9,13 @@ use Rattle.model.specs.Layout.{tableRefusal}
 use Rattle.boards.specs.Layout.{Lists, listsOk, Sized, columnsIn, matchesIn}
 use Rattle.boards.proofs.PartLaws.{length-part}
 use Rattle.boards.proofs.LayoutLaws.{sized-by, sized-ok}
-use Rattle.rows.specs.Numbers.{numbersOk}
+use Rattle.rows.specs.Numbers.{encodes}
 use Rattle.refusals.specs.Judged.{boardRefusal, lentOk, Lengths}
 use Rattle.refusals.specs.Held.{heldOf, heldIn, nothing, soundIn, Accepted}
 use Rattle.refusals.specs.Calls.{refusalOf}
 use Rattle.refusals.proofs.CallLaws.{lengths-ok}
 
-pub held-is : (l : Lists) → numbersOk (l .board) ≡ true → Sized l → heldIn l ≡ heldOf l
+pub held-is : (l : Lists) → encodes (l .board) ≡ true → Sized l → heldIn l ≡ heldOf l
 unfolding heldIn
 held-is l e n = rw (sized-ok l n, e)
 
@@ -41,9 +41,9 @@ refusal-none s = refl
 pub refusal-is : (s : List ℕ) (l : Lists)
     → refusalOf s (heldIn l) ≡ firstOf (tableRefusal s) (unless (listsOk l) 30 (unless (soundIn s l) 30 0))
 unfolding heldIn boardRefusal
-refusal-is s l = go (listsOk l) (numbersOk (l .board)) refl refl
+refusal-is s l = go (listsOk l) (encodes (l .board)) refl refl
   where
-    go : (x y : Bool) → listsOk l ≡ x → numbersOk (l .board) ≡ y
+    go : (x y : Bool) → listsOk l ≡ x → encodes (l .board) ≡ y
         → refusalOf s (pick (x && y) (heldOf l) nothing)
         ≡ firstOf (tableRefusal s) (unless x 30 (unless (soundIn s l) 30 0))
     go false y e f = refusal-none s
@@ -56,9 +56,9 @@ some-refusal (suc x) e = absurd (omega arith)
 
 pub accepted-lists : (s : List ℕ) (l : Lists) → refusalOf s (heldIn l) ≡ 0 → Accepted s l
 unfolding heldIn boardRefusal lentOk
-accepted-lists s l z = go (listsOk l) (numbersOk (l .board)) refl refl z
+accepted-lists s l z = go (listsOk l) (encodes (l .board)) refl refl z
   where
-    go : (x y : Bool) → listsOk l ≡ x → numbersOk (l .board) ≡ y → refusalOf s (pick (x && y) (heldOf l) nothing) ≡ 0
+    go : (x y : Bool) → listsOk l ≡ x → encodes (l .board) ≡ y → refusalOf s (pick (x && y) (heldOf l) nothing) ≡ 0
         → Accepted s l
     go false y e f z = some-refusal (tableRefusal s) z
     go true false e f z = some-refusal (tableRefusal s) z

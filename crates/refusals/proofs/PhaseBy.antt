@@ -9,7 +9,7 @@ use lib.Dec.{eqb, leb}
 use lib.ListN.{getD}
 use native.Mathlib.Omega.{arith}
 use Rattle.model.proofs.Tests.{same?}
-use Rattle.rows.specs.Numbers.{phaseOk}
+use Rattle.rows.specs.Numbers.{encodesPhase}
 
 abbrev pub places : List ℕ
 places = 255 ∷ 255 ∷ 255 ∷ 255 ∷ 255 ∷ 0 ∷ 255 ∷ 0 ∷ 0 ∷ 255 ∷ []
@@ -47,8 +47,8 @@ module _ (k s : ℕ) where
       go false e = rw (none-is k, ← e)
 
 pub phase-by : (n k s : ℕ) → n ≤ 9 → s ≤ 65535
-    → (leb k (getD places n 0) && leb s (getD seconds n 0)) ≡ phaseOk n k s
-unfolding phaseOk
+    → (leb k (getD places n 0) && leb s (getD seconds n 0)) ≡ encodesPhase n k s
+unfolding encodesPhase
 phase-by zero k s h l = placed k s
 phase-by (suc zero) k s h l = placed k s
 phase-by (suc (suc zero)) k s h l = rw (either-fits s)

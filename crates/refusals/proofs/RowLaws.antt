@@ -12,18 +12,18 @@ use native.Mathlib.Omega.{arith}
 use Rattle.model.specs.Basics.{pick}
 use Rattle.model.specs.Tables.{Table}
 use Rattle.model.specs.Boards.{Board, Sender, Job}
-use Rattle.model.specs.Sound.{stateOk, jobOk, senderOk as soundOk}
+use Rattle.model.specs.Sound.{stateOk, jobOk, senderOk}
 use Rattle.model.proofs.Tests.{both, never, tested, all-four}
 use Rattle.state.specs.declared.State.the-variants as S
 use Rattle.state.specs.Views.{jobIn, idleIs, stateIn}
 use Rattle.soundness.specs.Tests.{eachBelow}
 use Rattle.soundness.proofs.Each.{each-at}
 use Rattle.senders.specs.Seen.{Seen, markBy}
-use Rattle.rows.specs.Numbers.{phaseOk, senderOk}
+use Rattle.rows.specs.Numbers.{encodesPhase, encodesSender}
 use Rattle.rows.specs.Decoded.{senderFrom}
 use Rattle.rows.proofs.PhaseLaws.{kind-fits, place-fits}
 use Rattle.rows.proofs.SenderLaws.{sender-fits}
-use Rattle.refusals.specs.Rows.{row, within, limits, senderAt, rowOk}
+use Rattle.refusals.specs.Rows.{row, within, limits, rowSender, rowOk}
 
 -- a number of a row is that at its place
 pub row-len : (s : List ℕ) (at : ℕ) → at + 21 ≤ length s → length (row s at) ≡ 21
@@ -50,8 +50,8 @@ module _ (a : List ℕ) (n k : ℕ) (e : within (limits n k) a ≡ true) where
   pub kind-below : getD a 8 0 ≤ 9
   kind-below = leb-true (getD a 8 0) 9 (below 8 (omega arith))
 
-  pub numbers-ok : phaseOk (getD a 8 0) (getD a 9 0) (getD a 10 0) ≡ true → senderOk a ≡ true
-  unfolding senderOk
+  pub numbers-ok : encodesPhase (getD a 8 0) (getD a 9 0) (getD a 10 0) ≡ true → encodesSender a ≡ true
+  unfolding encodesSender
   numbers-ok p =
       rw (
         p,
@@ -65,7 +65,7 @@ module _ (a : List ℕ) (n k : ℕ) (e : within (limits n k) a ≡ true) where
 module _ (t : Table) (b : Board) (a : List ℕ) where
   -- the state by the numbers
   abbrev pub stateTest : Bool
-  stateTest = stateOk t b (senderAt t a) (senderAt t a .state)
+  stateTest = stateOk t b (rowSender t a) (rowSender t a .state)
 
   pub idle-ok : getD a 0 0 ≡ 0 → stateTest ≡ true
   idle-ok e = rw e
@@ -82,22 +82,22 @@ module _ (t : Table) (b : Board) (a : List ℕ) where
   blocked-ok o e = rw (e, le-leb 1 (getD a 2 0) (omega arith))
 
   pub working-ok : getD a 2 0 ≢ 0 → getD a 0 0 ≡ 1
-      → stateTest ≡ jobOk t b (senderAt t a) (jobIn t (senderFrom a .job))
+      → stateTest ≡ jobOk t b (rowSender t a) (jobIn t (senderFrom a .job))
   working-ok o e = rw (e, le-leb 1 (getD a 2 0) (omega arith))
 
   -- the row by its limits, its phase and its state
-  pub phase-no : phaseOk (getD a 8 0) (getD a 9 0) (getD a 10 0) ≡ false → rowOk t b a ≡ false
+  pub phase-no : encodesPhase (getD a 8 0) (getD a 9 0) (getD a 10 0) ≡ false → rowOk t b a ≡ false
   unfolding rowOk
-  phase-no e = go (tested (senderOk a))
+  phase-no e = go (tested (encodesSender a))
     where
-      go : (senderOk a ≡ true) ⊎ (senderOk a ≡ false) → rowOk t b a ≡ false
+      go : (encodesSender a ≡ true) ⊎ (encodesSender a ≡ false) → rowOk t b a ≡ false
       go (inl z) = never (sym e ∙ sender-fits a z .phase)
       go (inr z) = rw z
 
   module _ (n k : ℕ) (channels : List ℕ) (sees : Seen b n k channels) where
-    pub row-yes : within (limits n k) a ≡ true → phaseOk (getD a 8 0) (getD a 9 0) (getD a 10 0) ≡ true
+    pub row-yes : within (limits n k) a ≡ true → encodesPhase (getD a 8 0) (getD a 9 0) (getD a 10 0) ≡ true
         → rowOk t b a ≡ stateTest
-    unfolding rowOk soundOk
+    unfolding rowOk senderOk
     row-yes e p =
         rw (
           numbers-ok a n k e p,
@@ -111,9 +111,9 @@ module _ (t : Table) (b : Board) (a : List ℕ) where
 
     module _ (small : (i : ℕ) → i < 21 → getD a i 0 ≤ 65535) where
       row-within : rowOk t b a ≡ true → within (limits n k) a ≡ true
-      unfolding rowOk within eachBelow soundOk
+      unfolding rowOk within eachBelow senderOk
       row-within e =
-          let p = both {t = senderOk a} e in
+          let p = both {t = encodesSender a} e in
           let f = sender-fits a (p .0) in
           let m = rw (sees .count, sees .matches-count) at (p .1) in
           let q = all-four (leb (getD a 2 0) n) (leb (getD a 3 0) n) (leb (getD a 4 0) k) _ m in

@@ -9,13 +9,13 @@ use native.Mathlib.Omega.{arith}
 use Rattle.model.specs.Basics.{every}
 use Rattle.model.specs.Tables.{Table}
 use Rattle.model.specs.Boards.{Board}
-use Rattle.model.specs.Sound.{senderOk as soundOk}
+use Rattle.model.specs.Sound.{senderOk}
 use Rattle.state.specs.declared.Sender as DD
 use Rattle.state.specs.Views.{senderIn}
-use Rattle.rows.specs.Numbers.{senderOk, sendersOk}
+use Rattle.rows.specs.Numbers.{encodesSender, encodesSenders}
 use Rattle.rows.proofs.DecodeLaws.{sender-from}
 use Rattle.rows.specs.Decoded.{boardFrom, senderFrom, sendersFrom}
-use Rattle.refusals.specs.Rows.{row, senderAt, rowOk, rowsOk, sendersIn}
+use Rattle.refusals.specs.Rows.{row, rowSender, rowOk, rowsOk, sendersIn}
 
 -- The senders of the numbers
 
@@ -33,11 +33,11 @@ nth-sender s i z h = sender-from s i z h
 
 module _ (t : Table) (b : Board) where
   pub rows-are : (n : ℕ) (s : List ℕ) → rowsOk t b n s
-      ≡ (sendersOk n s && every (soundOk t b) (map (senderIn t) (sendersFrom n s)))
-  unfolding rowsOk rowOk sendersOk sendersFrom
+      ≡ (encodesSenders n s && every (senderOk t b) (map (senderIn t) (sendersFrom n s)))
+  unfolding rowsOk rowOk encodesSenders sendersFrom
   rows-are zero s = refl
   rows-are (suc n) s = rw (rows-are n (drop 21 s))
-      (swapped (senderOk (take 21 s)) (soundOk t b (senderAt t (take 21 s))) _ _)
+      (swapped (encodesSender (take 21 s)) (senderOk t b (rowSender t (take 21 s))) _ _)
     where
       swapped : (u v x y : Bool) → ((u && v) && (x && y)) ≡ ((u && x) && (v && y))
       swapped true true x y = refl

@@ -18,14 +18,14 @@ use Rattle.soundness.specs.Tests.{messagesOk}
 use Rattle.senders.specs.Seen.{Seen, Known}
 use Rattle.refusals.specs.Judged.{statusesOk}
 use Rattle.refusals.proofs.Parts.{matchesTest, sound-is, seen-on, known-on}
-use Rattle.rows.specs.Numbers.{sendersOk, numbersOk}
+use Rattle.rows.specs.Numbers.{encodesSenders, encodes}
 use Rattle.rows.specs.Decoded.{boardFrom}
 use Rattle.refusals.specs.Rows.{rowsOk, sendersIn}
 use Rattle.refusals.proofs.RowWalks.{senders-count, rows-are}
 
 -- numbers of another length are no board's
-pub numbers-short : (s : List ℕ) → (length s ≡ 674 → ⊥) → numbersOk s ≡ false
-unfolding numbersOk
+pub numbers-short : (s : List ℕ) → (length s ≡ 674 → ⊥) → encodes s ≡ false
+unfolding encodes
 numbers-short s e = rw (ne-eqb (length s) 674 e)
 
 -- the numbers' test beside that of the senders
@@ -47,17 +47,17 @@ module _ (t : Table) (s : List ℕ) (c : Columns) (m : MatchColumns) where
 
   -- numbers of a sound board, in the order of the code
   pub numbers-sound : length s ≡ 674
-      → (numbersOk s && (statusesOk (boardFrom s .messages) (c .statuses) && sound t boardOn))
+      → (encodes s && (statusesOk (boardFrom s .messages) (c .statuses) && sound t boardOn))
       ≡ ((leb (getD s 0 0) 1024 && leb (getD s 1 0) 1024)
       && (messagesOk t boardOn c (getD s 0 0) && (matchesTest t (boardFrom s) c m && sendersTest)))
-  unfolding numbersOk boardFrom
+  unfolding encodes boardFrom
   numbers-sound e =
       rw (
         eq-eqb (length s) 674 e,
         sound-is t (boardFrom s) c m (senders-count 32 (drop 2 s)),
         rows-are t boardOn 32 (drop 2 s),
       )
-      (moved (sendersOk 32 (drop 2 s)) (leb (getD s 0 0) 1024 && leb (getD s 1 0) 1024)
+      (moved (encodesSenders 32 (drop 2 s)) (leb (getD s 0 0) 1024 && leb (getD s 1 0) 1024)
       (messagesOk t boardOn c (getD s 0 0)) (matchesTest t (boardFrom s) c m)
       (every (senderOk t boardOn) (map (senderIn t) (sendersIn s))) (noneShared (map (senderIn t) (sendersIn s))))
 

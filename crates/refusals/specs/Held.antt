@@ -10,7 +10,7 @@ use Rattle.model.specs.Sound.{sound}
 use Rattle.boards.specs.Boards.{boardIn}
 use Rattle.boards.specs.Calls.{Held, held, heldBy}
 use Rattle.boards.specs.Layout.{Lists, columnsIn, matchesIn, listsOk, Sized}
-use Rattle.rows.specs.Numbers.{numbersOk}
+use Rattle.rows.specs.Numbers.{encodes}
 use Rattle.rows.specs.Decoded.{boardFrom}
 use Rattle.refusals.specs.Judged.{statusesOk, boardRefusal}
 
@@ -22,16 +22,16 @@ abbrev pub heldOf : Lists → Held
 heldOf l = held (boardFrom (l .board)) (columnsIn l) (matchesIn l)
 
 unfoldable pub heldIn : Lists → Held
-heldIn l = pick (listsOk l && numbersOk (l .board)) (heldOf l) nothing
+heldIn l = pick (listsOk l && encodes (l .board)) (heldOf l) nothing
 
 -- the numbers of lists of their lengths are those of a sound board
 abbrev pub soundIn : List ℕ → Lists → Bool
 soundIn s l =
-    numbersOk (l .board) && (statusesOk (boardFrom (l .board) .messages) (columnsIn l .statuses)
+    encodes (l .board) && (statusesOk (boardFrom (l .board) .messages) (columnsIn l .statuses)
     && sound (tableOf s) (boardIn (tableOf s) (boardFrom (l .board)) (columnsIn l) (matchesIn l)))
 
 -- lists that the first tests accept
 pub record Accepted (s : List ℕ) (l : Lists) : Type 0 where
-  pub numbers : numbersOk (l .board) ≡ true
+  pub numbers : encodes (l .board) ≡ true
   pub sized : Sized l
   pub accepted : boardRefusal s (boardFrom (l .board)) (columnsIn l) (matchesIn l) ≡ 0

@@ -6,11 +6,11 @@ use lib.Dec.{leb}
 use lib.ListN.{getD, drop, take}
 use Rattle.model.specs.Tables.{Table}
 use Rattle.model.specs.Boards.{Board, Sender}
-use Rattle.model.specs.Sound as Sound
+use Rattle.model.specs.Sound.{senderOk}
 use Rattle.soundness.specs.Tests.{eachBelow}
 use Rattle.state.specs.declared.Sender as DD
 use Rattle.state.specs.Views.{senderIn}
-use Rattle.rows.specs.Numbers.{senderOk}
+use Rattle.rows.specs.Numbers.{encodesSender}
 use Rattle.rows.specs.Decoded.{senderFrom, sendersFrom}
 
 -- the 21 numbers from a place on
@@ -27,12 +27,12 @@ limits n k =
     2 ∷ 1 ∷ n ∷ n ∷ k ∷ k ∷ 65535 ∷ 255 ∷ 9 ∷ 255 ∷ 65535 ∷ 1 ∷ 255 ∷ 65535 ∷ 65535 ∷ 65535 ∷ []
 
 -- the sender of 21 numbers, as the model's
-abbrev pub senderAt : Table → List ℕ → Sender
-senderAt t a = senderIn t (senderFrom a)
+abbrev pub rowSender : Table → List ℕ → Sender
+rowSender t a = senderIn t (senderFrom a)
 
 -- 21 numbers are those of a sender that is sound on the board
 unfoldable pub rowOk : Table → Board → List ℕ → Bool
-rowOk t b a = senderOk a && Sound.senderOk t b (senderAt t a)
+rowOk t b a = encodesSender a && senderOk t b (rowSender t a)
 
 -- n senders, one after another
 unfoldable pub rowsOk : Table → Board → ℕ → List ℕ → Bool

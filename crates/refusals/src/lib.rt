@@ -10,9 +10,9 @@ ghost use Rattle.model.specs.Sound.{stateOk, noneShared};
 ghost use Rattle.state.specs.Views.{senderIn};
 ghost use Rattle.boards.specs.Layout.{boardLen, bytesLen, linksLen, centsLen, lists, listsOk};
 ghost use Rattle.senders.specs.Seen.{Seen, Known, markBy};
-ghost use Rattle.rows.specs.Numbers.{phaseOk, senderOk};
+ghost use Rattle.rows.specs.Numbers.{encodesPhase, encodesSender};
 ghost use Rattle.rows.specs.Decoded.{senderFrom};
-ghost use Rattle.refusals.specs.Rows.{row, within, limits, senderAt, rowOk, rowsOk, sendersIn};
+ghost use Rattle.refusals.specs.Rows.{row, within, limits, rowSender, rowOk, rowsOk, sendersIn};
 ghost use Rattle.refusals.specs.Held.{heldIn, soundIn};
 ghost use Rattle.refusals.specs.Calls.{refusalOf};
 
@@ -39,7 +39,7 @@ fn within(s: &[u16], at: usize, most: &[u16; 16]) -> bool
 // Whether three numbers are those of a phase.
 fn phase_ok(phase: u16, place: u16, second: u16) -> bool
     requires { ⌜ phase ≤ 9 ⌝ }
-    ensures { λ r. ⌜ r ≡ phaseOk phase place second ⌝ }
+    ensures { λ r. ⌜ r ≡ encodesPhase phase place second ⌝ }
 {
     let p = phase as usize;
     (place <= PLACES[p]) & (second <= SECONDS[p])
@@ -48,11 +48,11 @@ fn phase_ok(phase: u16, place: u16, second: u16) -> bool
 // Whether the sender at a place, if it is not idle, has its own message, and its job is sound.
 fn state_ok(table: &[u8], s: &[u16], at: usize, n: u16, k: u16, channels: &[u8]) -> bool
     requires { ⌜ (tableRefusal (now table) ≡ 0) × Known (tableOf (now table)) n (now channels) ⌝ }
-    requires { ⌜ (at + 21 ≤ length (now s)) × (senderOk (row (now s) at) ≡ true) ⌝ }
+    requires { ⌜ (at + 21 ≤ length (now s)) × (encodesSender (row (now s) at) ≡ true) ⌝ }
     ensures { λ r. ⌜ ((b : MB.Board) → Seen b n k (now (channels .entry))
         → r ≡ stateOk (tableOf (now (table .entry))) b
-        (senderAt (tableOf (now (table .entry))) (row (now (s .entry)) at))
-        (senderAt (tableOf (now (table .entry))) (row (now (s .entry)) at) .state)) ⌝ }
+        (rowSender (tableOf (now (table .entry))) (row (now (s .entry)) at))
+        (rowSender (tableOf (now (table .entry))) (row (now (s .entry)) at) .state)) ⌝ }
 {
     let state = s[at];
     if state == 0 {

@@ -22,7 +22,7 @@ use Rattle.reads.specs.Reads.{Readable}
 use Rattle.reads.proofs.BoardLaws.{cents-at}
 use Rattle.calls.proofs.ListReads as Reads
 use Rattle.prints.specs.Printed.{Printed}
-use Rattle.reports.specs.Parts.{itemLine, linesOn, lineCount, joined, between}
+use Rattle.reports.specs.Parts.{itemLine, linesOn, lineCount, allLines, between}
 use Rattle.reports.proofs.PartLaws.{Lined, lined-kept, lined-text}
 use Rattle.reports.proofs.BoardLines.{lines-count, match-line, open-line, last-line}
 
@@ -83,6 +83,6 @@ module _ (s : List ℕ) (l : Lists) where
   -- where no further line is printed
   pub part-ends : {k n at : ℕ} {out done : List ℕ} → Lined (linesOn s l) k out n at done → k < n
       → ((k < n) × (n ≤ lineCount (l .board)))
-      × ((at ≤ length done) × (take at done ≡ joined (between k n (linesOn s l))))
+      × ((at ≤ length done) × (take at done ≡ allLines (between k n (linesOn s l))))
   part-ends p h =
       ((h, omega (arith, p .listed, counted)), (omega (arith, p .inside, lined-kept p), lined-text p))

@@ -7,18 +7,18 @@ use lib.ListN.{length, getD, set, take, drop, length-drop, length-set}
 use lib.Seq.{sets, take-add, take-suc, take-suc-set, getD-drop}
 use Rattle.prints.specs.Printed.{Printed}
 use Rattle.prints.proofs.Texts.{then, kept, none}
-use Rattle.reports.specs.Parts.{joined, between}
+use Rattle.reports.specs.Parts.{allLines, between}
 
-pub joined-append : (vs ws : List (List ℕ)) → joined (vs ++ ws) ≡ joined vs ++ joined ws
+pub joined-append : (vs ws : List (List ℕ)) → allLines (vs ++ ws) ≡ allLines vs ++ allLines ws
 joined-append [] ws = refl
-joined-append (v ∷ vs) ws = ap (λ r. v ++ r) (joined-append vs ws) ∙ sym (append-assoc v (joined vs) (joined ws))
+joined-append (v ∷ vs) ws = ap (λ r. v ++ r) (joined-append vs ws) ∙ sym (append-assoc v (allLines vs) (allLines ws))
 
 module _ (ws : List (List ℕ)) where
   -- those up to n, then those up to m
-  pub parts-on : (n m : ℕ) → n ≤ m → joined (take n ws) ++ joined (between n m ws) ≡ joined (take m ws)
+  pub parts-on : (n m : ℕ) → n ≤ m → allLines (take n ws) ++ allLines (between n m ws) ≡ allLines (take m ws)
   parts-on n m h =
       let y : n + (m - n) ≡ m = omega arith in
-      sym (joined-append (take n ws) (between n m ws)) ∙ ap joined (rw y at (sym (take-add n (m - n) ws)))
+      sym (joined-append (take n ws) (between n m ws)) ∙ ap allLines (rw y at (sym (take-add n (m - n) ws)))
 
   module _ (k n : ℕ) (h : k ≤ n) (l : n < length ws) where
     between-next : between k (n + 1) ws ≡ between k n ws ++ (getD ws n [] ∷ [])
@@ -27,8 +27,8 @@ module _ (ws : List (List ℕ)) where
         let z : k + (n - k) ≡ n = omega arith in
         rw (e, take-suc (drop k ws) (n - k) [] (omega (arith, length-drop k ws)), getD-drop k ws (n - k) [], z)
 
-    line-next : {out mid done : List ℕ} {p r : ℕ} → Printed out 0 (joined (between k n ws)) p mid
-        → Printed mid p (getD ws n []) r done → Printed out 0 (joined (between k (n + 1) ws)) r done
+    line-next : {out mid done : List ℕ} {p r : ℕ} → Printed out 0 (allLines (between k n ws)) p mid
+        → Printed mid p (getD ws n []) r done → Printed out 0 (allLines (between k (n + 1) ws)) r done
     line-next p q =
         rw (between-next, joined-append (between k n ws) (getD ws n [] ∷ []), append-nil (getD ws n [])) (then p q)
 
@@ -52,7 +52,7 @@ pub record Lined (ws : List (List ℕ)) (k : ℕ) (out : List ℕ) (n at : ℕ) 
   pub listed : n ≤ length ws
   pub inside : at ≤ length out
   pub moved : 1 ≤ at → k < n
-  pub text : Printed out 0 (joined (between k n ws)) at done
+  pub text : Printed out 0 (allLines (between k n ws)) at done
 
 module _ {ws : List (List ℕ)} {k : ℕ} where
   -- no line yet
@@ -82,5 +82,5 @@ module _ {ws : List (List ℕ)} {k : ℕ} where
   lined-kept p = kept (p .text)
 
   pub lined-text : {out done : List ℕ} {n at : ℕ} → Lined ws k out n at done
-      → take at done ≡ joined (between k n ws)
+      → take at done ≡ allLines (between k n ws)
   lined-text p = written (p .text) (p .inside)

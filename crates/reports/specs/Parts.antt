@@ -38,9 +38,9 @@ abbrev pub lineCount : List ℕ → ℕ
 lineCount board = getD board 1 0 + getD board 0 0 + 1
 
 -- lines one after another
-abbrev pub joined : List (List ℕ) → List ℕ
-joined [] = []
-joined (w ∷ ws) = w ++ joined ws
+abbrev pub allLines : List (List ℕ) → List ℕ
+allLines [] = []
+allLines (w ∷ ws) = w ++ allLines ws
 
 -- numbers k to n - 1 of a list
 abbrev pub between : {A : Type 0} → ℕ → ℕ → List A → List A

@@ -15,7 +15,7 @@ ghost use Rattle.boards.specs.Layout.{boardLen, bytesLen, linksLen, lists, stat
 ghost use Rattle.refusals.specs.Held.{Accepted};
 ghost use Rattle.reads.specs.Reads.{Readable};
 ghost use Rattle.prints.specs.Printed.{Printed};
-ghost use Rattle.reports.specs.Parts.{itemLine, linesOn, lineCount, joined, between};
+ghost use Rattle.reports.specs.Parts.{itemLine, linesOn, lineCount, allLines, between};
 
 // The line to go on with, and the end of what was written.
 pub struct Part {
@@ -125,7 +125,7 @@ pub fn report_part(
     ensures { λ r. ⌜ (from < r .next) × (r .next ≤ lineCount (now (board .entry))) ⌝ }
     ensures { λ r. ⌜ r .at ≤ length (now (out .exit)) ⌝ }
     ensures { λ r. ⌜ take (r .at) (now (out .exit))
-        ≡ joined (between from (r .next) (linesOn (now (table .entry))
+        ≡ allLines (between from (r .next) (linesOn (now (table .entry))
         (lists (now (board .entry)) (now (bytes .entry)) (now (links .entry)) (now (keys .entry))
         (now (cents .entry))))) ⌝ }
 {

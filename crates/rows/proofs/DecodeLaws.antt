@@ -11,7 +11,7 @@ use native.Mathlib.Omega.{arith}
 use Rattle.model.proofs.Tests.{both}
 use Rattle.state.specs.declared.Sender as DD
 use Rattle.rows.specs.Numbers.{stateNumber, phaseNumbers, senderNumbers, sendersNumbers, boardNumbers}
-use Rattle.rows.specs.Numbers.{placeless, phaseOk, senderOk, sendersOk, numbersOk}
+use Rattle.rows.specs.Numbers.{placeless, encodesPhase, encodesSender, encodesSenders, encodes}
 use Rattle.rows.specs.Decoded.{stateFrom, phaseFrom, senderFrom, sendersFrom, boardFrom}
 use Rattle.rows.specs.Fits.{SenderFits, SendersFit, BoardFits}
 use Rattle.rows.proofs.PhaseLaws.{three-are, kind-fits, no-place, no-second, flag-one}
@@ -25,7 +25,7 @@ state-from (suc (suc zero)) h = refl
 state-from (suc (suc (suc n))) h = absurd (omega arith)
 
 -- a phase with no second number, and one with no place either
-module _ (n k s : ℕ) (e : phaseOk n k s ≡ true) (p : eqb n 3 ≡ false) (q : eqb n 2 ≡ false) where
+module _ (n k s : ℕ) (e : encodesPhase n k s ≡ true) (p : eqb n 3 ≡ false) (q : eqb n 2 ≡ false) where
   none : 0 ≡ s
   none = no-second n k s e (eqb-false n 3 p) (eqb-false n 2 q)
 
@@ -35,7 +35,7 @@ module _ (n k s : ℕ) (e : phaseOk n k s ≡ true) (p : eqb n 3 ≡ false) (q :
   bare : placeless n ≡ true → n ∷ 0 ∷ 0 ∷ [] ≡ n ∷ k ∷ s ∷ []
   bare z = three-are refl (no-place n k s e z) none
 
-phase-from : (n k s : ℕ) → phaseOk n k s ≡ true → phaseNumbers (phaseFrom n k s) ≡ n ∷ k ∷ s ∷ []
+phase-from : (n k s : ℕ) → encodesPhase n k s ≡ true → phaseNumbers (phaseFrom n k s) ≡ n ∷ k ∷ s ∷ []
 phase-from zero k s e = placed 0 k s e refl refl
 phase-from (suc zero) k s e = placed 1 k s e refl refl
 phase-from (suc (suc zero)) k s e = refl
@@ -50,7 +50,7 @@ phase-from (suc (suc (suc (suc (suc (suc (suc (suc (suc (suc n)))))))))) k s e =
     absurd (omega (arith, kind-fits _ k s e))
 
 -- 21 numbers that pass are those of their sender, which fits its types
-pub sender-from-back : (a : List ℕ) → length a ≡ 21 → senderOk a ≡ true
+pub sender-from-back : (a : List ℕ) → length a ≡ 21 → encodesSender a ≡ true
     → (senderNumbers (senderFrom a) ≡ a) × SenderFits (senderFrom a)
 sender-from-back a l ok =
     let f = sender-fits a ok in
@@ -58,19 +58,19 @@ sender-from-back a l ok =
     refl refl refl refl refl (phase-from (getD a 8 0) (getD a 9 0) (getD a 10 0) (f .phase))
     (flag-one (getD a 11 0) (f .retry)) refl refl
 
-senders-from-back : (n : ℕ) (s : List ℕ) → length s ≡ 21 * n → sendersOk n s ≡ true
+senders-from-back : (n : ℕ) (s : List ℕ) → length s ≡ 21 * n → encodesSenders n s ≡ true
     → (sendersNumbers (sendersFrom n s) ≡ s) × SendersFit (sendersFrom n s) × (length (sendersFrom n s) ≡ n)
-unfolding sendersNumbers sendersFrom sendersOk
+unfolding sendersNumbers sendersFrom encodesSenders
 senders-from-back zero [] l ok = (refl, tt, refl)
 senders-from-back zero (x ∷ s) l ok = absurd (omega (arith, l))
 senders-from-back (suc n) s l ok =
-    let p = both {t = senderOk (take 21 s)} ok in
+    let p = both {t = encodesSender (take 21 s)} ok in
     let d = sender-from-back (take 21 s) (length-take-le 21 s (omega (arith, l))) (p .0) in
     let r = senders-from-back n (drop 21 s) (omega (arith, l, length-drop 21 s)) (p .1) in
     (rw (d .0, r .0) (take-append-drop 21 s), (d .1, r .1), omega (arith, r .2))
 
 -- numbers that pass are those of their board, which fits its types
-pub from-back : (s : List ℕ) → numbersOk s ≡ true → (boardNumbers (boardFrom s) ≡ s) × BoardFits (boardFrom s)
+pub from-back : (s : List ℕ) → encodes s ≡ true → (boardNumbers (boardFrom s) ≡ s) × BoardFits (boardFrom s)
 unfolding boardNumbers boardFrom
 from-back s ok =
     let p = all-numbers s ok in

@@ -17,13 +17,13 @@ use Rattle.state.specs.declared.State.the-variants as S
 use Rattle.state.specs.declared.Sender as DD
 use Rattle.boards.specs.Boards.{HeldBoard}
 use Rattle.rows.specs.Numbers.{stateNumber, kind, place, second, senderNumbers, sendersNumbers, boardNumbers}
-use Rattle.rows.specs.Numbers.{phaseOk, senderOk, sendersOk, numbersOk}
+use Rattle.rows.specs.Numbers.{encodesPhase, encodesSender, encodesSenders, encodes}
 use Rattle.rows.specs.Decoded.{stateFrom, phaseFrom, senderFrom, sendersFrom, boardFrom}
 use Rattle.rows.specs.Fits.{PhaseFits, SenderFits, SendersFit, BoardFits}
 use Rattle.rows.proofs.SenderLaws.{numbers-listed, sender-long}
 
-phase-passes : (p : DP.Phase) → PhaseFits p → phaseOk (kind p) (place p) (second p) ≡ true
-unfolding phaseOk
+phase-passes : (p : DP.Phase) → PhaseFits p → encodesPhase (kind p) (place p) (second p) ≡ true
+unfolding encodesPhase
 phase-passes (P.Look k) h = rw (le-leb k 255 h)
 phase-passes (P.Claim k) h = rw (le-leb k 255 h)
 phase-passes (P.Revert k claims) h = rw (le-leb k 255 (h .0), le-leb claims 255 (h .1)) (either-way (eqb claims 0))
@@ -48,8 +48,8 @@ flag-passes : (b : Bool) → leb (flag b) 1 ≡ true
 flag-passes true = refl
 flag-passes false = refl
 
-sender-passes : (d : DD.Sender) → SenderFits d → senderOk (senderNumbers d) ≡ true
-unfolding senderOk
+sender-passes : (d : DD.Sender) → SenderFits d → encodesSender (senderNumbers d) ≡ true
+unfolding encodesSender
 sender-passes d f =
     rw (numbers-listed d)
     (and (state-passes (d .state)) (and (flag-passes (d .signalled)) (and (le-leb (d .job .chord) 255 (f .chord))
@@ -65,8 +65,8 @@ senders-long (d ∷ ds) f =
     let e = senders-long ds (f .1) in
     omega (arith, a, b, e)
 
-senders-pass : (ds : List DD.Sender) → SendersFit ds → sendersOk (length ds) (sendersNumbers ds) ≡ true
-unfolding sendersNumbers sendersOk
+senders-pass : (ds : List DD.Sender) → SendersFit ds → encodesSenders (length ds) (sendersNumbers ds) ≡ true
+unfolding sendersNumbers encodesSenders
 senders-pass [] f = refl
 senders-pass (d ∷ ds) f =
     let l = sender-long d (f .0) in
@@ -74,8 +74,8 @@ senders-pass (d ∷ ds) f =
     (and (sender-passes d (f .0)) (senders-pass ds (f .1)))
 
 -- the numbers of every board that the types can hold pass
-pub encoded-ok : (b : HeldBoard) → BoardFits b → numbersOk (boardNumbers b) ≡ true
-unfolding numbersOk boardNumbers
+pub encoded-ok : (b : HeldBoard) → BoardFits b → encodes (boardNumbers b) ≡ true
+unfolding encodes boardNumbers
 encoded-ok b f =
     let l = senders-long (b .senders) (f .each) in
     let n : length (b .messages ∷ b .matches ∷ sendersNumbers (b .senders)) ≡ 674 = omega (arith, l, f .all) in

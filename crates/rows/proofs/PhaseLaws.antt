@@ -12,16 +12,16 @@ use Rattle.model.proofs.Tests.{all-four, either, both, same?, never}
 use Rattle.state.specs.declared.Phase as DP
 use Rattle.state.specs.Views.{stepsIn}
 use Rattle.rows.specs.Decoded.{stateFrom}
-use Rattle.rows.specs.Numbers.{place, phaseOk, placeless}
+use Rattle.rows.specs.Numbers.{place, encodesPhase, placeless}
 use Rattle.rows.specs.Fits.{PhaseFits}
 
 pub three-are : {n k s n′ k′ s′ : ℕ} → n′ ≡ n → k′ ≡ k → s′ ≡ s → n′ ∷ k′ ∷ s′ ∷ [] ≡ n ∷ k ∷ s ∷ []
 three-are p q r = rw (p, q, r)
 
-module _ (n k s : ℕ) (e : phaseOk n k s ≡ true) where
+module _ (n k s : ℕ) (e : encodesPhase n k s ≡ true) where
   parts : (leb n 9 ≡ true) × (leb k 255 ≡ true) × ((not (placeless n) || eqb k 0) ≡ true)
       × ((eqb n 3 || (eqb s 0 || (eqb n 2 && leb s 255))) ≡ true)
-  unfolding phaseOk
+  unfolding encodesPhase
   parts = all-four _ _ _ _ e
 
   pub kind-fits : n ≤ 9

@@ -17,22 +17,22 @@ use Rattle.state.specs.declared.Phase.the-variants as P
 use Rattle.state.specs.declared.Sender as DD
 use Rattle.rows.specs.Fits.{PhaseFits, SenderFits}
 use Rattle.rows.proofs.PhaseLaws.{place-fits, second-fits}
-use Rattle.rows.specs.Numbers.{stateNumber, phaseNumbers, kind, place, second, senderNumbers, phaseOk, senderOk}
+use Rattle.rows.specs.Numbers.{stateNumber, phaseNumbers, kind, place, second, senderNumbers, encodesPhase, encodesSender}
 
 -- what a sender's numbers hold to
 pub record NumbersFit (a : List ℕ) : Type 0 where
   pub state : getD a 0 0 ≤ 2
   pub signalled : getD a 1 0 ≤ 1
   pub chord : getD a 7 0 ≤ 255
-  pub phase : phaseOk (getD a 8 0) (getD a 9 0) (getD a 10 0) ≡ true
+  pub phase : encodesPhase (getD a 8 0) (getD a 9 0) (getD a 10 0) ≡ true
   pub retry : getD a 11 0 ≤ 1
   pub retries : getD a 12 0 ≤ 255
 
-pub sender-fits : (a : List ℕ) → senderOk a ≡ true → NumbersFit a
-unfolding senderOk
+pub sender-fits : (a : List ℕ) → encodesSender a ≡ true → NumbersFit a
+unfolding encodesSender
 sender-fits a e =
     let p = all-four (leb (getD a 0 0) 2) (leb (getD a 1 0) 1) (leb (getD a 7 0) 255) _ e in
-    let q = both {t = phaseOk (getD a 8 0) (getD a 9 0) (getD a 10 0)} (p .3) in
+    let q = both {t = encodesPhase (getD a 8 0) (getD a 9 0) (getD a 10 0)} (p .3) in
     let r = both {t = leb (getD a 11 0) 1} (q .1) in
     record {
       state = leb-true _ _ (p .0);
@@ -98,7 +98,7 @@ pub sender-long : (d : DD.Sender) → SenderFits d → length (senderNumbers d) 
 sender-long d f = rw (numbers-listed d) (omega (arith, f .chosen))
 
 -- a phase whose numbers pass fits its types
-phase-fits : (p : DP.Phase) → phaseOk (kind p) (place p) (second p) ≡ true → PhaseFits p
+phase-fits : (p : DP.Phase) → encodesPhase (kind p) (place p) (second p) ≡ true → PhaseFits p
 phase-fits (P.Look k) e = place-fits _ _ _ e
 phase-fits (P.Claim k) e = place-fits _ _ _ e
 phase-fits (P.Revert k claims) e = (place-fits _ _ _ e, second-fits _ _ _ e (λ z. omega (arith, z)))
@@ -111,7 +111,7 @@ phase-fits P.PassEnd e = tt
 phase-fits (P.Backoff k) e = place-fits _ _ _ e
 
 -- a sender whose numbers pass fits its types
-pub fits-back : (d : DD.Sender) (a : List ℕ) → length a ≡ 21 → senderOk a ≡ true → senderNumbers d ≡ a → SenderFits d
+pub fits-back : (d : DD.Sender) (a : List ℕ) → length a ≡ 21 → encodesSender a ≡ true → senderNumbers d ≡ a → SenderFits d
 fits-back d a l ok e =
     let f : listed d ≡ a = sym (numbers-listed d) ∙ e in
     let n = sender-fits a ok in
@@ -125,7 +125,7 @@ fits-back d a l ok e =
     }
 
 -- the sender's numbers by its fields, as they are read
-module _ (a : List ℕ) (l : length a ≡ 21) (ok : senderOk a ≡ true) (d : DD.Sender) where
+module _ (a : List ℕ) (l : length a ≡ 21) (ok : encodesSender a ≡ true) (d : DD.Sender) where
   pub sender-is : stateNumber (d .state) ≡ getD a 0 0 → flag (d .signalled) ≡ getD a 1 0 → d .own ≡ getD a 2 0
       → d .waker ≡ getD a 3 0 → d .reply ≡ getD a 4 0 → d .matched ≡ getD a 5 0 → d .job .subject ≡ getD a 6 0
       → d .job .chord ≡ getD a 7 0

@@ -12,7 +12,7 @@ use native.Mathlib.Omega.{arith}
 use Rattle.model.proofs.Tests.{both}
 use Rattle.state.specs.declared.Sender as DD
 use Rattle.rows.specs.Fits.{SenderFits, SendersFit}
-use Rattle.rows.specs.Numbers.{senderNumbers, sendersNumbers, senderOk, sendersOk, numbersOk}
+use Rattle.rows.specs.Numbers.{senderNumbers, sendersNumbers, encodesSender, encodesSenders, encodes}
 
 -- a sender's part of the numbers
 pub span : (at : ℕ) → at + 21 - at ≡ 21
@@ -29,17 +29,17 @@ pub part-first : (s : List ℕ) (at : ℕ) → getD (take 21 (drop at s)) 0 0 �
 part-first s at = let z : at + 0 ≡ at = omega arith in rw z at (part-at s at 0 (omega arith))
 
 -- each sender of those that pass
-each-ok : (n i : ℕ) (s : List ℕ) → sendersOk n s ≡ true → i < n → senderOk (take 21 (drop (21 * i) s)) ≡ true
-unfolding sendersOk
+each-ok : (n i : ℕ) (s : List ℕ) → encodesSenders n s ≡ true → i < n → encodesSender (take 21 (drop (21 * i) s)) ≡ true
+unfolding encodesSenders
 each-ok zero i s e h = absurd (omega arith)
-each-ok (suc n) zero s e h = both {t = senderOk (take 21 s)} e .0
+each-ok (suc n) zero s e h = both {t = encodesSender (take 21 s)} e .0
 each-ok (suc n) (suc i) s e h =
     let z : 21 * suc i ≡ 21 + 21 * i = omega arith in
     rw (z, ← drop-drop (21 * i) 21 s)
-    (each-ok n i (drop 21 s) (both {t = senderOk (take 21 s)} e .1) (omega arith))
+    (each-ok n i (drop 21 s) (both {t = encodesSender (take 21 s)} e .1) (omega arith))
 
-pub part-ok : (i : ℕ) (s : List ℕ) → sendersOk 32 (drop 2 s) ≡ true → i < 32
-    → senderOk (take 21 (drop (2 + 21 * i) s)) ≡ true
+pub part-ok : (i : ℕ) (s : List ℕ) → encodesSenders 32 (drop 2 s) ≡ true → i < 32
+    → encodesSender (take 21 (drop (2 + 21 * i) s)) ≡ true
 part-ok i s e h = rw (← drop-drop (21 * i) 2 s) (each-ok 32 i (drop 2 s) e h)
 
 -- the numbers of one sender more
@@ -94,7 +94,7 @@ counts-read (x ∷ []) h = absurd (omega arith)
 counts-read (x ∷ y ∷ s) h = refl
 
 -- numbers that pass are 674, and their senders pass
-pub all-numbers : (s : List ℕ) → numbersOk s ≡ true → (length s ≡ 674) × (sendersOk 32 (drop 2 s) ≡ true)
-unfolding numbersOk
+pub all-numbers : (s : List ℕ) → encodes s ≡ true → (length s ≡ 674) × (encodesSenders 32 (drop 2 s) ≡ true)
+unfolding encodes
 all-numbers s e =
     let p = both {t = eqb (length s) 674} e in (eqb-true (length s) 674 (p .0), p .1)

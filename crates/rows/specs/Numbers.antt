@@ -61,24 +61,24 @@ abbrev pub placeless : ℕ → Bool
 placeless phase = eqb phase 5 || (eqb phase 7 || eqb phase 8)
 
 -- these are the numbers of a phase: a second number that is not 0 is a consume's, or a revert's, which fits a byte
-unfoldable pub phaseOk : ℕ → ℕ → ℕ → Bool
-phaseOk phase place second =
+unfoldable pub encodesPhase : ℕ → ℕ → ℕ → Bool
+encodesPhase phase place second =
     allOf
     (leb phase 9 ∷ leb place 255 ∷ (not (placeless phase) || eqb place 0) ∷
     (eqb phase 3 || (eqb second 0 || (eqb phase 2 && leb second 255))) ∷ [])
 
 -- 21 numbers are those of a sender
-unfoldable pub senderOk : List ℕ → Bool
-senderOk a =
+unfoldable pub encodesSender : List ℕ → Bool
+encodesSender a =
     allOf
     (leb (getD a 0 0) 2 ∷ leb (getD a 1 0) 1 ∷ leb (getD a 7 0) 255 ∷
-    phaseOk (getD a 8 0) (getD a 9 0) (getD a 10 0) ∷ leb (getD a 11 0) 1 ∷ leb (getD a 12 0) 255 ∷ [])
+    encodesPhase (getD a 8 0) (getD a 9 0) (getD a 10 0) ∷ leb (getD a 11 0) 1 ∷ leb (getD a 12 0) 255 ∷ [])
 
 -- n senders, one after another
-unfoldable pub sendersOk : ℕ → List ℕ → Bool
-sendersOk zero s = true
-sendersOk (suc n) s = senderOk (take 21 s) && sendersOk n (drop 21 s)
+unfoldable pub encodesSenders : ℕ → List ℕ → Bool
+encodesSenders zero s = true
+encodesSenders (suc n) s = encodesSender (take 21 s) && encodesSenders n (drop 21 s)
 
 -- numbers, each below 65,536, that are those of a board
-unfoldable pub numbersOk : List ℕ → Bool
-numbersOk s = eqb (length s) 674 && sendersOk 32 (drop 2 s)
+unfoldable pub encodes : List ℕ → Bool
+encodes s = eqb (length s) 674 && encodesSenders 32 (drop 2 s)

@@ -14,7 +14,7 @@ ghost use Rattle.rows.specs.Numbers.{stateNumber, phaseNumbers, kind, pl
 ghost use Rattle.rows.specs.Numbers.{senderNumbers, boardNumbers};
 ghost use Rattle.rows.specs.Fresh.{freshSender};
 ghost use Rattle.rows.specs.Fits.{PhaseFits, SenderFits};
-ghost use Rattle.rows.specs.Numbers.{phaseOk, senderOk, numbersOk};
+ghost use Rattle.rows.specs.Numbers.{encodesPhase, encodesSender, encodes};
 use state::Job;
 use state::Phase;
 use state::Sender;
@@ -77,7 +77,7 @@ fn byte_of(n: u16) -> u8
 
 // The phase by its three numbers.
 fn phase_of(phase: u16, place: u16, second: u16) -> Phase
-    requires { ⌜ phaseOk phase place second ≡ true ⌝ }
+    requires { ⌜ encodesPhase phase place second ≡ true ⌝ }
     ensures { λ r. ⌜ phaseNumbers r ≡ phase ∷ place ∷ second ∷ [] ⌝ }
 {
     let k = byte_of(place);
@@ -181,7 +181,7 @@ fn chosen_of(a: &[u16]) -> [u16; 8]
 
 // The sender by its 21 numbers.
 pub fn sender_of(a: &[u16]) -> Sender
-    requires { ⌜ (length (now a) ≡ 21) × (senderOk (now a) ≡ true) ⌝ }
+    requires { ⌜ (length (now a) ≡ 21) × (encodesSender (now a) ≡ true) ⌝ }
     ensures { λ r. ⌜ (senderNumbers r ≡ now (a .entry)) × SenderFits r ⌝ }
 {
     let job = Job {
@@ -205,7 +205,7 @@ pub fn sender_of(a: &[u16]) -> Sender
 
 // The sender at a place.
 pub fn sender_at(s: &[u16], i: u8) -> Sender
-    requires { ⌜ (numbersOk (now s) ≡ true) × (i < 32) ⌝ }
+    requires { ⌜ (encodes (now s) ≡ true) × (i < 32) ⌝ }
     ensures { λ r. ⌜ r ≡ getD (boardFrom (now (s .entry)) .senders) i zeroSender ⌝ }
 {
     let at = 2 + 21 * (i as usize);
@@ -214,7 +214,7 @@ pub fn sender_at(s: &[u16], i: u8) -> Sender
 
 // Whether the sender at a place may step.
 pub fn may_step(s: &[u16], i: u8) -> bool
-    requires { ⌜ (numbersOk (now s) ≡ true) × (i < 32) ⌝ }
+    requires { ⌜ (encodes (now s) ≡ true) × (i < 32) ⌝ }
     ensures { λ r. ⌜ r ≡ canStep (getD (boardFrom (now (s .entry)) .senders) i zeroSender) ⌝ }
 {
     let at = 2 + 21 * (i as usize);
@@ -223,7 +223,7 @@ pub fn may_step(s: &[u16], i: u8) -> bool
 
 // Whether the sender at a place is idle.
 pub fn is_idle(s: &[u16], i: u8) -> bool
-    requires { ⌜ (numbersOk (now s) ≡ true) × (i < 32) ⌝ }
+    requires { ⌜ (encodes (now s) ≡ true) × (i < 32) ⌝ }
     ensures { λ r. ⌜ r ≡ idleIs (getD (boardFrom (now (s .entry)) .senders) i zeroSender .state) ⌝ }
 {
     let at = 2 + 21 * (i as usize);

@@ -19,7 +19,7 @@ use Rattle.model.proofs.Written.{flag-small, header, whole-written, kinds-writt
 use Rattle.model.proofs.Written.{sum-written}
 use Rattle.codec.specs.declared.Table as DT
 use Rattle.codec.specs.Views.{tableIn}
-use Rattle.writer.specs.Writes.{countsIn, sized, membersIn, stored}
+use Rattle.writer.specs.Writes.{countsIn, sized, membersWritten, stored}
 use Rattle.writer.proofs.Chords.{length-kinds-in, length-chords-in}
 
 every-each : {A : Type 0} (f : A → Bool) (xs ys : List A) → every f (xs ++ ys) ≡ (every f xs && every f ys)
@@ -71,8 +71,8 @@ module _ (t : Table) where
 
   pub refusal-written : tableRefusal s
       ≡ unless (countsIn t) 2
-      (unless (kindsOk (t .kinds)) 4 (unless (every sized (t .chords)) 5 (unless (membersIn t) 7 0)))
-  unfolding tableRefusal membersIn
+      (unless (kindsOk (t .kinds)) 4 (unless (every sized (t .chords)) 5 (unless (membersWritten t) 7 0)))
+  unfolding tableRefusal membersWritten
   refusal-written =
       let h = header (t .kinds) (t .chords) in
       let w = whole-written (t .kinds) (t .chords) in

@@ -20,8 +20,8 @@ countsIn t =
 unfoldable pub sized : Chord → Bool
 sized c = leb 1 (length (c .channels)) && leb (length (c .channels)) 8
 
-unfoldable pub membersIn : Table → Bool
-membersIn t = every (λ c. membersOk (length (t .kinds)) (c .channels)) (t .chords)
+unfoldable pub membersWritten : Table → Bool
+membersWritten t = every (λ c. membersOk (length (t .kinds)) (c .channels)) (t .chords)
 
 -- a buffer that begins with these bytes, and is kept past them
 abbrev pub stored : List ℕ → List ℕ → List ℕ

@@ -9,7 +9,7 @@ ghost use Rattle.model.specs.Basics.{every};
 ghost use Rattle.model.specs.Layout.{tableRefusal, kindsOk, membersOk, two, writeRefusal, written};
 ghost use Rattle.model.specs.Layout.{tableBytes, writtenHeader, writtenChords, writtenMembers};
 ghost use Rattle.codec.specs.Views.{chordIn, tableIn};
-ghost use Rattle.writer.specs.Writes.{sized, membersIn, stored, entryBytes, MembersFit, Writable};
+ghost use Rattle.writer.specs.Writes.{sized, membersWritten, stored, entryBytes, MembersFit, Writable};
 
 // The number of members of all chords.
 fn members_len(table: codec::Table) -> u16
@@ -70,7 +70,7 @@ fn channels_below(chord: codec::Chord, n: u8) -> bool
 // Whether each chord's channels are the table's.
 fn members_in(table: codec::Table) -> bool
     requires { ⌜ (table .«chords_len» ≤ 32) × (every sized (tableIn table .chords) ≡ true) ⌝ }
-    ensures { λ r. ⌜ r ≡ membersIn (tableIn table) ⌝ }
+    ensures { λ r. ⌜ r ≡ membersWritten (tableIn table) ⌝ }
 {
     let t = table.kinds_len;
     let n = table.chords_len;

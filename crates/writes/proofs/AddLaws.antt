@@ -17,7 +17,7 @@ use Rattle.rows.specs.Decoded.{boardFrom}
 use Rattle.refusals.specs.Held.{heldOf}
 use Rattle.writes.specs.declared.Move as DM
 use Rattle.writes.specs.Moves.{putIf, movedBoard, movedHeld}
-use Rattle.writes.specs.Written.{Written, columnsAfter, matchesAfter}
+use Rattle.writes.specs.Written.{Written, columnsAfter, matchesWith}
 
 pub length-put : {A : Type 0} (u : Bool) (s : List A) (i : ℕ) (a : A) → length (putIf u s i a) ≡ length s
 length-put true s i a = length-set s i a
@@ -120,7 +120,7 @@ module _ (m : DM.Move) (i : ℕ) (s s′ b w ks : List ℕ) (cs : List ℤ) (b�
   unfolding boardFrom
   moved-held e =
       held-by _ _ _ _ _ _ e (t .columns ∙ ap (columnsAfter (m .change)) columns-then)
-      (t .matches ∙ ap (matchesAfter (m .change) (getD s 1 0) (m .sender .job)) matches-then)
+      (t .matches ∙ ap (matchesWith (m .change) (getD s 1 0) (m .sender .job)) matches-then)
 
   pub moved-sized : Sized l → Sized (lists s′ b′ w′ ks₁ cs₁)
   moved-sized z =

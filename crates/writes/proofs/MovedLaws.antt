@@ -14,7 +14,7 @@ use Rattle.writes.specs.declared.Move as DM
 use Rattle.writes.specs.Moves.{messagesBy, movedBoard}
 use Rattle.writes.proofs.ChangeLaws.{signal-none, signal-some, moved-by}
 use Rattle.rows.specs.Fits.{SenderFits, SendersFit, BoardFits}
-use Rattle.rows.specs.Numbers.{senderNumbers, sendersNumbers, boardNumbers, numbersOk}
+use Rattle.rows.specs.Numbers.{senderNumbers, sendersNumbers, boardNumbers, encodes}
 use Rattle.rows.specs.Decoded.{boardFrom}
 use Rattle.rows.proofs.DecodeLaws.{from-back}
 use Rattle.writes.specs.Signals.{signalledBoard}
@@ -41,7 +41,7 @@ written b s i n k d f h g e =
     (senders-paste (b .senders) i d (omega (arith, f .all)) (f .each) g))
 
 -- the numbers of a sender and the two counts, written
-pub sender-put : (s s′ : List ℕ) (i n k : ℕ) (d : DD.Sender) → numbersOk s ≡ true → i < 32 → SenderFits d
+pub sender-put : (s s′ : List ℕ) (i n k : ℕ) (d : DD.Sender) → encodes s ≡ true → i < 32 → SenderFits d
     → s′ ≡ paste s (2 + 21 * i) (senderNumbers d) 21
     → IsBoard (set (set s′ 0 n) 1 k) (withSender (boardFrom s) i d n k)
 sender-put s s′ i n k d ok h g e =

@@ -17,7 +17,7 @@ use Rattle.boards.specs.Boards.{HeldBoard, zeroSender}
 use Rattle.writes.specs.Writes.{signalledBy}
 use Rattle.writes.proofs.SignalledSenders.{mapped-step, mapped-end}
 use Rattle.rows.specs.Fits.{SenderFits, SendersFit, BoardFits}
-use Rattle.rows.specs.Numbers.{stateNumber, senderNumbers, sendersNumbers, boardNumbers, numbersOk}
+use Rattle.rows.specs.Numbers.{stateNumber, senderNumbers, sendersNumbers, boardNumbers, encodes}
 use Rattle.rows.specs.Decoded.{boardFrom}
 use Rattle.rows.proofs.SenderLaws.{numbers-listed}
 use Rattle.rows.proofs.Encoded.{encoded-ok, board-back}
@@ -26,7 +26,7 @@ use Rattle.writes.proofs.PlaceLaws.{set-behind, number-at, number-set}
 
 -- numbers that are those of a board
 abbrev pub IsBoard : List ℕ → HeldBoard → Type 0
-IsBoard s b = (numbersOk s ≡ true) × (boardFrom s ≡ b)
+IsBoard s b = (encodes s ≡ true) × (boardFrom s ≡ b)
 
 pub is-board : (s : List ℕ) (b : HeldBoard) → BoardFits b → s ≡ boardNumbers b → IsBoard s b
 is-board s b f e = rw e (encoded-ok b f, board-back b f)

@@ -15,12 +15,12 @@ columnsAfter g c =
     columnsOf (c .channels) (c .properties) (c .cents) (statusesBy g (c .statuses)) (matchedBy g (c .matched))
     (wakersBy g (c .wakers))
 
-abbrev pub matchesAfter : DG.Change → ℕ → DJ.Job → MatchColumns → MatchColumns
-matchesAfter g k j m = matchesOf (chordsBy g k (j .chord) (m .chords)) (matchMessagesBy g k (j .chosen) (m .messages))
+abbrev pub matchesWith : DG.Change → ℕ → DJ.Job → MatchColumns → MatchColumns
+matchesWith g k j m = matchesOf (chordsBy g k (j .chord) (m .chords)) (matchMessagesBy g k (j .chosen) (m .messages))
 
 -- l′ is l with a change written
 pub record Written (g : DG.Change) (k : ℕ) (j : DJ.Job) (l l′ : Lists) : Type 0 where
   pub columns : columnsIn l′ ≡ columnsAfter g (columnsIn l)
-  pub matches : matchesIn l′ ≡ matchesAfter g k j (matchesIn l)
+  pub matches : matchesIn l′ ≡ matchesWith g k j (matchesIn l)
   pub bytes-len : length (l′ .bytes) ≡ length (l .bytes)
   pub links-len : length (l′ .links) ≡ length (l .links)

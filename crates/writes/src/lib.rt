@@ -11,7 +11,7 @@ ghost use Rattle.columns.specs.Columns.{Passed};
 ghost use Rattle.boards.specs.Parts.{splice};
 ghost use Rattle.boards.specs.Layout.{bytesLen, linksLen, keysLen, centsLen, statusesAt, wakersAt};
 ghost use Rattle.boards.specs.Layout.{chordsAt, membersAt, statusesIn, chordsIn, membersIn, lists, Sized};
-ghost use Rattle.rows.specs.Numbers.{numbersOk};
+ghost use Rattle.rows.specs.Numbers.{encodes};
 ghost use Rattle.rows.specs.Decoded.{boardFrom};
 ghost use Rattle.refusals.specs.Held.{heldOf};
 ghost use Rattle.writes.specs.Writes.{statusBy, matchBy, wakerBy, WakerFits, Sure, statusesBy, matchesBy};
@@ -223,8 +223,8 @@ fn signal_one(s: &mut [u16], at: usize, own: u16)
 
 // Sets the signal of each sender, not idle, whose own message it is; `own` is the message plus 1.
 fn put_signal(s: &mut [u16], own: u16)
-    requires { ⌜ (numbersOk (now s) ≡ true) × (0 < own) ⌝ }
-    ensures { λ _. ⌜ (numbersOk (now (s .exit)) ≡ true)
+    requires { ⌜ (encodes (now s) ≡ true) × (0 < own) ⌝ }
+    ensures { λ _. ⌜ (encodes (now (s .exit)) ≡ true)
         × (boardFrom (now (s .exit)) ≡ signalledBoard (own - 1) (boardFrom (now (s .entry)))) ⌝ }
 {
     let mut i: usize = 0;
@@ -262,9 +262,9 @@ fn matches_after(c: Change, k: u16) -> u16
 
 // Writes the move m of the sender at a place: the sender, the counts, and a signal.
 fn put_moved(m: Move, i: u8, s: &mut [u16])
-    requires { ⌜ (numbersOk (now s) ≡ true) × (i < 32) × (getD (now s) 0 0 ≤ 1024) × (getD (now s) 1 0 ≤ 1024)
+    requires { ⌜ (encodes (now s) ≡ true) × (i < 32) × (getD (now s) 0 0 ≤ 1024) × (getD (now s) 1 0 ≤ 1024)
         × Fits (getD (now s) 0 0) (getD (now s) 1 0) m ⌝ }
-    ensures { λ _. ⌜ (numbersOk (now (s .exit)) ≡ true)
+    ensures { λ _. ⌜ (encodes (now (s .exit)) ≡ true)
         × (boardFrom (now (s .exit)) ≡ movedBoard (boardFrom (now (s .entry))) i m) ⌝ }
 {
     let n = s[0];
@@ -291,14 +291,14 @@ pub fn write_move(
     keys: &mut [u32],
     cents: &mut [i64],
 )
-    requires { ⌜ (numbersOk (now board) ≡ true) × (i < 32)
+    requires { ⌜ (encodes (now board) ≡ true) × (i < 32)
         × Sized (lists (now board) (now bytes) (now links) (now keys) (now cents))
         × (getD (now board) 0 0 ≤ 1024) × (getD (now board) 1 0 ≤ 1024)
         × Fits (getD (now board) 0 0) (getD (now board) 1 0) m ⌝ }
     ensures { λ _. ⌜ (heldOf (lists (now (board .exit)) (now (bytes .exit)) (now (links .exit)) (now (keys .exit))
         (now (cents .exit))) ≡ movedHeld (heldOf (lists (now (board .entry)) (now (bytes .entry)) (now (links .entry))
         (now (keys .entry)) (now (cents .entry)))) i m)
-        × (numbersOk (now (board .exit)) ≡ true)
+        × (encodes (now (board .exit)) ≡ true)
         × Sized (lists (now (board .exit)) (now (bytes .exit)) (now (links .exit)) (now (keys .exit))
         (now (cents .exit))) ⌝ }
 {

@@ -9,7 +9,7 @@ use native.Mathlib.Omega.{arith}
 use Rattle.boards.specs.Calls.{Held}
 use Rattle.boards.specs.Layout.{lists}
 use Rattle.refusals.specs.Held.{heldIn}
-use Rattle.host.specs.Reads.{ofQuiet, stored}
+use Rattle.host.specs.Reads.{ofQuiet, storedIn}
 use Rattle.host.proofs.Ways.{read-refused, read-short, read-given}
 use borrow.Author.Needs.{needs}
 use Rattle.host.proofs.gv_quiet.Statement.{statement}
@@ -61,7 +61,7 @@ returns-3 c =
     read-given (s .args .table .now) (given s) ofQuiet (s .args .out .now) _
     (sym (i .if1 .left) ∙ q .read-quiet .ensures .0) (omega (arith, j .if2 .left))
     (p .put-one .ensures
-    ∙ ap (λ (x : ℕ). stored (pos x ∷ []) (s .args .out .now))
+    ∙ ap (λ (x : ℕ). storedIn (pos x ∷ []) (s .args .out .now))
     (byte-flag (q .read-quiet .result .quiet) ∙ ap flag (q .read-quiet .ensures .1)))
 
 pub gv-quiet-spec : {M : Type 1} → statement M

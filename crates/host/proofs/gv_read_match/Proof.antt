@@ -5,7 +5,7 @@ use native.Mathlib.Omega.{arith}
 use Rattle.boards.specs.Calls.{Held}
 use Rattle.boards.specs.Layout.{lists}
 use Rattle.refusals.specs.Held.{heldIn}
-use Rattle.host.specs.Reads.{ofMatch, matchNumbers, stored}
+use Rattle.host.specs.Reads.{ofMatch, matchNumbers, storedIn}
 use Rattle.host.proofs.Ways.{read-refused, read-short, read-given}
 use borrow.Author.Needs.{needs}
 use Rattle.host.proofs.gv_read_match.Statement.{statement}
@@ -54,7 +54,7 @@ returns-3 c =
     read-given (s .args .table .now) (given s) (ofMatch (s .args .k)) (s .args .out .now) _
     (sym (i .if1 .left) ∙ q .read-match .ensures .0) (omega (arith, j .if2 .left))
     (p .put-match .ensures
-    ∙ ap (λ (x : MatchRead). stored (matchNumbers x) (s .args .out .now)) (q .read-match .ensures .1 .0))
+    ∙ ap (λ (x : MatchRead). storedIn (matchNumbers x) (s .args .out .now)) (q .read-match .ensures .1 .0))
 
 pub gv-read-match-spec : {M : Type 1} → statement M
 gv-read-match-spec =

@@ -5,7 +5,7 @@ use native.Mathlib.Omega.{arith}
 use Rattle.boards.specs.Calls.{Held}
 use Rattle.boards.specs.Layout.{lists}
 use Rattle.refusals.specs.Held.{heldIn}
-use Rattle.host.specs.Reads.{ofMessage, messageNumbers, stored}
+use Rattle.host.specs.Reads.{ofMessage, messageNumbers, storedIn}
 use Rattle.host.proofs.Ways.{read-refused, read-short, read-given}
 use borrow.Author.Needs.{needs}
 use Rattle.host.proofs.gv_read_message.Statement.{statement}
@@ -54,7 +54,7 @@ returns-3 c =
     read-given (s .args .table .now) (given s) (ofMessage (s .args .n)) (s .args .out .now) _
     (sym (i .if1 .left) ∙ q .read-message .ensures .0) (omega (arith, j .if2 .left))
     (p .put-message .ensures
-    ∙ ap (λ (x : Message). stored (messageNumbers x) (s .args .out .now)) (q .read-message .ensures .1 .0))
+    ∙ ap (λ (x : Message). storedIn (messageNumbers x) (s .args .out .now)) (q .read-message .ensures .1 .0))
 
 pub gv-read-message-spec : {M : Type 1} → statement M
 gv-read-message-spec =

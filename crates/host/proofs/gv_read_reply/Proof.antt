@@ -7,7 +7,7 @@ use native.Mathlib.Omega.{arith}
 use Rattle.boards.specs.Calls.{Held}
 use Rattle.boards.specs.Layout.{lists}
 use Rattle.refusals.specs.Held.{heldIn}
-use Rattle.host.specs.Reads.{ofReply, stored}
+use Rattle.host.specs.Reads.{ofReply, storedIn}
 use Rattle.host.proofs.Ways.{read-refused, read-short, read-given}
 use borrow.Author.Needs.{needs}
 use Rattle.host.proofs.gv_read_reply.Statement.{statement}
@@ -55,7 +55,7 @@ returns-3 c =
     let s = start q in
     read-given (s .args .table .now) (given s) (ofReply (s .args .sender)) (s .args .out .now) _
     (sym (i .if1 .left) ∙ q .read-reply .ensures .0) (omega (arith, j .if2 .left))
-    (p .put-one .ensures ∙ ap (λ (x : ℕ). stored (pos x ∷ []) (s .args .out .now)) (q .read-reply .ensures .1))
+    (p .put-one .ensures ∙ ap (λ (x : ℕ). storedIn (pos x ∷ []) (s .args .out .now)) (q .read-reply .ensures .1))
 
 pub gv-read-reply-spec : {M : Type 1} → statement M
 gv-read-reply-spec =

@@ -8,7 +8,7 @@ use borrow.Author.Needs.{needs}
 use lib.ListN.{getD}
 use native.Mathlib.Omega.{arith}
 use Rattle.model.specs.Layout.{tableOf}
-use Rattle.rows.specs.Numbers.{phaseOk}
+use Rattle.rows.specs.Numbers.{encodesPhase}
 use Rattle.refusals.specs.Rows.{row, within, limits}
 use Rattle.rows.proofs.WalkLaws.{part-at}
 use Rattle.refusals.proofs.RowLaws.{kind-below, numbers-ok, row-yes, row-no, phase-no}
@@ -45,7 +45,7 @@ limited c = c .before .before .before .before
 
 phase-says : (c : tie.After-phase-ok)
     → let a = numbers (limited c .before) in
-    phaseOk (getD a 8 0) (getD a 9 0) (getD a 10 0) ≡ c .phase-ok .result
+    encodesPhase (getD a 8 0) (getD a 9 0) (getD a 10 0) ≡ c .phase-ok .result
 phase-says c =
     let a = start (limited c .before) .args in
     let at = part-at (a .s .now) (a .at) in

@@ -8,7 +8,7 @@ use lib.ListN.{drop}
 use Rattle.model.specs.Basics.{every}
 use Rattle.model.specs.Layout.{membersOk}
 use Rattle.codec.specs.Views.{tableIn}
-use Rattle.writer.specs.Writes.{membersIn}
+use Rattle.writer.specs.Writes.{membersWritten}
 use Rattle.writer.proofs.Chords.{chords-left, none-left, length-kinds-in, sized-at}
 use borrow.Author.Needs.{needs}
 use Rattle.writer.proofs.members_in.Statement.{statement}
@@ -17,13 +17,13 @@ use Rattle.writer.proofs.members_in.Tie as tie
 abbrev Inv-loop : tie.InvT-loop
 Inv-loop table t n i₀ i =
     (i ≤ n) × (n ≡ table .«chords_len»)
-    × (membersIn (tableIn table) ≡ every (λ c. membersOk t (c .channels)) (drop i (tableIn table .chords)))
+    × (membersWritten (tableIn table) ≡ every (λ c. membersOk t (c .channels)) (drop i (tableIn table .chords)))
 
 abbrev μ-loop : tie.MeasureT-loop
 μ-loop table t n i₀ i = n - i
 
 loop-holds : tie.Need-loop-holds Inv-loop μ-loop
-unfolding membersIn
+unfolding membersWritten
 loop-holds c = (search needs, search needs, rw (length-kinds-in (c .args .t1)))
 
 cast-k : tie.Need-cast-k Inv-loop μ-loop

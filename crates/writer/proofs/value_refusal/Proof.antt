@@ -10,7 +10,7 @@ use Rattle.model.specs.Tables.{Table}
 use Rattle.model.specs.Layout.{tableRefusal, tableBytes, kindsOk}
 use Rattle.model.proofs.Tests.{both}
 use Rattle.codec.specs.Views.{tableIn}
-use Rattle.writer.specs.Writes.{sized, membersIn}
+use Rattle.writer.specs.Writes.{sized, membersWritten}
 use Rattle.writer.proofs.Refusals.{refusal-written, counts-many, counts-few}
 use borrow.Author.Needs.{needs}
 use Rattle.writer.proofs.value_refusal.Statement.{statement}
@@ -18,7 +18,7 @@ use Rattle.writer.proofs.value_refusal.Tie as tie
 
 -- the refusals from a test on
 abbrev from7 : Table → ℕ
-from7 t = unless (membersIn t) 7 0
+from7 t = unless (membersWritten t) 7 0
 
 abbrev from5 : Table → ℕ
 from5 t = unless (every sized (t .chords)) 5 (from7 t)
