@@ -206,7 +206,7 @@ fn report(table: &[u8], board: &[u16], bytes: &[u8], links: &[u16], keys: &[u32]
 {
     let mut out = io::buffer();
     let all = reports::line_count(board);
-    let mut next: usize = 0;
+    let mut next: u16 = 0;
     while next < all {
         let part = reports::report_part(table, board, bytes, links, keys, cents, next, &mut out);
         say(&out, part.at);

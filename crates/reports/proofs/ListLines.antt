@@ -14,7 +14,7 @@ use Rattle.columns.specs.MatchColumns.{matchIn}
 use Rattle.boards.specs.Layout.{Lists, boardLen, columnsIn, matchesIn}
 use Rattle.rows.specs.Decoded.{boardFrom}
 use Rattle.rows.proofs.WalkLaws.{all-numbers}
-use Rattle.refusals.specs.Held.{heldOf, heldIn, Accepted}
+use Rattle.refusals.specs.Held.{heldOf, Accepted}
 use Rattle.refusals.specs.Calls.{boardOf, refusalOf}
 use Rattle.refusals.proofs.HeldLaws.{held-is}
 use Rattle.refusals.proofs.Refusals.{table-accepted, messages-few, matches-few}
@@ -32,17 +32,18 @@ module _ (s : List ℕ) (l : Lists) where
   counted = lines-count (tableOf s) (heldOf l .board) (columnsIn l) (matchesIn l)
 
   module _ (a : Accepted s l) where
-    pub numbers-len : length (l .board) ≡ boardLen
-    numbers-len = all-numbers (l .board) (a .numbers) .0
-
     pub table-passed : tableRefusal s ≡ 0
     table-passed = table-accepted s (heldOf l .board) (columnsIn l) (matchesIn l) (a .accepted)
 
-    pub few : (getD (l .board) 0 0 ≤ 1024) × (getD (l .board) 1 0 ≤ 1024)
+    pub few : getD (l .board) 0 0 ≤ 1024
     unfolding boardFrom
-    few = (
-      messages-few s (heldOf l .board) (columnsIn l) (matchesIn l) (a .accepted),
-      matches-few s (heldOf l .board) (columnsIn l) (matchesIn l) (a .accepted),
+    few = messages-few s (heldOf l .board) (columnsIn l) (matchesIn l) (a .accepted)
+
+    pub countable : (length (l .board) ≡ boardLen) × (lineCount (l .board) ≤ 2049)
+    unfolding boardFrom
+    countable = (
+      all-numbers (l .board) (a .numbers) .0,
+      omega (arith, few, matches-few s (heldOf l .board) (columnsIn l) (matchesIn l) (a .accepted)),
     )
 
     pub match-readable : (k : ℕ) → k < getD (l .board) 1 0

@@ -19,7 +19,7 @@ ghost use Rattle.reports.specs.Parts.{itemLine, linesOn, lineCount, allL
 
 // The line to go on with, and the end of what was written.
 pub struct Part {
-    pub next: usize,
+    pub next: u16,
     pub at: usize,
 }
 
@@ -74,7 +74,7 @@ fn put_line(
     links: &[u16],
     keys: &[u32],
     cents: &[i64],
-    n: usize,
+    n: u16,
     out: &mut [u8],
     at: usize,
 ) -> usize
@@ -88,25 +88,22 @@ fn put_line(
     ensures { λ r. ⌜ r ≤ at + 104 ⌝ }
 {
     let messages = board[0];
-    let matches = board[1] as usize;
+    let matches = board[1];
     if n < matches {
-        return put_match_line(table, bytes, links, cents, messages, n as u16, out, at);
+        return put_match_line(table, bytes, links, cents, messages, n, out, at);
     }
-    let m = n - matches;
-    if m < messages as usize {
-        return put_open_line(bytes, m as u16, out, at);
+    if n - matches < messages {
+        return put_open_line(bytes, n - matches, out, at);
     }
     prints::put_quiet(out, at, calls::is_quiet(board))
 }
 
 // How many lines the report has.
-pub fn line_count(board: &[u16]) -> usize
-    requires { ⌜ length (now board) ≡ boardLen ⌝ }
+pub fn line_count(board: &[u16]) -> u16
+    requires { ⌜ (length (now board) ≡ boardLen) × (lineCount (now board) ≤ 2049) ⌝ }
     ensures { λ r. ⌜ r ≡ lineCount (now (board .entry)) ⌝ }
 {
-    let matches = board[1] as usize;
-    let messages = board[0] as usize;
-    matches + messages + 1
+    board[1] + board[0] + 1
 }
 
 // The report from a line on, as many lines as surely fit.
@@ -117,7 +114,7 @@ pub fn report_part(
     links: &[u16],
     keys: &[u32],
     cents: &[i64],
-    from: usize,
+    from: u16,
     out: &mut [u8],
 ) -> Part
     requires { ⌜ Accepted (now table) (lists (now board) (now bytes) (now links) (now keys) (now cents)) ⌝ }

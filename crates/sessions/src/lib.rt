@@ -23,7 +23,7 @@ pub struct Carry {
     pub len: usize,
 }
 
-// The same after a chunk of input.
+// After a chunk of input: the bytes since the last line feed, and as in `Served`.
 pub struct Chunk {
     pub carry: Carry,
     pub at: usize,

@@ -4,7 +4,7 @@ use Prim.Native.Nat.{_-_, _≤_}
 use native.Mathlib.Omega.{arith}
 use borrow.Author.Needs.{needs}
 use lib.ListN.{length}
-use Rattle.rows.proofs.WalkLaws.{all-numbers}
+use Rattle.reports.proofs.ListLines.{countable}
 use Rattle.gevnyusto.proofs.report.Statement.{statement}
 use Rattle.gevnyusto.proofs.report.Tie as tie
 
@@ -18,7 +18,7 @@ buffer-requires : tie.Need-buffer-requires Inv-loop μ-loop
 buffer-requires c κs = search needs
 
 line-count-requires : tie.Need-line-count-requires Inv-loop μ-loop
-line-count-requires c κs = all-numbers _ (c .before .before .before .before .before .before .pre .numbers) .0
+line-count-requires c κs = countable _ _ (c .before .before .before .before .before .before .pre)
 
 loop-holds : tie.Need-loop-holds Inv-loop μ-loop
 loop-holds c = (search needs, search needs)

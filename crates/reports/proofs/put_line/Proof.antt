@@ -2,18 +2,14 @@
 use mathlib.Core.Path.{_≡_, subst}
 use mathlib.Core.Bool.{Bool}
 use native.Mathlib.Omega.{arith}
-use Prim.Native.Nat.{_≤_}
-use lib.ListN.{length, getD}
+use lib.ListN.{length}
 use Rattle.model.specs.Layout.{tableOf}
-use Rattle.model.specs.Pools.{quiet}
 use Rattle.model.specs.Printing.{quietLine}
 use Rattle.boards.specs.Layout.{Lists, lists, columnsIn, matchesIn}
-use Rattle.refusals.specs.Held.{heldOf}
-use Rattle.refusals.specs.Calls.{boardOf}
 use Rattle.prints.specs.Printed.{Printed}
 use Rattle.reports.proofs.BoardLines.{quiet-short}
-use Rattle.reports.proofs.ListLines.{numbers-len, table-passed, few, match-readable, match-printed, open-printed}
-use Rattle.reports.proofs.ListLines.{last-printed}
+use Rattle.reports.proofs.ListLines.{table-passed, few, countable, match-readable}
+use Rattle.reports.proofs.ListLines.{match-printed, open-printed, last-printed}
 use borrow.Author.Needs.{needs}
 use Rattle.reports.proofs.put_line.Statement.{statement}
 use Rattle.reports.proofs.put_line.Tie as tie
@@ -28,22 +24,13 @@ lent s =
     lists (a .board .now) (a .bytes .now) (a .links .now) (a .keys .now) (a .cents .now)
 
 all : (s : tie.Start) → length (s .args .board .now) ≡ 674
-all s = numbers-len (s .args .table .now) (lent s) (s .pre .0)
-
-fit : (s : tie.Start) → (getD (s .args .board .now) 0 0 ≤ 1024) × (getD (s .args .board .now) 1 0 ≤ 1024)
-fit s = few (s .args .table .now) (lent s) (s .pre .0)
+all s = countable (s .args .table .now) (lent s) (s .pre .0) .0
 
 shared-slice-read-messages : tie.Need-shared-slice-read-messages
 shared-slice-read-messages c = omega (arith, all (start c))
 
 shared-slice-read-matches : tie.Need-shared-slice-read-matches
 shared-slice-read-matches c = omega (arith, all (start (c .before)))
-
-cast-matches : tie.Need-cast-matches
-cast-matches c = record { fits = omega (arith, fit (start (c .before)) .1) }
-
-cast-put-match-line : tie.Need-cast-put-match-line
-cast-put-match-line c = record { fits = omega (arith, c .if1 .taken, fit (start (c .before .before)) .1) }
 
 put-match-line-requires : tie.Need-put-match-line-requires
 put-match-line-requires c κs =
@@ -66,17 +53,12 @@ returns c =
     let r = w .put-match-line .ensures in
     (match-printed (s .args .table .now) (lent s) (s .args .n) (i .if1 .taken) (r .0), r .1)
 
-cast-if2 : tie.Need-cast-if2
-cast-if2 c = record { fits = omega (arith, fit (start (c .before .before)) .0) }
-
-cast-put-open-line : tie.Need-cast-put-open-line
-cast-put-open-line c = record { fits = omega (arith, c .if2 .taken, fit (start (c .before .before .before)) .0) }
-
 put-open-line-requires : tie.Need-put-open-line-requires
 put-open-line-requires c κs =
     let i = c .before in
     let s = start (i .before .before .before) in
-    (s .pre .0 .sized .bytes-len, omega (arith, i .if2 .taken, fit s .0), omega (arith, s .pre .1 .1))
+    let f = few (s .args .table .now) (lent s) (s .pre .0) in
+    (s .pre .0 .sized .bytes-len, omega (arith, i .if2 .taken, f), omega (arith, s .pre .1 .1))
 
 same-length-2 : tie.Need-same-length-2
 same-length-2 c = search needs
@@ -123,13 +105,9 @@ put-line-spec =
     (tie.spec
     shared-slice-read-messages
     shared-slice-read-matches
-    cast-matches
-    cast-put-match-line
     put-match-line-requires
     same-length
     returns
-    cast-if2
-    cast-put-open-line
     put-open-line-requires
     same-length-2
     returns-2

@@ -1,14 +1,13 @@
 -- `reports::report_part` meets its contract: the lines so far stand in the buffer.
 -- The measure is the number of lines left.
 use mathlib.Core.Path.{_≡_}
-use Prim.Native.Nat.{_-_, _<_, _≤_}
+use Prim.Native.Nat.{_-_}
 use native.Mathlib.Omega.{arith}
 use borrow.Author.Needs.{needs}
-use lib.ListN.{length}
 use Rattle.boards.specs.Layout.{Lists, lists}
 use Rattle.reports.specs.Parts.{linesOn, lineCount}
 use Rattle.reports.proofs.PartLaws.{Lined, lined-none, lined-next, lined-kept}
-use Rattle.reports.proofs.ListLines.{counted, numbers-len, few, part-ends}
+use Rattle.reports.proofs.ListLines.{counted, countable, part-ends}
 use Rattle.reports.proofs.report_part.Statement.{statement}
 use Rattle.reports.proofs.report_part.Tie as tie
 
@@ -31,13 +30,10 @@ lent s =
 all-lines : (c : tie.After-line-count Inv-loop μ-loop) → c .line-count .result ≡ lineCount (start c .args .board .now)
 all-lines c = c .line-count .ensures
 
-lines-few : (s : tie.Start Inv-loop μ-loop) → lineCount (s .args .board .now) ≤ 2049
-lines-few s = let f = few (s .args .table .now) (lent s) (s .pre .0) in omega (arith, f .0, f .1)
-
 line-count-requires : tie.Need-line-count-requires Inv-loop μ-loop
 line-count-requires c κs =
     let s = c .before .before .before .before .before .before in
-    numbers-len (s .args .table .now) (lent s) (s .pre .0)
+    countable (s .args .table .now) (lent s) (s .pre .0)
 
 loop-holds : tie.Need-loop-holds Inv-loop μ-loop
 loop-holds c =
@@ -69,10 +65,7 @@ put-line-requires c κs =
     )
 
 add-next : tie.Need-add-next Inv-loop μ-loop
-add-next c =
-    let t = c .before .before .before .before .before in
-    let a = t .before .before in
-    record { fits = omega (arith, t .loop-test .taken, all-lines a, lines-few (start a)) }
+add-next c = search needs
 
 loop-less : tie.Need-loop-less Inv-loop μ-loop
 loop-less c = search needs
