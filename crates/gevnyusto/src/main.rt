@@ -50,8 +50,6 @@ fn refuse(number: u8) {
     say(&out, n);
 }
 
-// Input.
-
 // A chunk of the input: its lines are served and their answers printed.
 fn serve_read(
     table: &[u8],
