@@ -2,18 +2,30 @@
 # The expected printout of edges, from document 01 alone: each line with the sentence or the reason that gives it.
 # Run: python3 oracle.py | diff - stdout
 #
-# A line of one call: its answer, and `kept` where all must be as found ("a refusal returns the number only and leaves
-# all as found"). A line of six numbers, 0 for accepted: a step, an add by desk 31 after it, then quiet, that desk's
-# slip, item 0, match 0; in the lines on tables and lengths each call is made on an empty board, all by one desk.
+# A line of one call: its answer, and `kept` where every list must be as found ("a refusal returns the number only and
+# leaves all as found"). A line of six numbers, 0 for accepted: a step, an add by desk 31 after it, each with its
+# `kept`, then quiet, that desk's slip, item 0, match 0; in the lines on tables and lengths each call is made on an
+# empty board, all by one desk.
+#
+# The five lists: board, 674 numbers (items, matches, then 21 for each of 32 desks); bytes, 3,072 (trays, statuses,
+# rules of matches); links, 10,240 (matches of items, wakers, eight items of each match); keys, 1,024; cents, 1,024. A
+# desk's 21: state (0 idle, 1 at work, 2 blocked), signal, own item, waker, slip, match made (these four plus 1, 0 for
+# none), item in hand, rule, phase, place, second number, mark, how often `again`, eight chosen items. Phases: 0 look,
+# 1 claim, 2 revert (second: claims made), 3 consume (second: match plus 1), 4 tell, 5 wake, 6 free, 7 signal, 8 pass
+# end, 9 rest (place: rests left less 1). Wake, signal and pass end have no place. A rule, a place, the claims made
+# and the count of `again` are bytes; signal and mark are 0 or 1.
 
 
 def one(label, answer):
     print(f"{label}: {answer}" + (" kept" if answer.startswith("refused") else ""))
 
 
-def six(label, *numbers):
-    # an accepted step or add alters the board; refused by both, all is as found
-    print(f"{label}:", *numbers, *(["kept"] if numbers[0] and numbers[1] else []))
+def tried(number):
+    return f"{number} kept" if number else "0"  # an accepted step or add alters the board
+
+
+def six(label, step, add, *reads):
+    print(f"{label}:", tried(step), tried(add), *reads)
 
 
 def broken(label):
@@ -37,10 +49,10 @@ one("full, desk at work, the same", "refused 9")  # desk 31 has not stepped
 one("full, desk idle, the same", "refused 10")
 one("full, cents out of range", "refused 11")
 one("full", "refused 12")  # "the next is 12"
-print("full, item 1,023: 0 as sent")
-print("full, item 1,024: 14")  # "no such item"
 one("full, step", "ended")  # no rule names the tray
 one("full, step of an idle desk", "refused 13")
+print("full, item 1,023: 0 as sent")
+print("full, item 1,024: 14")  # "no such item"
 
 # 2. "If a desk loses a claim to a desk still holding it, .. the pass ends with `again`, not `ended`". Rule: trays 0 1.
 TWICE = [(0, ["item 0", "looked 0", "missed", "ended"]),  # tray 0; nothing in tray 1
@@ -76,20 +88,25 @@ words(3, "item 3", "looked 3", "looked 2", "claimed 3", "matched 1", "consumed 3
 words(2, "ended")  # "unless the hand is consumed or woken by then"
 words(1, "consumed 0", "consumed 1")
 
-# 5. "lent list not 1,024 records": 30, one column at a time at 0, 1,023, 1,024 and 1,025 records.
-for column in ["trays", "properties", "cents", "statuses", "matches of items", "wakers", "rules of matches",
-               "items of matches"]:
-    broken(column)
-    broken(column)
-    six(column, 13, 0, 0, 0, 14, 15)  # an empty board: desk 0 idle: 13; its add taken; no item 0, no match 0
-    broken(column)
+# 3. "lent list not 1,024 records": 30, one list at a time at no numbers, one less, as many, and one more.
+for name in ["board", "bytes", "links", "keys", "cents"]:
+    broken(name)
+    broken(name)
+    six(name, 13, 0, 0, 0, 14, 15)  # an empty board: desk 0 idle: 13; its add taken; no item 0, no match 0
+    broken(name)
 
-# 3. "a call given them first gives the reader's numbers": before 30 (no record lent) and 8 (desk 32).
+# 4. "a call given them first gives the reader's numbers": before 30 (a list too short) and 8 (desk 32).
 for n, label in [(1, "11 bytes"), (2, "17 trays"), (3, "a byte less"), (4, "tray byte 2"), (5, "a rule of 9"),
                  (6, "a sum of 1"), (7, "member 2")]:
-    six(f"open {n}, {label}", *[n] * 6)
-broken("open 0, P")  # 30 before 8
+    print(f"open, {label}: {n} kept")
+    six(label, *[n] * 6)
+print("open, P: 30 kept")  # 673 numbers lent
+broken("P")  # 30 before 8
+print("open, 674 numbers: 0")
+print("open, 675 numbers: 30 kept")
 broken("30 before 8")
+
+# 5. Refusals in their order, on table P where desk 0 is blocked.
 one("step of desk 32", "refused 8")
 one("8 before 9", "refused 8")  # each line has all that comes after it wrong as well
 one("9 before 10", "refused 9")  # desk 0 is blocked, so not idle
@@ -101,9 +118,6 @@ print("item 0: 0 as sent")
 print("item 1: 14")
 print("match 0: 15")
 print("slip: 0 reply 0")  # "A slip without a match reads as none, which is no refusal"
-print("rule 0: 0")
-print("rule 1: 32")  # P has one rule
-print("rule 4,294,967,295: 32")
 
 # 6. Desks 0 to 31, trays under T, any property, cents in range.
 one("add, desk 31", "item 0")
@@ -114,9 +128,10 @@ one("step, desk 32", "refused 8")
 one("step, desk 65,535", "refused 8")
 print("slip, desk 31: 0 reply 0")
 print("slip, desk 32: 8 reply 0")
-print("slip, desk 65535: 8 reply 0")
+print("slip, desk 65,535: 8 reply 0")
 one("tray 1 of 2", "item 0")
 one("tray 2 of 2", "refused 10")
+one("tray 256", "refused 10")  # not tray 0
 one("tray 65,535", "refused 10")
 for label, taken in [("property 0", True), ("property 4,294,967,295", True),  # "u32, any value"
                      ("cents 999,999,999,999", True), ("cents 1,000,000,000,000", False),
@@ -124,7 +139,19 @@ for label, taken in [("property 0", True), ("property 4,294,967,295", True),  # 
     one(label, "item 0" if taken else "refused 11")
     print(f"{label}: 0 as sent" if taken else f"{label}: 14")
 
-# 4. Table Q: trays leave, waiting, waiting; rules 0 1, 0 0, 1 2 0. Six items in trays 0 1 1 1 2 0: 0 and 4 pending,
+# 7. "A rule's members are handed back as the part of the table bytes that holds them"; "a claim alters one record of it
+# and no other": a pending one.
+print("rule 0: 0")
+print("rule 1: 32")  # P has one rule
+print("rule 4,294,967,295: 32")
+print("members of rule 0: 0 1")
+for label in ["members of rule 1", "members of rule 256", "members in no table"]:
+    print(f"{label}:")
+print("claim of a pending record: claimed")
+print("claim of a claimed record: not claimed")
+print("claim past the records: not claimed")
+
+# 8. Table Q: trays leave, waiting, waiting; rules 0 1, 0 0, 1 2 0. Six items in trays 0 1 1 1 2 0: 0 and 4 pending,
 # 1 and 5 consumed in match 0 of rule 0, 2 woken by 0, 3 claimed. Desk 0 has item 0 in hand at rule 0, looking at 1;
 # desk 1 is blocked on item 2; desk 2 has item 3 in hand at rule 2, consuming; desk 3 is idle, with item 1 and slip 0.
 accepted("the sound board")
@@ -211,3 +238,70 @@ broken("free with a waiting item in hand")
 broken("signal with a waiting item in hand")
 one("last claim, 1,023 matches", "matched 1023")
 one("last claim, 1,024 matches", "lost 0")  # "is taken as not pending"
+one("again for the 256th time", "again")  # beyond 16 the rests are as at 16; there is no last `again`
+one("signal of nobody's item", "signalled 1")  # "without one (no schedule reaches this) none is set"
+one("signalled, item woken", "resumed")
+one("signalled, item consumed", "answered 0")
+one("signalled, item pending", "ended")  # "if neither (no schedule reaches this), `ended`, and it stays blocked"
+
+# 9. Numbers that are no board's are no sound board: state over 2, flag over 1, phase over 9, rule, place, claims made
+# or count of `again` over 255, a place or a second number where the phase has none; also where the low byte would do.
+broken("state 3")
+broken("state 257")
+accepted("flag of the signal 1")
+broken("flag of the signal 2")
+broken("rule 256")
+broken("phase 10")
+broken("phase 256")
+broken("look 257")
+accepted("mark 1")
+broken("mark 2")
+accepted("again 255 times")
+broken("again 256 times")
+accepted("next chosen item 65,535")  # at place 1 one item is chosen
+for label in ["claim 256", "revert 256 of 1", "free 256", "rest 256", "wake with a place", "signal with a place",
+              "pass end with a place", "consume 256", "tell 256"]:
+    broken(label)
+for phase in ["look with a second number", "claim with a second number", "revert 0 of 257",
+              "wake with a second number", "free with a second number", "signal with a second number",
+              "pass end with a second number", "rest with a second number", "tell with a second number"]:
+    broken(phase)
+
+# The job of an idle desk is not held by it: its numbers need only be some job's.
+for label in ["flag of the signal 1", "item 65,535 in hand", "rule 255", "look 255", "revert 255 of 255",
+              "consume by match 65,534", "mark 1, again 255 times", "chosen item 65,535"]:
+    accepted(f"idle, {label}")
+accepted("the last number 65,535")  # desk 31's, idle: chosen
+for label in ["flag of the signal 2", "rule 256", "phase 10", "look 256", "look with a second number",
+              "revert 0 of 256", "pass end with a place", "mark 2", "again 256 times"]:
+    broken(f"idle, {label}")
+broken("blocked, phase 10")
+broken("the last desk, state 3")
+
+
+# 10. A replay, on table P and an empty board: the calls of the rows, each as by itself; 30 for rows that do not fit and
+# 31 for less room than rows, after the refusals that every board call has. Two adds, to the waiting and the leave tray;
+# the third call is a step of desk 1, whose item 1 fills member 0.
+def replay(label, number, *answers):
+    print(f"{label}: {number}")
+    for answer in answers:
+        print(" ", answer)
+
+
+replay("two rows, room for two", 0, "item 0", "item 1", "-")
+replay("three rows, room for three", 0, "item 0", "item 1", "looked 1")
+replay("two rows, room for three", 0, "item 0", "item 1", "-")
+replay("no rows, no room", "0 kept", "-", "-", "-")  # no call
+for label in ["a number of the calls less", "a number of the calls more", "a property less", "a property more",
+              "an amount less", "an amount more", "rows and no amounts"]:
+    replay(label, "30 kept")
+replay("room for one", "31 kept")
+replay("no room", "31 kept")
+replay("30 before 31", "30 kept")
+replay("1 before 30", "1 kept")
+replay("the run of P", 0, "item 0", "missed", "ended", "refused 13", "item 1", "looked 1", "looked 0", "claimed 1",
+       "claimed 0", "woke 0", "freed 1", "signalled 0", "resumed", "looked 1", "looked 0", "claimed 1", "matched 0",
+       "consumed 1", "consumed 0", "refused 13")  # as 01 prints it
+print("match 0: 0 rule 0 members 2 items 1 0 cents 5000")  # "match 0 rule 0 cents 5000 items 1 0"
+print("quiet: 0 yes")
+print("slip, desk 0: 0 reply 1")  # match 0, plus 1: its own item is consumed

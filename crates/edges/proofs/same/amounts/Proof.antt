@@ -1,10 +1,10 @@
--- `edges::same_properties` is safe and ends: slices of one length are compared.
+-- `edges::same::amounts` is safe and ends: lists of one length are compared.
 use mathlib.Core.Path.{_≡_}
 use Prim.Native.Nat.{_≤_, _-_}
 use lib.ListN.{length}
 use borrow.Author.Needs.{needs}
-use Rattle.edges.proofs.same_properties.Statement.{statement}
-use Rattle.edges.proofs.same_properties.Tie as tie
+use Rattle.edges.proofs.same.amounts.Statement.{statement}
+use Rattle.edges.proofs.same.amounts.Tie as tie
 
 abbrev Inv-loop : tie.InvT-loop
 Inv-loop a b i₀ i = (i ≤ length a) × (length a ≡ length b)
@@ -21,14 +21,14 @@ loop-holds c = search needs
 mul-if2 : tie.Need-mul-if2 Inv-loop μ-loop
 mul-if2 c = search needs
 
-shared-slice-read-if2 : tie.Need-shared-slice-read-if2 Inv-loop μ-loop
-shared-slice-read-if2 c = search needs
+shared-slice-copy-out-if2 : tie.Need-shared-slice-copy-out-if2 Inv-loop μ-loop
+shared-slice-copy-out-if2 c = search needs
 
 mul-if2-2 : tie.Need-mul-if2-2 Inv-loop μ-loop
 mul-if2-2 c = search needs
 
-shared-slice-read-if2-2 : tie.Need-shared-slice-read-if2-2 Inv-loop μ-loop
-shared-slice-read-if2-2 c = search needs
+shared-slice-copy-out-if2-2 : tie.Need-shared-slice-copy-out-if2-2 Inv-loop μ-loop
+shared-slice-copy-out-if2-2 c = search needs
 
 returns-2 : tie.Need-returns-2 Inv-loop μ-loop
 returns-2 c = search needs
@@ -45,8 +45,8 @@ loop-again c = search needs
 returns-3 : tie.Need-returns-3 Inv-loop μ-loop
 returns-3 c = search needs
 
-pub same-properties-spec : {M : Type 1} → statement M
-same-properties-spec =
+pub amounts-spec : {M : Type 1} → statement M
+amounts-spec =
     tie.close
     (tie.spec
     Inv-loop
@@ -54,9 +54,9 @@ same-properties-spec =
     returns
     loop-holds
     mul-if2
-    shared-slice-read-if2
+    shared-slice-copy-out-if2
     mul-if2-2
-    shared-slice-read-if2-2
+    shared-slice-copy-out-if2-2
     returns-2
     add-i
     loop-less

@@ -1,10 +1,10 @@
--- `edges::same_bytes` is safe and ends: slices of one length are compared.
+-- `edges::same::bytes` is safe and ends: lists of one length are compared.
 use mathlib.Core.Path.{_≡_}
 use Prim.Native.Nat.{_≤_, _-_}
 use lib.ListN.{length}
 use borrow.Author.Needs.{needs}
-use Rattle.edges.proofs.same_bytes.Statement.{statement}
-use Rattle.edges.proofs.same_bytes.Tie as tie
+use Rattle.edges.proofs.same.bytes.Statement.{statement}
+use Rattle.edges.proofs.same.bytes.Tie as tie
 
 abbrev Inv-loop : tie.InvT-loop
 Inv-loop a b i₀ i = (i ≤ length a) × (length a ≡ length b)
@@ -39,8 +39,8 @@ loop-again c = search needs
 returns-3 : tie.Need-returns-3 Inv-loop μ-loop
 returns-3 c = search needs
 
-pub same-bytes-spec : {M : Type 1} → statement M
-same-bytes-spec =
+pub bytes-spec : {M : Type 1} → statement M
+bytes-spec =
     tie.close
     (tie.spec
     Inv-loop

@@ -1,10 +1,10 @@
--- `edges::same_words` is safe and ends: slices of one length are compared.
+-- `edges::same::words` is safe and ends: lists of one length are compared.
 use mathlib.Core.Path.{_≡_}
 use Prim.Native.Nat.{_≤_, _-_}
 use lib.ListN.{length}
 use borrow.Author.Needs.{needs}
-use Rattle.edges.proofs.same_words.Statement.{statement}
-use Rattle.edges.proofs.same_words.Tie as tie
+use Rattle.edges.proofs.same.words.Statement.{statement}
+use Rattle.edges.proofs.same.words.Tie as tie
 
 abbrev Inv-loop : tie.InvT-loop
 Inv-loop a b i₀ i = (i ≤ length a) × (length a ≡ length b)
@@ -45,8 +45,8 @@ loop-again c = search needs
 returns-3 : tie.Need-returns-3 Inv-loop μ-loop
 returns-3 c = search needs
 
-pub same-words-spec : {M : Type 1} → statement M
-same-words-spec =
+pub words-spec : {M : Type 1} → statement M
+words-spec =
     tie.close
     (tie.spec
     Inv-loop
