@@ -37,8 +37,8 @@ def accepted(label):
 
 
 def words(desk, *said):
-    for word in said:
-        print("desk", desk, word)
+    kept = [word + (" kept" if word.startswith("refused") else "") for word in said]
+    print(f"desk {desk}:", *kept)
 
 
 # 1. "A board takes 1,024 items", numbered from 0. Table: one leave tray, no rule, so one step ends each job.
@@ -49,10 +49,10 @@ one("full, desk at work, the same", "refused 9")  # desk 31 has not stepped
 one("full, desk idle, the same", "refused 10")
 one("full, cents out of range", "refused 11")
 one("full", "refused 12")  # "the next is 12"
-one("full, step", "ended")  # no rule names the tray
-one("full, step of an idle desk", "refused 13")
 print("full, item 1,023: 0 as sent")
 print("full, item 1,024: 14")  # "no such item"
+one("full, step", "ended")  # no rule names the tray
+one("full, step of an idle desk", "refused 13")
 
 # 2. "If a desk loses a claim to a desk still holding it, .. the pass ends with `again`, not `ended`". Rule: trays 0 1.
 TWICE = [(0, ["item 0", "looked 0", "missed", "ended"]),  # tray 0; nothing in tray 1
@@ -62,8 +62,9 @@ print("first claim lost")
 for desk, said in TWICE:
     words(desk, *said)
 words(1, "claimed 0")
-words(2, "lost 0", "again")  # desk 1 holds item 0; no claim to put back; the mark is set
-words(2, "missed", "again", "rested")  # no rest at the first `again`, 1 at the second; item 0 is claimed and would fit
+# desk 1 holds item 0; no claim to put back; the mark is set; no rest at the first `again`, 1 at the second; item 0 is
+# claimed and would fit
+words(2, "lost 0", "again", "missed", "again", "rested")
 words(1, "matched 0", "consumed 0", "consumed 1")
 words(2, "missed", "ended", "refused 13", "refused 13")  # item 0 is consumed: no mark
 print("second claim lost")
@@ -75,8 +76,8 @@ words(2, "looked 2", "looked 0")
 words(1, "claimed 1")
 words(2, "claimed 2")
 words(1, "matched 0")  # the rule names no waiting tray
-words(2, "lost 0", "reverted 2", "again")  # item 0 is claimed, desk 1 has not consumed it
-words(2, "looked 2", "missed")  # a claimed item would fit: the mark is set
+# item 0 is claimed, desk 1 has not consumed it; a claimed item would fit: the mark is set
+words(2, "lost 0", "reverted 2", "again", "looked 2", "missed")
 words(1, "consumed 1", "consumed 0")
 words(2, "again", "rested", "looked 2", "missed", "ended")  # the mark was set before; then nothing is claimed
 print("hand consumed by then")
@@ -107,6 +108,7 @@ print("open, 675 numbers: 30 kept")
 broken("30 before 8")
 
 # 5. Refusals in their order, on table P where desk 0 is blocked.
+print("desk 0 blocks: item 0 missed ended")
 one("step of desk 32", "refused 8")
 one("8 before 9", "refused 8")  # each line has all that comes after it wrong as well
 one("9 before 10", "refused 9")  # desk 0 is blocked, so not idle
@@ -118,6 +120,7 @@ print("item 0: 0 as sent")
 print("item 1: 14")
 print("match 0: 15")
 print("slip: 0 reply 0")  # "A slip without a match reads as none, which is no refusal"
+print("quiet: 0 quiet")  # "every desk is idle, or blocked without a signal"
 
 # 6. Desks 0 to 31, trays under T, any property, cents in range.
 one("add, desk 31", "item 0")
@@ -136,17 +139,15 @@ one("tray 65,535", "refused 10")
 for label, taken in [("property 0", True), ("property 4,294,967,295", True),  # "u32, any value"
                      ("cents 999,999,999,999", True), ("cents 1,000,000,000,000", False),
                      ("cents -999,999,999,999", True), ("cents -1,000,000,000,000", False)]:
-    one(label, "item 0" if taken else "refused 11")
-    print(f"{label}: 0 as sent" if taken else f"{label}: 14")
+    print(f"{label}:", "item 0 0 as sent" if taken else "refused 11 kept 14")  # the add, and a read of item 0
 
 # 7. "A rule's members are handed back as the part of the table bytes that holds them"; "a claim alters one record of it
 # and no other": a pending one.
-print("rule 0: 0")
+print("rule 0: 0 0 1")
 print("rule 1: 32")  # P has one rule
+print("rule 256: 32")
 print("rule 4,294,967,295: 32")
-print("members of rule 0: 0 1")
-for label in ["members of rule 1", "members of rule 256", "members in no table"]:
-    print(f"{label}:")
+print("rule 0 of no table: 1")
 print("claim of a pending record: claimed")
 print("claim of a claimed record: not claimed")
 print("claim past the records: not claimed")
@@ -238,11 +239,12 @@ broken("free with a waiting item in hand")
 broken("signal with a waiting item in hand")
 one("last claim, 1,023 matches", "matched 1023")
 one("last claim, 1,024 matches", "lost 0")  # "is taken as not pending"
-one("again for the 256th time", "again")  # beyond 16 the rests are as at 16; there is no last `again`
+print("again for the 256th time: again rested")  # beyond 16 the rests are as at 16: 32; there is no last `again`
 one("signal of nobody's item", "signalled 1")  # "without one (no schedule reaches this) none is set"
 one("signalled, item woken", "resumed")
-one("signalled, item consumed", "answered 0")
-one("signalled, item pending", "ended")  # "if neither (no schedule reaches this), `ended`, and it stays blocked"
+print("signalled, item consumed: answered 0 refused 13 kept 0 reply 1")  # "slip K, idle"; the slip is K plus 1
+# "signal cleared; .. if neither (no schedule reaches this), `ended`, and it stays blocked"
+print("signalled, item pending: ended refused 13 kept")
 
 # 9. Numbers that are no board's are no sound board: state over 2, flag over 1, phase over 9, rule, place, claims made
 # or count of `again` over 255, a place or a second number where the phase has none; also where the low byte would do.
@@ -253,19 +255,17 @@ broken("flag of the signal 2")
 broken("rule 256")
 broken("phase 10")
 broken("phase 256")
-broken("look 257")
 accepted("mark 1")
 broken("mark 2")
 accepted("again 255 times")
 broken("again 256 times")
 accepted("next chosen item 65,535")  # at place 1 one item is chosen
-for label in ["claim 256", "revert 256 of 1", "free 256", "rest 256", "wake with a place", "signal with a place",
-              "pass end with a place", "consume 256", "tell 256"]:
-    broken(label)
-for phase in ["look with a second number", "claim with a second number", "revert 0 of 257",
+for label in ["look 257", "claim 256", "revert 256 of 1", "free 256", "rest 256", "consume 256", "tell 256",
+              "wake with a place", "signal with a place", "pass end with a place", "look with a second number",
+              "claim with a second number", "revert 0 of 257", "tell with a second number",
               "wake with a second number", "free with a second number", "signal with a second number",
-              "pass end with a second number", "rest with a second number", "tell with a second number"]:
-    broken(phase)
+              "pass end with a second number", "rest with a second number"]:
+    broken(label)
 
 # The job of an idle desk is not held by it: its numbers need only be some job's.
 for label in ["flag of the signal 1", "item 65,535 in hand", "rule 255", "look 255", "revert 255 of 255",
@@ -279,29 +279,27 @@ broken("blocked, phase 10")
 broken("the last desk, state 3")
 
 
-# 10. A replay, on table P and an empty board: the calls of the rows, each as by itself; 30 for rows that do not fit and
-# 31 for less room than rows, after the refusals that every board call has. Two adds, to the waiting and the leave tray;
-# the third call is a step of desk 1, whose item 1 fills member 0.
+# 10. A replay, on table P and an empty board, of the first rows of 01's run of P: the calls of the rows, each as by
+# itself; 30 for rows that do not fit and 31 for less room than rows, after the refusals that every board call has. A
+# place for an answer that was not written is a dash.
 def replay(label, number, *answers):
-    print(f"{label}: {number}")
-    for answer in answers:
-        print(" ", answer)
+    print(f"{label}: {number}", *answers)
 
 
-replay("two rows, room for two", 0, "item 0", "item 1", "-")
-replay("three rows, room for three", 0, "item 0", "item 1", "looked 1")
-replay("two rows, room for three", 0, "item 0", "item 1", "-")
-replay("no rows, no room", "0 kept", "-", "-", "-")  # no call
+RUN = ["item 0", "missed", "ended", "refused 13", "item 1", "looked 1", "looked 0", "claimed 1", "claimed 0", "woke 0",
+       "freed 1", "signalled 0", "resumed", "looked 1", "looked 0", "claimed 1", "matched 0", "consumed 1",
+       "consumed 0", "refused 13"]  # as 01 prints it
+replay("two rows, room for two", 0, *RUN[:2], "-")
+replay("three rows, room for three", 0, *RUN[:3], "-")
+replay("two rows, room for three", 0, *RUN[:2], "-")
+replay("no rows, no room", 0, "-", "kept")  # no call
 for label in ["a number of the calls less", "a number of the calls more", "a property less", "a property more",
               "an amount less", "an amount more", "rows and no amounts"]:
     replay(label, "30 kept")
 replay("room for one", "31 kept")
 replay("no room", "31 kept")
 replay("30 before 31", "30 kept")
+replay("rows that fit, a board that is not sound", "30 kept")
+# then match 0, quiet, and desk 0's slip: "match 0 rule 0 cents 5000 items 1 0 / quiet yes"; the slip is match 0 plus 1
+replay("the run of P", 0, *RUN, "0 rule 0 members 2 items 1 0 cents 5000", "0 quiet", "0 reply 1")
 replay("1 before 30", "1 kept")
-replay("the run of P", 0, "item 0", "missed", "ended", "refused 13", "item 1", "looked 1", "looked 0", "claimed 1",
-       "claimed 0", "woke 0", "freed 1", "signalled 0", "resumed", "looked 1", "looked 0", "claimed 1", "matched 0",
-       "consumed 1", "consumed 0", "refused 13")  # as 01 prints it
-print("match 0: 0 rule 0 members 2 items 1 0 cents 5000")  # "match 0 rule 0 cents 5000 items 1 0"
-print("quiet: 0 yes")
-print("slip, desk 0: 0 reply 1")  # match 0, plus 1: its own item is consumed

@@ -102,12 +102,13 @@ fn short_reads(table: &[u8], list: u8, len: usize, i: u16) {
 }
 
 // All calls, by sender i, each on an empty board with one list lent at another length.
-pub fn short(label: &[u8], table: &[u8], i: u16, list: u8, len: usize) {
+fn short(label: &[u8], table: &[u8], i: u16, list: u8, len: usize) {
     say::text(label);
     say::text(b":");
     world::say_tried(short_call(table, list, len, Call::Step(i)));
-    world::say_tried(short_call(table, list, len, world::add(i, 0, 7, 1)));
+    world::say_tried(short_call(table, list, len, world::add(i)));
     short_reads(table, list, len, i);
+    say::text(b"\n");
 }
 
 // A list at no numbers, one less than a board has, as many, and one more.

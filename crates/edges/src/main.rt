@@ -1,4 +1,5 @@
 // The board's public calls at their edges. What is printed is held to `oracle.py`, which has the reasons.
+mod acts;
 mod full;
 mod jobs;
 mod lengths;
@@ -7,10 +8,10 @@ mod lost;
 mod numbers;
 mod once;
 mod order;
-mod places;
 mod replays;
 mod same;
 mod say;
+mod script;
 mod shown;
 mod sound;
 mod tables;

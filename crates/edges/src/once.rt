@@ -3,17 +3,12 @@ use crate::say;
 use crate::tables::P;
 use records::Message;
 
-fn refusals() {
-    say::line(b"rule 0", table::chord_refusal(&P, 0));
-    say::line(b"rule 1", table::chord_refusal(&P, 1));
-    say::line(b"rule 4,294,967,295", table::chord_refusal(&P, 4294967295));
-}
-
-// The bytes that name a chord's channels.
+// Whether a chord is refused, and the bytes that name its channels.
 fn members(label: &[u8], table: &[u8], chord: u32) {
     let part = table::chord_channels(table, chord);
     say::text(label);
     say::text(b":");
+    say::next(table::chord_refusal(table, chord));
     let mut i: usize = 0;
     while i < part.len() {
         say::next(part[i]);
@@ -48,11 +43,11 @@ fn claim(label: &[u8], n: usize) {
 }
 
 pub fn lines() {
-    refusals();
-    members(b"members of rule 0", &P, 0);
-    members(b"members of rule 1", &P, 1);
-    members(b"members of rule 256", &P, 256);
-    members(b"members in no table", b"", 0);
+    members(b"rule 0", &P, 0);
+    members(b"rule 1", &P, 1);
+    members(b"rule 256", &P, 256);
+    members(b"rule 4,294,967,295", &P, 4294967295);
+    members(b"rule 0 of no table", b"", 0);
     claim(b"claim of a pending record", 0);
     claim(b"claim of a claimed record", 1);
     claim(b"claim past the records", 2);

@@ -1,31 +1,31 @@
 // Words and numbers on standard output.
+ghost use Prim.Native.Nat.{_≤_};
 use libc::STDOUT_FILENO;
 use state::Said;
+
+// The words by their numbers, sixteen bytes each, a letter for the length first: b for 2, and so on.
+const WORDS: [u8; 288] =
+    *b"ditem           flooked         fmissed         gclaimed        dlost           \
+    hreverted       gmatched        hconsumed       dtold           dwoke           efreed          \
+    isignalled      eagain          eended          frested         hanswered       gresumed        \
+    grefused        ";
 
 pub fn text(t: &[u8]) {
     io::write_all(STDOUT_FILENO, t);
 }
 
-pub fn number(n: u16) {
-    io::print_decimal(STDOUT_FILENO, n as u64);
+pub fn number(n: u64) {
+    io::print_decimal(STDOUT_FILENO, n);
 }
 
 pub fn word(word: &[u8], n: u16) {
     text(word);
     text(b" ");
-    number(n);
+    number(n as u64);
 }
 
 pub fn next(n: u8) {
-    text(b" ");
-    number(n as u16);
-}
-
-pub fn line(label: &[u8], n: u8) {
-    text(label);
-    text(b":");
-    next(n);
-    text(b"\n");
+    word(b"", n as u16);
 }
 
 // Whether all is as it was.
@@ -35,27 +35,44 @@ pub fn kept(yes: bool) {
     }
 }
 
-pub fn said(said: Said) {
-    match said {
-        Said::Item(n) => word(b"item", n),
-        Said::Looked(n) => word(b"looked", n),
-        Said::Missed => text(b"missed"),
-        Said::Claimed(n) => word(b"claimed", n),
-        Said::Lost(n) => word(b"lost", n),
-        Said::Reverted(n) => word(b"reverted", n),
-        Said::Matched(n) => word(b"matched", n),
-        Said::Consumed(n) => word(b"consumed", n),
-        Said::Told(n) => word(b"told", n),
-        Said::Woke(n) => word(b"woke", n),
-        Said::Freed(n) => word(b"freed", n),
-        Said::Signalled(n) => word(b"signalled", n),
-        Said::Again => text(b"again"),
-        Said::Ended => text(b"ended"),
-        Said::Rested => text(b"rested"),
-        Said::Answered(n) => word(b"answered", n),
-        Said::Resumed => text(b"resumed"),
-        Said::Refused(n) => word(b"refused", n as u16),
+// A word by its number.
+fn name(word: usize)
+    requires { ⌜ word ≤ 17 ⌝ }
+{
+    let words = WORDS;
+    let at = 16 * word;
+    let len = (words[at] % 16) as usize;
+    let from = at + 1;
+    let to = from + len;
+    text(&words[from..to]);
+}
+
+// Words that say no number.
+fn is_bare(word: usize) -> bool {
+    (word == 2) | (word == 12) | (word == 13) | (word == 14) | (word == 16)
+}
+
+// An answer by its number; a dash where there is none.
+pub fn answer(a: u32) {
+    let word = (a / 65536) as usize;
+    text(b" ");
+    if 17 < word {
+        text(b"-");
+        return;
     }
+    name(word);
+    if !is_bare(word) {
+        next_of(a % 65536);
+    }
+}
+
+fn next_of(n: u32) {
+    text(b" ");
+    number(n as u64);
+}
+
+pub fn said(said: Said) {
+    answer(plays::answer_number(said));
 }
 
 // The number of a refusal; 0 for none.

@@ -1,4 +1,4 @@
-// The five lists that are lent, calls on them, and whether a call left all as found.
+// Calls on the five lists of a board, and whether a call left all as found.
 use crate::lists::*;
 use crate::same;
 use crate::say;
@@ -27,7 +27,7 @@ pub fn made(
     }
 }
 
-// The same on the lists of a board.
+// The same on lists of their lengths.
 pub fn make(
     table: &[u8],
     board: &mut Board,
@@ -81,36 +81,17 @@ pub fn played(
     let k = *keys;
     let c = *cents;
     let said = make(table, board, bytes, links, keys, cents, call);
-    let kept = is_same(board, bytes, links, keys, cents, &b, &y, &l, &k, &c);
     Heard {
         said: said,
-        kept: kept,
+        kept: is_same(board, bytes, links, keys, cents, &b, &y, &l, &k, &c),
     }
 }
 
-// A call on copies: what is said, and whether all is as it was.
-pub fn say_call(
-    label: &[u8],
-    table: &[u8],
-    board: &Board,
-    bytes: &Bytes,
-    links: &Links,
-    keys: &Keys,
-    cents: &Cents,
-    call: Call,
-) {
-    let mut b = *board;
-    let mut y = *bytes;
-    let mut l = *links;
-    let mut k = *keys;
-    let mut c = *cents;
-    let h = played(table, &mut b, &mut y, &mut l, &mut k, &mut c, call);
+// What was said, and whether all is as it was.
+pub fn say_heard(h: Heard) {
     let said = h.said;
-    say::text(label);
-    say::text(b": ");
     say::said(said);
     say::kept(h.kept);
-    say::text(b"\n");
 }
 
 // The number of a call, and whether all is as it was.
@@ -138,57 +119,29 @@ pub fn say_reads(
     say::next(r.number);
     say::next(m.number);
     say::next(k.number);
-    say::text(b"\n");
 }
 
-fn reads(
-    table: &[u8],
-    board: &Board,
-    bytes: &Bytes,
-    links: &Links,
-    keys: &Keys,
-    cents: &Cents,
-    i: u16,
-) {
-    say_reads(table, board, bytes, links, keys, cents, i);
-}
-
-// On copies a step of sender i, an add of the last sender after it, and the reads.
+// A step of sender i, an add of the last sender after it, and the reads, as numbers.
 pub fn say_calls(
-    label: &[u8],
     table: &[u8],
-    board: &Board,
-    bytes: &Bytes,
-    links: &Links,
-    keys: &Keys,
-    cents: &Cents,
+    board: &mut Board,
+    bytes: &mut Bytes,
+    links: &mut Links,
+    keys: &mut Keys,
+    cents: &mut Cents,
     i: u16,
 ) {
-    let mut b = *board;
-    let mut y = *bytes;
-    let mut l = *links;
-    let mut k = *keys;
-    let mut c = *cents;
-    say::text(label);
-    say::text(b":");
-    say_tried(played(table, &mut b, &mut y, &mut l, &mut k, &mut c, Call::Step(i)));
-    say_tried(played(
-        table,
-        &mut b,
-        &mut y,
-        &mut l,
-        &mut k,
-        &mut c,
-        add(31, 0, 7, 1),
-    ));
-    reads(table, &b, &y, &l, &k, &c, 31);
+    say_tried(played(table, board, bytes, links, keys, cents, Call::Step(i)));
+    say_tried(played(table, board, bytes, links, keys, cents, add(31)));
+    say_reads(table, board, bytes, links, keys, cents, 31);
 }
 
-pub fn add(i: u16, channel: u16, property: u32, cents: i64) -> Call {
+// An add of one cent to the first channel.
+pub fn add(i: u16) -> Call {
     let x = Sent {
-        channel: channel,
-        property: property,
-        cents: cents,
+        channel: 0,
+        property: 7,
+        cents: 1,
     };
     Call::Add(i, x)
 }

@@ -23,14 +23,20 @@ slice-aggregate-text c = search needs
 text-requires-2 : tie.Need-text-requires-2 Inv-loop μ-loop
 text-requires-2 c κs = search needs
 
+chord-refusal-requires : tie.Need-chord-refusal-requires Inv-loop μ-loop
+chord-refusal-requires c κs = search needs
+
+next-requires : tie.Need-next-requires Inv-loop μ-loop
+next-requires c κs = search needs
+
 loop-holds : tie.Need-loop-holds Inv-loop μ-loop
 loop-holds c = search needs
 
 shared-slice-read-next : tie.Need-shared-slice-read-next Inv-loop μ-loop
 shared-slice-read-next c = search needs
 
-next-requires : tie.Need-next-requires Inv-loop μ-loop
-next-requires c κs = search needs
+next-requires-2 : tie.Need-next-requires-2 Inv-loop μ-loop
+next-requires-2 c κs = search needs
 
 add-i : tie.Need-add-i Inv-loop μ-loop
 add-i c = search needs
@@ -60,9 +66,11 @@ members-spec =
     text-requires
     slice-aggregate-text
     text-requires-2
+    chord-refusal-requires
+    next-requires
     loop-holds
     shared-slice-read-next
-    next-requires
+    next-requires-2
     add-i
     loop-less
     loop-again

@@ -1,16 +1,16 @@
--- `edges::sound::put` is safe and ends: each number is stored, or the list ends.
+-- `edges::acts::put_bytes` is safe and ends: each number is stored, or the list ends.
 use mathlib.Core.Path.{_≡_}
 use Prim.Native.Nat.{_≤_, _-_}
 use lib.ListN.{length}
 use borrow.Author.Needs.{needs}
-use Rattle.edges.proofs.sound.put.Statement.{statement}
-use Rattle.edges.proofs.sound.put.Tie as tie
+use Rattle.edges.proofs.acts.put_bytes.Statement.{statement}
+use Rattle.edges.proofs.acts.put_bytes.Tie as tie
 
 abbrev Inv-loop : tie.InvT-loop
-Inv-loop to₀ at numbers k₀ i₀ to k i = (i ≤ length numbers) × (length to ≡ length to₀)
+Inv-loop to₀ at p k₀ i₀ to k i = length to ≡ length to₀
 
 abbrev μ-loop : tie.MeasureT-loop
-μ-loop to₀ at numbers k₀ i₀ to k i = length numbers - i
+μ-loop to₀ at p k₀ i₀ to k i = p .len - i
 
 loop-holds : tie.Need-loop-holds Inv-loop μ-loop
 loop-holds c = search needs
@@ -21,14 +21,11 @@ same-length c = search needs
 returns : tie.Need-returns Inv-loop μ-loop
 returns c = search needs
 
-mul-to : tie.Need-mul-to Inv-loop μ-loop
-mul-to c = search needs
+small-requires : tie.Need-small-requires Inv-loop μ-loop
+small-requires c κs = search needs
 
-shared-slice-read-to : tie.Need-shared-slice-read-to Inv-loop μ-loop
-shared-slice-read-to c = search needs
-
-mul-to-2 : tie.Need-mul-to-2 Inv-loop μ-loop
-mul-to-2 c = search needs
+cast-to : tie.Need-cast-to Inv-loop μ-loop
+cast-to c = search needs
 
 slice-write-to : tie.Need-slice-write-to Inv-loop μ-loop
 slice-write-to c = search needs
@@ -51,8 +48,8 @@ same-length-2 c = search needs
 returns-2 : tie.Need-returns-2 Inv-loop μ-loop
 returns-2 c = search needs
 
-pub put-spec : {M : Type 1} → statement M
-put-spec =
+pub put-bytes-spec : {M : Type 1} → statement M
+put-bytes-spec =
     tie.close
     (tie.spec
     Inv-loop
@@ -60,9 +57,8 @@ put-spec =
     loop-holds
     same-length
     returns
-    mul-to
-    shared-slice-read-to
-    mul-to-2
+    small-requires
+    cast-to
     slice-write-to
     add-k
     add-i

@@ -1,0 +1,136 @@
+// The parts of a script's lines. A line is a label, `|`, and parts with `;` between them. A part is a letter, and then
+// numbers after single spaces:
+//     n AT x..         the board's numbers from AT on
+//     d I K x..        sender I's numbers from its number K on
+//     b AT x..         bytes from AT on
+//     l AT x..         links from AT on
+//     c N x, C N x     the cents of message N: x, or -1 - x
+//     a I C P x, A ..  an add by sender I, to channel C, of property P and x cents, or -1 - x
+//     s I              a step of sender I
+//     x I              a step of sender I, an add of the last sender, and the reads, as numbers
+//     m N C P x, M ..  a read of message N, which is to have these
+//     k K, r I, q      reads of match K, of sender I's reply, and whether the board is quiet
+//     w C N A R        a replay of C numbers of calls, N properties and A amounts, with room for R answers
+ghost use Prim.Native.Nat.{_≤_, _<_};
+ghost use lib.ListN.{length};
+use boards::Call;
+use boards::Sent;
+
+struct Digits {
+    value: u64,
+    next: usize,
+}
+
+pub struct Part {
+    pub kind: u8,
+    pub len: usize,
+    pub next: usize,
+    pub numbers: [u64; 24],
+}
+
+// Where a byte is next; the end where it is not.
+pub fn find(text: &[u8], at: usize, x: u8) -> usize
+    requires { ⌜ at ≤ length (now text) ⌝ }
+    ensures { λ r. ⌜ (at ≤ r) × (r ≤ length (now (text .entry))) ⌝ }
+{
+    let mut k = at;
+    while k < text.len() {
+        if text[k] == x {
+            return k;
+        }
+        k += 1;
+    }
+    k
+}
+
+// The digits from a place on, as a number.
+fn number(text: &[u8], at: usize) -> Digits
+    requires { ⌜ at ≤ length (now text) ⌝ }
+    ensures { λ r. ⌜ (at ≤ r .next) × (r .next ≤ length (now (text .entry))) ⌝ }
+{
+    let mut value: u64 = 0;
+    let mut k = at;
+    while k < text.len() {
+        let digit = text[k];
+        if digit < b'0' {
+            break;
+        }
+        if b'9' < digit {
+            break;
+        }
+        value = (value % 100000000000000) * 10 + (digit % 16) as u64;
+        k += 1;
+    }
+    Digits {
+        value: value,
+        next: k,
+    }
+}
+
+// The part from a place on.
+pub fn read(text: &[u8], at: usize) -> Part
+    requires { ⌜ at < length (now text) ⌝ }
+    ensures { λ r. ⌜ (at < r .next) × (r .next ≤ length (now (text .entry))) ⌝ }
+{
+    let mut numbers = [0u64; 24];
+    let mut len: usize = 0;
+    let mut k = at + 1;
+    while k < text.len() {
+        if text[k] != b' ' {
+            break;
+        }
+        if 24 <= len {
+            break;
+        }
+        let n = number(text, k + 1);
+        numbers[len] = n.value;
+        len += 1;
+        k = n.next;
+    }
+    Part {
+        kind: text[at],
+        len: len,
+        next: k,
+        numbers: numbers,
+    }
+}
+
+// A number of a part; 0 past its last.
+pub fn at(p: Part, k: usize) -> u64 {
+    if k < 24 {
+        return p.numbers[k];
+    }
+    0
+}
+
+pub fn small(p: Part, k: usize) -> u16 {
+    (at(p, k) % 65536) as u16
+}
+
+// An amount; of a part with a capital letter it is as far below -1 as the number says.
+pub fn amount(p: Part, k: usize) -> i64 {
+    let x = (at(p, k) % 10000000000000) as i64;
+    if p.kind < b'a' {
+        return !x;
+    }
+    x
+}
+
+// What a part says of a message: channel, property and cents, from a number of it on.
+pub fn sent(p: Part, k: usize) -> Sent
+    requires { ⌜ k < 16 ⌝ }
+{
+    Sent {
+        channel: small(p, k),
+        property: (at(p, k + 1) % 4294967296) as u32,
+        cents: amount(p, k + 2),
+    }
+}
+
+// The add or step of a part.
+pub fn call_of(p: Part) -> Call {
+    if p.kind == b's' {
+        return Call::Step(small(p, 0));
+    }
+    Call::Add(small(p, 0), sent(p, 1))
+}
