@@ -92,7 +92,8 @@ module _ (s : List ℕ) (h : Held) (z : refusalOf s h ≡ 0) where
   add-move k e = subst AddMoves e adds-next
 
   -- a step's effect
-  module _ (i : ℕ) (x : DE.Effect) (y : DS.Sent) (is : stepBy (tableOf s) (boardOf s h) i ≡ does (effectIn (tableOf s) x))
+  module _ (i : ℕ) (x : DE.Effect) (y : DS.Sent)
+      (is : stepBy (tableOf s) (boardOf s h) i ≡ does (effectIn (tableOf s) x))
       (sure : Sure n (h .board .matches) (x .change)) (eight : length (x .sender .job .chosen) ≡ 8) where
     abbrev after : Held
     after = movedHeld h i (effectMove y x)

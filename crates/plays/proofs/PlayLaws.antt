@@ -22,7 +22,8 @@ use Rattle.plays.specs.Replays.{CallRows, callAt}
 
 module _ (s : List ℕ) (l : Lists) (k : Call) where
   -- the call's move by the sender at place i, written
-  pub played : (l′ : Lists) (w : Said) (m : DM.Move) (i j : ℕ) → i ≡ j → Plays s (heldOf l) k w (movedHeld (heldOf l) j m)
+  pub played : (l′ : Lists) (w : Said) (m : DM.Move) (i j : ℕ) → i ≡ j
+      → Plays s (heldOf l) k w (movedHeld (heldOf l) j m)
       → numberOf w ≡ 0 → heldOf l′ ≡ movedHeld (heldOf l) i m → encodes (l′ .board) ≡ true → Sized l′
       → PlaysIn s l k w l′
   played l′ w m i j at p n e f z = record {

@@ -21,7 +21,8 @@ start c = c .before .before .before .before .before .before .before
 
 idle-is : (c : tie.After-is-idle)
     → let b = boardFrom (start c .args .board .now) in
-    c .is-idle .result ≡ idleIs (getD (b .senders) (placeOf (c .before .before .before .call .given .0 .0)) zeroSender .state)
+    let i = c .before .before .before .call .given .0 .0 in
+    c .is-idle .result ≡ idleIs (getD (b .senders) (placeOf i) zeroSender .state)
 idle-is c =
     let b = boardFrom (start c .args .board .now) in
     c .is-idle .ensures ∙ ap (λ j. idleIs (getD (b .senders) j zeroSender .state)) (c .before .place-of .ensures .0)

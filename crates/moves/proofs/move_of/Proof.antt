@@ -41,7 +41,8 @@ stepped k = k .before .before .before .before .before .before .before
 -- the call is not refused
 add-free : (k : tie.After-call)
     → let s = added k in
-    callRefusal (tableOf (s .args .table .now)) (view s .board) (callIn (G.Add (k .call .given .0 .0) (k .call .given .0 .1 .0))) ≡ 0
+    let g = k .call .given .0 in
+    callRefusal (tableOf (s .args .table .now)) (view s .board) (callIn (G.Add (g .0) (g .1 .0))) ≡ 0
 add-free k =
     let s = added k in
     subst (λ (x : DC.Call). callRefusal (tableOf (s .args .table .now)) (view s .board) (callIn x) ≡ 0)

@@ -108,7 +108,8 @@ effect-of-requires c κs =
       (table-accepted _ _ _ _ z, ap canStep (f .sender-at .ensures) ∙ s .pre .1 .0 .1),
       (
         ready-by (e .0) (e .1) (e .2)
-            (is-ready _ (view s .board) (view s .columns) (view s .matches) z (a .i) (f .sender-at .result) (is-sender f)),
+            (is-ready _ (view s .board) (view s .columns) (view s .matches) z (a .i) (f .sender-at .result)
+            (is-sender f)),
         (
           (omega (arith, few, c .before .matched .ensures .1), omega (arith, few, c .wakers .ensures .1)),
           subst (Passed (a .start) (getD (a .board .now) 0 0)) (sym (e .2)) (s .pre .1 .1),
@@ -153,7 +154,8 @@ returns c =
     let z = accepted s in
     let x = q .effect-of .result in
     let d = f .sender-at .result in
-    let is = does-it t (h .board) (h .columns) (h .matches) z (a .i) d (is-sender f) x (s .pre .1 .0 .0) (by-effect q) in
+    let is = does-it t (h .board) (h .columns) (h .matches) z (a .i) d (is-sender f) x (s .pre .1 .0 .0)
+    (by-effect q) in
     let sure = is-sure t (h .board) (h .columns) (h .matches) z (a .i) d (is-sender f) x (s .pre .1 .0 .0)
     (by-effect q) in (
       step-move t h z (a .i) x none is sure (eight q),
