@@ -28,8 +28,8 @@ pub enum Call {
     Step { sender: u16 },
 }
 
-/// The calls of a replay in rows, as the host interface has them. Of `calls` the kind, the sender and the channel; a kind
-/// of 0 is a step, any other an add.
+/// The calls of a replay in rows, as the host interface has them. Of `calls` the kind, the sender and the channel; a
+/// kind of 0 is a step, any other an add.
 #[derive(Clone, Debug, Default)]
 pub struct Rows {
     pub calls: Vec<u16>,

@@ -54,7 +54,7 @@ impl Lists {
         self.cents.copy_from_slice(&columns.cents[..]);
     }
 
-    /// The board that is held, in the columns' memory; none for lists of another length, or numbers that are no board's.
+    /// The board that is held, in the columns' memory; none for lists of another length or numbers that are no board's.
     pub fn held(&self, mut columns: Columns) -> Option<Board> {
         let lengths = [self.bytes.len(), self.links.len(), self.keys.len(), self.cents.len()];
         if lengths != [BYTES, LINKS, MESSAGES, MESSAGES] {

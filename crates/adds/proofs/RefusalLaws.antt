@@ -12,7 +12,7 @@ use Rattle.state.specs.Views.{senderIn, idleIs}
 use Rattle.state.proofs.StateLaws.{idle-is}
 use Rattle.boards.specs.Boards.{HeldBoard, boardIn}
 use Rattle.boards.specs.Boards.{zeroSender}
-use Rattle.adds.specs.Sends.{refusalBy}
+use Rattle.adds.specs.Refusals.{refusalBy}
 
 pub refusal-is : (t : Table) (b : HeldBoard) (c : Columns) (m : MatchColumns) (i : ℕ) (x : Sent)
     → addRefusal t (boardIn t b c m) i x

@@ -1,2 +1,2 @@
--- What an add hands over, and what refuses it.
-pub mod Sends
+-- What refuses an add.
+pub mod Refusals

@@ -7,7 +7,7 @@ ghost use Rattle.model.specs.Boards as MB;
 ghost use Rattle.model.specs.Layout.{tableRefusal, tableOf};
 ghost use Rattle.model.specs.Adds.{centsOk, newSender};
 ghost use Rattle.state.specs.Views.{senderIn};
-ghost use Rattle.adds.specs.Sends.{refusalBy};
+ghost use Rattle.adds.specs.Refusals.{refusalBy};
 use boards::Sent;
 use state::Sender;
 use state::State;
@@ -19,7 +19,7 @@ fn amount_ok(x: i64) -> bool
     (-999999999999 <= x) & (x <= 999999999999)
 }
 
-// The first refusal of an add of x by sender i, idle or not, to a board of n messages, in the order checked; 0 for none.
+// The first refusal of an add of x by sender i, idle or not, to a board of n messages, in the order checked, or 0.
 pub fn add_refusal(table: &[u8], i: u16, idle: bool, x: Sent, n: u16) -> u8
     requires { ⌜ tableRefusal (now table) ≡ 0 ⌝ }
     ensures { λ r. ⌜ r ≡ refusalBy (tableOf (now (table .entry))) i idle (x .channel) (x .cents) n ⌝ }

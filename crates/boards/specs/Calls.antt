@@ -25,8 +25,12 @@ abbrev pub heldBy : HeldBoard → List ℕ → List ℕ → List ℤ → List �
 heldBy b channels properties cents statuses matched wakers chords messages =
     held b (columnsOf channels properties cents statuses matched wakers) (matchesOf chords messages)
 
+-- what an add hands over
+abbrev pub sent : ℕ → ℕ → ℤ → MB.Sent
+sent channel property cents = record { channel = channel; property = property; cents = cents }
+
 abbrev pub sentIn : DS.Sent → MB.Sent
-sentIn x = record { channel = x .channel; property = x .property; cents = x .cents }
+sentIn x = sent (x .channel) (x .property) (x .cents)
 
 abbrev pub callIn : DC.Call → MP.Call
 callIn (C.Add i x) = MP.adds i (sentIn x)

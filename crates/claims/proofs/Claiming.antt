@@ -17,7 +17,7 @@ use Rattle.state.specs.declared.Change.the-variants as G
 use Rattle.state.specs.declared.Job as DJ
 use Rattle.state.specs.declared.Sender as DD
 use Rattle.state.specs.Views.{jobIn, senderIn, effectIn}
-use Rattle.state.specs.Builders.{worksBy, inPhase, withRetry}
+use Rattle.state.specs.Builders.{worksBy, jobInPhase, jobWithRetry}
 
 module _ (t : Table) (b : Board) (d : DD.Sender) where
   -- a claim lost at the first message, by the job that follows, and at another
@@ -26,7 +26,7 @@ module _ (t : Table) (b : Board) (d : DD.Sender) where
   lost-first k m next z q = rw (z, q)
 
   pub lost-more : (k m : ℕ) → (k ≡ 0 → ⊥) → d .job .phase ≡ P.Claim k
-      → effectIn t (worksBy d (withRetry (d .job) (P.Revert 0 k)) (W.Lost m) G.None)
+      → effectIn t (worksBy d (jobWithRetry (d .job) (P.Revert 0 k)) (W.Lost m) G.None)
       ≡ loses t b (senderIn t d) (jobIn t (d .job)) k m
   lost-more zero m h p = absurd (h refl)
   lost-more (suc k) m h p = rw p
@@ -34,16 +34,16 @@ module _ (t : Table) (b : Board) (d : DD.Sender) where
   -- a claim made: of a message that is not the last, of the last where that wakes, and where it does not
   module _ (k m : ℕ) (p : d .job .phase ≡ P.Claim k) (wakes full : Bool) where
     pub claimed-more :
-        effectIn t (worksBy d (inPhase (d .job) (P.Claim (k + 1))) (W.Claimed m) (G.Turn m U.Claims))
+        effectIn t (worksBy d (jobInPhase (d .job) (P.Claim (k + 1))) (W.Claimed m) (G.Turn m U.Claims))
         ≡ claimedBy t b (senderIn t d) (jobIn t (d .job)) k m true false wakes full
     claimed-more = rw (p, add-one k)
 
-    pub claimed-last : effectIn t (worksBy d (inPhase (d .job) P.Wake) (W.Claimed m) (G.Turn m U.Claims))
+    pub claimed-last : effectIn t (worksBy d (jobInPhase (d .job) P.Wake) (W.Claimed m) (G.Turn m U.Claims))
         ≡ claimedBy t b (senderIn t d) (jobIn t (d .job)) k m true true true full
     claimed-last = rw p
 
     pub claimed-match : (count : ℕ) → length (b .matches) ≡ count
-        → effectIn t (worksBy d (inPhase (d .job) (P.Consume 0 (count + 1))) (W.Matched count) (G.Record m))
+        → effectIn t (worksBy d (jobInPhase (d .job) (P.Consume 0 (count + 1))) (W.Matched count) (G.Record m))
         ≡ claimedBy t b (senderIn t d) (jobIn t (d .job)) k m true true false false
     claimed-match count e = rw (p, e, add-one count)
 

@@ -10,7 +10,7 @@ ghost use Rattle.state.specs.declared.Phase.the-variants as P;
 ghost use Rattle.state.specs.declared.Said.the-variants as W;
 ghost use Rattle.state.specs.declared.Turn.the-variants as U;
 ghost use Rattle.state.specs.declared.Change.the-variants as G;
-ghost use Rattle.state.specs.Builders.{worksBy, inPhase};
+ghost use Rattle.state.specs.Builders.{worksBy, jobInPhase};
 ghost use Rattle.state.specs.Views.{jobIn, senderIn, effectIn};
 use state::Change;
 use state::Effect;
@@ -39,7 +39,7 @@ fn loses(table: &[u8], d: Sender, k: u8, m: u16, channel: u8) -> Effect
 
 // The claim of message m is made, and the job is in another phase.
 fn claims_to(d: Sender, m: u16, phase: Phase) -> Effect
-    ensures { λ r. ⌜ r ≡ worksBy d (inPhase (d .job) phase) (W.Claimed m) (G.Turn m U.Claims) ⌝ }
+    ensures { λ r. ⌜ r ≡ worksBy d (jobInPhase (d .job) phase) (W.Claimed m) (G.Turn m U.Claims) ⌝ }
 {
     let j = d.job;
     let next = state::in_phase(j, phase);

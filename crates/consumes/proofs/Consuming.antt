@@ -29,7 +29,7 @@ use Rattle.consumes.specs.Holds.{withMatch}
 -- the sender at work in another phase that has as many chosen
 pub goes-on : (t : Table) (d : DD.Sender) (p : DP.Phase)
     → chosenBy p (size t (d .job .chord)) ≡ chosenBy (d .job .phase) (size t (d .job .chord))
-    → senderIn t (B.inJob d (B.inPhase (d .job) p))
+    → senderIn t (B.senderInJob d (B.jobInPhase (d .job) p))
     ≡ MJ.inJob (senderIn t d) (MJ.inPhase (jobIn t (d .job)) (phaseIn p))
 goes-on t d p e = rw e
 

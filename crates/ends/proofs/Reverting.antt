@@ -17,7 +17,7 @@ use Rattle.state.specs.declared.Change.the-variants as G
 use Rattle.state.specs.declared.Job as DJ
 use Rattle.state.specs.declared.Sender as DD
 use Rattle.state.specs.Views.{jobIn, senderIn, effectIn}
-use Rattle.state.specs.Builders.{worksBy, inPhase}
+use Rattle.state.specs.Builders.{worksBy, jobInPhase}
 
 -- the effect, by the job that follows and the test for it
 module _ (t : Table) (b : Board) (d : DD.Sender) (k m : ℕ) where
@@ -31,5 +31,5 @@ module _ (t : Table) (b : Board) (d : DD.Sender) (k m : ℕ) where
       rw (q, ← add-one k, e, p, getD-take (size t (d .job .chord)) (d .job .chosen) k 0 h)
 
 pub revert-on : (t : Table) (j : DJ.Job) (k m : ℕ) → j .phase ≡ P.Revert k m
-    → jobIn t (inPhase j (P.Revert (k + 1) m)) ≡ MJ.inPhase (jobIn t j) (revert (suc k) m)
+    → jobIn t (jobInPhase j (P.Revert (k + 1) m)) ≡ MJ.inPhase (jobIn t j) (revert (suc k) m)
 revert-on t j k m p = rw (p, add-one k)

@@ -6,10 +6,10 @@ use Rattle.model.specs.Layout.{tableBytes}
 use Rattle.model.specs.Samples.{tableP}
 use Rattle.model.proofs.Samples.{opened}
 use Rattle.merging.specs.Merges.{mergedTable, mapOk, countsFit, mergeRefusal, mergeWriteRefusal, mergeWritten}
-use Rattle.merging.specs.Samples.{samples, twoP}
+use Rattle.merging.specs.Samples.{mergeSamples, twoP}
 
-pub sample-numbers : map (λ x. mergeWriteRefusal (x .first) (x .second) (x .map) (replicate (x .room) 7)) samples
-    ≡ map (λ x. x .number) samples
+pub sample-numbers : map (λ x. mergeWriteRefusal (x .first) (x .second) (x .map) (replicate (x .room) 7)) mergeSamples
+    ≡ map (λ x. x .number) mergeSamples
 unfolding opened mergedTable mapOk countsFit mergeRefusal mergeWriteRefusal tableBytes
 sample-numbers = refl
 

@@ -5,14 +5,14 @@ use lib.ListN.{take, replicate}
 use Rattle.model.specs.Samples.{tableP}
 
 -- two tables, a map, the bytes of the buffer, and the number
-pub record Sample : Type 0 where
+pub record MergeSample : Type 0 where
   pub first : List ℕ
   pub second : List ℕ
   pub map : List ℕ
   pub room : ℕ
   pub number : ℕ
 
-abbrev pub of : List ℕ → List ℕ → List ℕ → ℕ → ℕ → Sample
+abbrev pub of : List ℕ → List ℕ → List ℕ → ℕ → ℕ → MergeSample
 of s z ms r n = record { first = s; second = z; map = ms; room = r; number = n }
 
 -- sixteen asynchronous channels and no chord
@@ -23,8 +23,8 @@ full = 16 ∷ 0 ∷ 0 ∷ 0 ∷ 0 ∷ 0 ∷ 12 ∷ 0 ∷ 28 ∷ 0 ∷ 28 ∷ 0 �
 abbrev pub three : List ℕ
 three = 3 ∷ 0 ∷ 0 ∷ 0 ∷ 0 ∷ 0 ∷ 12 ∷ 0 ∷ 15 ∷ 0 ∷ 15 ∷ 0 ∷ 0 ∷ 1 ∷ 0 ∷ []
 
-abbrev pub samples : List Sample
-samples =
+abbrev pub mergeSamples : List MergeSample
+mergeSamples =
     of tableP tableP (0 ∷ 1 ∷ []) 26 0 ∷
     of tableP tableP (255 ∷ 255 ∷ []) 28 0 ∷
     of tableP tableP (0 ∷ 255 ∷ []) 30 0 ∷

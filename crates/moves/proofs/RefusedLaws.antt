@@ -16,13 +16,13 @@ use Rattle.model.specs.Effects.{Refused}
 use Rattle.model.specs.Adds.{centsOk}
 use Rattle.model.specs.Pools.{Call, adds, steps}
 use Rattle.model.proofs.Tests.{unless-none}
-use Rattle.state.specs.Views.{senderIn, idleIs, canStep}
+use Rattle.state.specs.Views.{senderIn, idleIs, senderSteps}
 use Rattle.boards.specs.Boards.{HeldBoard, zeroSender}
 use Rattle.boards.specs.Calls.{Held}
 use Rattle.boards.proofs.SenderLaws.{nth-sender}
 use Rattle.refusals.specs.Calls.{boardOf, refusalOf, Plays}
 use Rattle.steps.proofs.StateSteps.{refused-is}
-use Rattle.adds.specs.Sends.{refusalBy}
+use Rattle.adds.specs.Refusals.{refusalBy}
 use Rattle.adds.proofs.RefusalLaws.{refusal-is}
 use Rattle.moves.specs.Refused.{placeOf, callerOf, callRefusal}
 use Rattle.moves.proofs.StepLaws.{past-senders, by-state, refused-plays}
@@ -36,10 +36,10 @@ module _ (t : Table) (b : HeldBoard) (i : ℕ) where
   pub step-8 : 32 ≤ i → 8 ≡ callRefusal t b (steps i)
   step-8 l = rw (le-ltb i 32 l)
 
-  pub step-13 : i < 32 → canStep (getD (b .senders) i zeroSender) ≡ false → 13 ≡ callRefusal t b (steps i)
+  pub step-13 : i < 32 → senderSteps (getD (b .senders) i zeroSender) ≡ false → 13 ≡ callRefusal t b (steps i)
   step-13 l e = rw (lt-ltb i 32 l, e)
 
-  pub step-0 : i < 32 → canStep (getD (b .senders) i zeroSender) ≡ true → 0 ≡ callRefusal t b (steps i)
+  pub step-0 : i < 32 → senderSteps (getD (b .senders) i zeroSender) ≡ true → 0 ≡ callRefusal t b (steps i)
   step-0 l e = rw (lt-ltb i 32 l, e)
 
 -- an add is refused by what is read at its sender's place
@@ -67,10 +67,10 @@ unrefused t i idle channel cents n e =
 
 -- what a step that is not refused has
 pub may-step : (t : Table) (b : HeldBoard) (i : ℕ) → callRefusal t b (steps i) ≡ 0
-    → (i < 32) × (canStep (getD (b .senders) i zeroSender) ≡ true)
+    → (i < 32) × (senderSteps (getD (b .senders) i zeroSender) ≡ true)
 may-step t b i e =
     let p = unless-none (ltb i 32) 7 _ e in
-    (ltb-true i 32 (p .0), unless-none (canStep (getD (b .senders) i zeroSender)) 12 0 (p .1) .0)
+    (ltb-true i 32 (p .0), unless-none (senderSteps (getD (b .senders) i zeroSender)) 12 0 (p .1) .0)
 
 pub caller-in : (t : Table) (b : HeldBoard) (k : Call) → callRefusal t b k ≡ 0 → callerOf k < 32
 caller-in t b (adds i x) e =
@@ -78,7 +78,7 @@ caller-in t b (adds i x) e =
 caller-in t b (steps i) e = may-step t b i e .0
 
 module _ (s : List ℕ) (h : Held) (z : refusalOf s h ≡ 0) where
-  step-refused : (i : ℕ) (u v : Bool) → ltb i 32 ≡ u → canStep (getD (h .board .senders) i zeroSender) ≡ v
+  step-refused : (i : ℕ) (u v : Bool) → ltb i 32 ≡ u → senderSteps (getD (h .board .senders) i zeroSender) ≡ v
       → unless u 8 (unless v 13 0) ≢ 0 → Plays s h (steps i) (Refused (unless u 8 (unless v 13 0))) h
   step-refused i true true e f n = absurd (n refl)
   step-refused i false v e f n =

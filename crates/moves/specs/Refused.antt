@@ -5,9 +5,9 @@ use lib.ListN.{getD}
 use Rattle.model.specs.Basics.{pick, unless}
 use Rattle.model.specs.Tables.{Table}
 use Rattle.model.specs.Pools.{Call, adds, steps}
-use Rattle.state.specs.Views.{idleIs, canStep}
+use Rattle.state.specs.Views.{idleIs, senderSteps}
 use Rattle.boards.specs.Boards.{HeldBoard, zeroSender}
-use Rattle.adds.specs.Sends.{refusalBy}
+use Rattle.adds.specs.Refusals.{refusalBy}
 
 abbrev pub callerOf : Call → ℕ
 callerOf (adds i x) = i
@@ -21,4 +21,4 @@ placeOf i = pick (ltb i 32) i 0
 abbrev pub callRefusal : Table → HeldBoard → Call → ℕ
 callRefusal t b (adds i x) =
     refusalBy t i (idleIs (getD (b .senders) i zeroSender .state)) (x .channel) (x .cents) (b .messages)
-callRefusal t b (steps i) = unless (ltb i 32) 8 (unless (canStep (getD (b .senders) i zeroSender)) 13 0)
+callRefusal t b (steps i) = unless (ltb i 32) 8 (unless (senderSteps (getD (b .senders) i zeroSender)) 13 0)

@@ -8,7 +8,7 @@ ghost use Rattle.model.specs.Layout.{tableRefusal, tableOf};
 ghost use Rattle.model.specs.Effects.{numberOf};
 ghost use Rattle.model.specs.Pools.{adds, steps};
 ghost use Rattle.columns.specs.Columns.{Passed};
-ghost use Rattle.state.specs.Views.{saidIn, canStep};
+ghost use Rattle.state.specs.Views.{saidIn, senderSteps};
 ghost use Rattle.boards.specs.Boards.{zeroSender};
 ghost use Rattle.boards.specs.Calls.{Held, sentIn, callIn};
 ghost use Rattle.boards.specs.Layout.{lists, statusesIn};
@@ -102,7 +102,7 @@ fn step_move(
     start: u16,
 ) -> Move
     requires { ⌜ Accepted (now table) (lists (now board) (now bytes) (now links) (now keys) (now cents)) ⌝ }
-    requires { ⌜ (i < 32) × (canStep (getD (boardFrom (now board) .senders) i zeroSender) ≡ true) ⌝ }
+    requires { ⌜ (i < 32) × (senderSteps (getD (boardFrom (now board) .senders) i zeroSender) ≡ true) ⌝ }
     requires { ⌜ Passed start (getD (now board) 0 0) (statusesIn (now bytes)) ⌝ }
     ensures { λ r. ⌜ Plays (now (table .entry))
         (heldOf (lists (now (board .entry)) (now (bytes .entry)) (now (links .entry)) (now (keys .entry))

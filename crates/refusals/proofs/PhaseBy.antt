@@ -1,7 +1,7 @@
 -- A phase's three numbers tested by the largest place and the largest second number of each phase.
 use mathlib.Core.Path.{_≡_, refl}
 use mathlib.Core.Logic.{⊎-elim}
-use mathlib.Core.Bool.{Bool, true, false, _&&_, _||_}
+use mathlib.Core.Bool.{Bool, true, false, _&&_, _||_, or-false}
 use mathlib.Core.List.{List, [], _∷_}
 use Prim.Native.Nat.{ℕ, zero, suc, _≤_}
 use borrow.Author.Tests.{le-leb, lt-leb, ne-eqb}
@@ -16,10 +16,6 @@ places = 255 ∷ 255 ∷ 255 ∷ 255 ∷ 255 ∷ 0 ∷ 255 ∷ 0 ∷ 0 ∷ 255 �
 
 abbrev pub seconds : List ℕ
 seconds = 0 ∷ 0 ∷ 255 ∷ 65535 ∷ 0 ∷ 0 ∷ 0 ∷ 0 ∷ 0 ∷ 0 ∷ []
-
-or-false : (u : Bool) → (u || false) ≡ u
-or-false true = refl
-or-false false = refl
 
 none-is : (s : ℕ) → leb s 0 ≡ eqb s 0
 none-is s = ⊎-elim (λ e. rw e) (λ e. rw (ne-eqb s 0 e, lt-leb s 0 (omega arith))) (same? s 0)

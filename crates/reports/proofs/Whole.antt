@@ -36,7 +36,8 @@ module _ (t : Table) (b : Board) where
 
   -- what is printed so far, and the next part
   pub report-goes-on : (n m : ℕ) → n ≤ m
-      → allLines (take n (reportLines t b)) ++ allLines (between n m (reportLines t b)) ≡ allLines (take m (reportLines t b))
+      → allLines (take n (reportLines t b)) ++ allLines (between n m (reportLines t b))
+      ≡ allLines (take m (reportLines t b))
   report-goes-on n m h = parts-on (reportLines t b) n m h
 
   pub report-whole : allLines (take (length (reportLines t b)) (reportLines t b)) ≡ reportText t b

@@ -28,7 +28,7 @@ module _ (t : Table) (b : Board) (d : Sender) (n : ℕ) where
 
 module _ (t : Table) (b : Board) (d : DD.Sender) (s : ℕ)
     (es : messageAt b (d .own - 1) .status ≡ statusOf s) where
-  pub stays-is : s < 2 → effectIn t (record { said = W.Ended; change = G.None; sender = B.staysBlocked d false })
+  pub stays-is : s < 2 → effectIn t (record { said = W.Ended; change = G.None; sender = B.senderBlocked d false })
       ≡ resume-step t b (senderIn t d)
   unfolding resume-step
   stays-is h = rw (es, low t b (senderIn t d) (d .own - 1) s h)
@@ -41,7 +41,7 @@ module _ (t : Table) (b : Board) (d : DD.Sender) (s : ℕ)
   resumes-is n next h e q = rw (q, e, es, h)
 
   pub answers-is : (k m : ℕ) → 3 ≤ s → k ≡ m - 1 → messageAt b (d .own - 1) .match ≡ m
-      → effectIn t (record { said = W.Answered k; change = G.None; sender = B.goesIdle d m })
+      → effectIn t (record { said = W.Answered k; change = G.None; sender = B.senderIdle d m })
       ≡ resume-step t b (senderIn t d)
   unfolding resume-step
   answers-is k m h e q = rw (es, high t b (senderIn t d) (d .own - 1) s h, e, q)

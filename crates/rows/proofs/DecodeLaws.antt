@@ -9,12 +9,13 @@ use lib.ListN.{length, getD, take, drop, length-drop, take-append-drop}
 use lib.Seq.{drop-drop, length-take-le}
 use native.Mathlib.Omega.{arith}
 use Rattle.model.proofs.Tests.{both}
+use Rattle.model.proofs.Written.{flag-byte}
 use Rattle.state.specs.declared.Sender as DD
 use Rattle.rows.specs.Numbers.{stateNumber, phaseNumbers, senderNumbers, sendersNumbers, boardNumbers}
 use Rattle.rows.specs.Numbers.{placeless, encodesPhase, encodesSender, encodesSenders, encodes}
 use Rattle.rows.specs.Decoded.{stateFrom, phaseFrom, senderFrom, sendersFrom, boardFrom}
 use Rattle.rows.specs.Fits.{SenderFits, SendersFit, BoardFits}
-use Rattle.rows.proofs.PhaseLaws.{three-are, kind-fits, no-place, no-second, flag-one}
+use Rattle.rows.proofs.PhaseLaws.{three-are, kind-fits, no-place, no-second}
 use Rattle.rows.proofs.SenderLaws.{sender-fits, sender-is}
 use Rattle.rows.proofs.WalkLaws.{counts-read, all-numbers}
 
@@ -54,9 +55,9 @@ pub sender-from-back : (a : List ℕ) → length a ≡ 21 → encodesSender a �
     → (senderNumbers (senderFrom a) ≡ a) × SenderFits (senderFrom a)
 sender-from-back a l ok =
     let f = sender-fits a ok in
-    sender-is a l ok (senderFrom a) (state-from (getD a 0 0) (f .state)) (flag-one (getD a 1 0) (f .signalled)) refl
+    sender-is a l ok (senderFrom a) (state-from (getD a 0 0) (f .state)) (flag-byte (getD a 1 0) (f .signalled)) refl
     refl refl refl refl refl (phase-from (getD a 8 0) (getD a 9 0) (getD a 10 0) (f .phase))
-    (flag-one (getD a 11 0) (f .retry)) refl refl
+    (flag-byte (getD a 11 0) (f .retry)) refl refl
 
 senders-from-back : (n : ℕ) (s : List ℕ) → length s ≡ 21 * n → encodesSenders n s ≡ true
     → (sendersNumbers (sendersFrom n s) ≡ s) × SendersFit (sendersFrom n s) × (length (sendersFrom n s) ≡ n)

@@ -1,5 +1,5 @@
--- A board's numbers pass, and are no other board's: what is decoded is the one board that they encode.
-use mathlib.Core.Path.{_≡_, refl, sym, _∙_, ap}
+-- A board's numbers pass, and decode to it.
+use mathlib.Core.Path.{_≡_, refl}
 use mathlib.Core.Bool.{Bool, true, false, _||_}
 use mathlib.Core.List.{List, [], _∷_}
 use Prim.Native.Nat.{_*_}
@@ -8,8 +8,8 @@ use lib.Dec.{eqb, leb}
 use lib.ListN.{length, length-append}
 use lib.Seq.{take-at, drop-at}
 use native.Mathlib.Omega.{arith}
-use Rattle.model.specs.Layout.{flag}
 use Rattle.model.proofs.Tests.{and}
+use Rattle.model.proofs.Written.{flag-small, flag-read}
 use Rattle.state.specs.declared.Phase as DP
 use Rattle.state.specs.declared.Phase.the-variants as P
 use Rattle.state.specs.declared.State as DS
@@ -44,16 +44,12 @@ state-passes S.Idle = refl
 state-passes S.Working = refl
 state-passes S.Blocked = refl
 
-flag-passes : (b : Bool) → leb (flag b) 1 ≡ true
-flag-passes true = refl
-flag-passes false = refl
-
 sender-passes : (d : DD.Sender) → SenderFits d → encodesSender (senderNumbers d) ≡ true
 unfolding encodesSender
 sender-passes d f =
     rw (numbers-listed d)
-    (and (state-passes (d .state)) (and (flag-passes (d .signalled)) (and (le-leb (d .job .chord) 255 (f .chord))
-    (and (phase-passes (d .job .phase) (f .phase)) (and (flag-passes (d .job .retry))
+    (and (state-passes (d .state)) (and (flag-small (d .signalled)) (and (le-leb (d .job .chord) 255 (f .chord))
+    (and (phase-passes (d .job .phase) (f .phase)) (and (flag-small (d .job .retry))
     (le-leb (d .job .retries) 255 (f .retries)))))))
 
 senders-long : (ds : List DD.Sender) → SendersFit ds → length (sendersNumbers ds) ≡ 21 * length ds
@@ -87,10 +83,6 @@ state-back S.Idle = refl
 state-back S.Working = refl
 state-back S.Blocked = refl
 
-flag-back : (b : Bool) → eqb (flag b) 1 ≡ b
-flag-back true = refl
-flag-back false = refl
-
 phase-back : (p : DP.Phase) → phaseFrom (kind p) (place p) (second p) ≡ p
 phase-back (P.Look k) = refl
 phase-back (P.Claim k) = refl
@@ -108,9 +100,9 @@ sender-back d =
     rw (
       numbers-listed d,
       state-back (d .state),
-      flag-back (d .signalled),
+      flag-read (d .signalled),
       phase-back (d .job .phase),
-      flag-back (d .job .retry),
+      flag-read (d .job .retry),
     )
 
 senders-back : (ds : List DD.Sender) → SendersFit ds → sendersFrom (length ds) (sendersNumbers ds) ≡ ds
@@ -128,7 +120,3 @@ senders-back (d ∷ ds) f =
 pub board-back : (b : HeldBoard) → BoardFits b → boardFrom (boardNumbers b) ≡ b
 unfolding boardNumbers boardFrom
 board-back b f = rw (rw (f .all) at (senders-back (b .senders) (f .each)))
-
--- no two boards have the same numbers
-pub one-board : (b b′ : HeldBoard) → BoardFits b → BoardFits b′ → boardNumbers b ≡ boardNumbers b′ → b ≡ b′
-one-board b b′ f f′ e = sym (board-back b f) ∙ ap boardFrom e ∙ board-back b′ f′

@@ -7,7 +7,6 @@ use Prim.Native.Nat.{ℕ, zero, suc, _+_, _≤_}
 use borrow.Author.Tests.{leb-true, le-leb, eqb-true, ne-eqb}
 use lib.Dec.{eqb, leb}
 use native.Mathlib.Omega.{arith}
-use Rattle.model.specs.Layout.{flag}
 use Rattle.model.proofs.Tests.{all-four, either, both, same?, never}
 use Rattle.state.specs.declared.Phase as DP
 use Rattle.state.specs.Views.{stepsIn}
@@ -46,11 +45,6 @@ module _ (n k s : ℕ) (e : encodesPhase n k s ≡ true) where
       let g : (eqb s 0 || (eqb n 2 && leb s 255)) ≡ true = rw (ne-eqb n 3 p) at f in
       ⊎-elim (λ x. let z = eqb-true s 0 x in omega (arith, z))
       (λ x. leb-true s 255 (both {t = eqb n 2} x .1)) (either g)
-
--- a bool as a number, and back
-pub flag-one : (n : ℕ) → n ≤ 1 → flag (eqb n 1) ≡ n
-flag-one n h =
-    ⊎-elim (λ e. rw e) (λ e. let z : n ≡ 0 = omega arith in rw z) (same? n 1)
 
 past : (n i : ℕ) → i ≤ n → n ≢ i → i + 1 ≤ n
 past n i h e = omega arith

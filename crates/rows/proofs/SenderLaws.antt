@@ -17,7 +17,8 @@ use Rattle.state.specs.declared.Phase.the-variants as P
 use Rattle.state.specs.declared.Sender as DD
 use Rattle.rows.specs.Fits.{PhaseFits, SenderFits}
 use Rattle.rows.proofs.PhaseLaws.{place-fits, second-fits}
-use Rattle.rows.specs.Numbers.{stateNumber, phaseNumbers, kind, place, second, senderNumbers, encodesPhase, encodesSender}
+use Rattle.rows.specs.Numbers.{stateNumber, phaseNumbers, kind, place, second, senderNumbers}
+use Rattle.rows.specs.Numbers.{encodesPhase, encodesSender}
 
 -- what a sender's numbers hold to
 pub record NumbersFit (a : List ℕ) : Type 0 where
@@ -111,7 +112,8 @@ phase-fits P.PassEnd e = tt
 phase-fits (P.Backoff k) e = place-fits _ _ _ e
 
 -- a sender whose numbers pass fits its types
-pub fits-back : (d : DD.Sender) (a : List ℕ) → length a ≡ 21 → encodesSender a ≡ true → senderNumbers d ≡ a → SenderFits d
+pub fits-back : (d : DD.Sender) (a : List ℕ) → length a ≡ 21 → encodesSender a ≡ true → senderNumbers d ≡ a
+    → SenderFits d
 fits-back d a l ok e =
     let f : listed d ≡ a = sym (numbers-listed d) ∙ e in
     let n = sender-fits a ok in

@@ -7,7 +7,7 @@ ghost use lib.Dec.{eqb};
 ghost use lib.ListN.{length, getD, drop, replicate};
 ghost use lib.Seq.{paste};
 ghost use Rattle.model.specs.Layout.{flag};
-ghost use Rattle.state.specs.Views.{stepsIn, canStep, idleIs};
+ghost use Rattle.state.specs.Views.{stepsIn, senderSteps, idleIs};
 ghost use Rattle.boards.specs.Boards.{zeroSender};
 ghost use Rattle.rows.specs.Decoded.{stateFrom, boardFrom};
 ghost use Rattle.rows.specs.Numbers.{stateNumber, phaseNumbers, kind, place, second};
@@ -215,7 +215,7 @@ pub fn sender_at(s: &[u16], i: u8) -> Sender
 // Whether the sender at a place may step.
 pub fn may_step(s: &[u16], i: u8) -> bool
     requires { ⌜ (encodes (now s) ≡ true) × (i < 32) ⌝ }
-    ensures { λ r. ⌜ r ≡ canStep (getD (boardFrom (now (s .entry)) .senders) i zeroSender) ⌝ }
+    ensures { λ r. ⌜ r ≡ senderSteps (getD (boardFrom (now (s .entry)) .senders) i zeroSender) ⌝ }
 {
     let at = 2 + 21 * (i as usize);
     steps_at(s[at], s[at + 1])

@@ -10,8 +10,8 @@ use Rattle.state.specs.declared.Said as DW
 use Rattle.state.specs.declared.Change as DG
 use Rattle.state.specs.declared.Effect as DE
 
-abbrev pub inJob : DD.Sender → DJ.Job → DD.Sender
-inJob d job = record {
+abbrev pub senderInJob : DD.Sender → DJ.Job → DD.Sender
+senderInJob d job = record {
   state = S.Working;
   signalled = d .signalled;
   own = d .own;
@@ -22,10 +22,10 @@ inJob d job = record {
 }
 
 abbrev pub worksBy : DD.Sender → DJ.Job → DW.Said → DG.Change → DE.Effect
-worksBy d job said change = record { said = said; change = change; sender = inJob d job }
+worksBy d job said change = record { said = said; change = change; sender = senderInJob d job }
 
-abbrev pub inPhase : DJ.Job → DP.Phase → DJ.Job
-inPhase j p = record {
+abbrev pub jobInPhase : DJ.Job → DP.Phase → DJ.Job
+jobInPhase j p = record {
   subject = j .subject;
   chord = j .chord;
   phase = p;
@@ -34,8 +34,8 @@ inPhase j p = record {
   retries = j .retries;
 }
 
-abbrev pub withRetry : DJ.Job → DP.Phase → DJ.Job
-withRetry j p = record {
+abbrev pub jobWithRetry : DJ.Job → DP.Phase → DJ.Job
+jobWithRetry j p = record {
   subject = j .subject;
   chord = j .chord;
   phase = p;
@@ -45,8 +45,8 @@ withRetry j p = record {
 }
 
 -- the job stays, unread
-abbrev pub goesIdle : DD.Sender → ℕ → DD.Sender
-goesIdle d reply = record {
+abbrev pub senderIdle : DD.Sender → ℕ → DD.Sender
+senderIdle d reply = record {
   state = S.Idle;
   signalled = false;
   own = d .own;
@@ -56,8 +56,8 @@ goesIdle d reply = record {
   job = d .job;
 }
 
-abbrev pub staysBlocked : DD.Sender → Bool → DD.Sender
-staysBlocked d signalled = record {
+abbrev pub senderBlocked : DD.Sender → Bool → DD.Sender
+senderBlocked d signalled = record {
   state = S.Blocked;
   signalled = signalled;
   own = d .own;

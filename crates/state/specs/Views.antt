@@ -75,8 +75,8 @@ stepsIn S.Idle signalled = false
 stepsIn S.Working signalled = true
 stepsIn S.Blocked signalled = signalled
 
-abbrev pub canStep : DD.Sender → Bool
-canStep d = stepsIn (d .state) (d .signalled)
+abbrev pub senderSteps : DD.Sender → Bool
+senderSteps d = stepsIn (d .state) (d .signalled)
 
 abbrev pub senderIn : Table → DD.Sender → Sender
 senderIn t d = record {

@@ -9,8 +9,8 @@ ghost use Rattle.model.specs.Jobs as MJ;
 ghost use Rattle.model.specs.Layout.{tableRefusal, tableOf};
 ghost use Rattle.model.specs.Effects.{wordOf, valueOf, numberOf};
 ghost use Rattle.model.specs.Steps as MS;
-ghost use Rattle.state.specs.Views.{jobIn, senderIn, saidIn, idleIs, canStep};
-ghost use Rattle.state.specs.Builders.{inJob, worksBy, inPhase, withRetry, goesIdle, staysBlocked, jobAt};
+ghost use Rattle.state.specs.Views.{jobIn, senderIn, saidIn, idleIs, senderSteps};
+ghost use Rattle.state.specs.Builders.{senderInJob, worksBy, jobInPhase, jobWithRetry, senderIdle, senderBlocked, jobAt};
 
 // Where a job is. The first number is the place: the member that the next step is about, or the rests after the next
 // one. Revert has the number of claims made beside it, Consume the match plus 1.
@@ -190,7 +190,7 @@ pub fn is_idle(s: State) -> bool
 
 // Whether a sender may step.
 pub fn can_step(d: Sender) -> bool
-    ensures { λ r. ⌜ r ≡ canStep d ⌝ }
+    ensures { λ r. ⌜ r ≡ senderSteps d ⌝ }
 {
     let s = d.state;
     match s {
@@ -202,7 +202,7 @@ pub fn can_step(d: Sender) -> bool
 
 // The sender at work on a job.
 pub fn in_job(d: Sender, job: Job) -> Sender
-    ensures { λ r. ⌜ r ≡ inJob d job ⌝ }
+    ensures { λ r. ⌜ r ≡ senderInJob d job ⌝ }
 {
     Sender {
         state: State::Working,
@@ -236,7 +236,7 @@ pub fn works(d: Sender, job: Job, said: Said, change: Change) -> Effect
 
 // The job in another phase.
 pub fn in_phase(j: Job, phase: Phase) -> Job
-    ensures { λ r. ⌜ r ≡ inPhase j phase ⌝ }
+    ensures { λ r. ⌜ r ≡ jobInPhase j phase ⌝ }
 {
     let chosen = j.chosen;
     Job {
@@ -251,7 +251,7 @@ pub fn in_phase(j: Job, phase: Phase) -> Job
 
 // The job in another phase, to be tried again.
 pub fn with_retry(j: Job, phase: Phase) -> Job
-    ensures { λ r. ⌜ r ≡ withRetry j phase ⌝ }
+    ensures { λ r. ⌜ r ≡ jobWithRetry j phase ⌝ }
 {
     let chosen = j.chosen;
     Job {
@@ -266,7 +266,7 @@ pub fn with_retry(j: Job, phase: Phase) -> Job
 
 // The sender idle, with a reply.
 pub fn goes_idle(d: Sender, reply: u16) -> Sender
-    ensures { λ r. ⌜ r ≡ goesIdle d reply ⌝ }
+    ensures { λ r. ⌜ r ≡ senderIdle d reply ⌝ }
 {
     let job = d.job;
     Sender {
@@ -282,7 +282,7 @@ pub fn goes_idle(d: Sender, reply: u16) -> Sender
 
 // The sender blocked, signalled or not.
 pub fn stays_blocked(d: Sender, signalled: bool) -> Sender
-    ensures { λ r. ⌜ r ≡ staysBlocked d signalled ⌝ }
+    ensures { λ r. ⌜ r ≡ senderBlocked d signalled ⌝ }
 {
     let job = d.job;
     Sender {

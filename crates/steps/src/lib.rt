@@ -11,7 +11,7 @@ ghost use Rattle.model.specs.Layout.{tableRefusal, tableOf};
 ghost use Rattle.model.specs.Steps as MS;
 ghost use Rattle.columns.specs.Columns.{Unread, boardBy, Passed};
 ghost use Rattle.state.specs.declared.State.the-variants as S;
-ghost use Rattle.state.specs.Views.{phaseIn, jobIn, senderIn, effectIn, canStep};
+ghost use Rattle.state.specs.Views.{phaseIn, jobIn, senderIn, effectIn, senderSteps};
 ghost use Rattle.steps.specs.Ready.{Ready, Saw};
 use state::Change;
 use state::Effect;
@@ -152,7 +152,7 @@ pub fn effect_of(
     matched: &[u16],
     wakers: &[u16],
 ) -> Effect
-    requires { ⌜ (tableRefusal (now table) ≡ 0) × (canStep d ≡ true) ⌝ }
+    requires { ⌜ (tableRefusal (now table) ≡ 0) × (senderSteps d ≡ true) ⌝ }
     requires { ⌜ Ready (tableOf (now table)) (now channels) (now properties) (now statuses) n count d ⌝ }
     requires { ⌜ (n ≤ length (now matched)) × (n ≤ length (now wakers)) ⌝ }
     requires { ⌜ Passed start n (now statuses) ⌝ }

@@ -21,7 +21,7 @@ use Rattle.state.specs.declared.Change.the-variants as G
 use Rattle.state.specs.declared.Job as DJ
 use Rattle.state.specs.declared.Sender as DD
 use Rattle.state.specs.Views.{phaseIn, chosenBy, jobIn, senderIn, effectIn}
-use Rattle.state.specs.Builders.{worksBy, inPhase}
+use Rattle.state.specs.Builders.{worksBy, jobInPhase}
 
 pub skip-low : (f k : ℕ) → k < f → k ≡ skip f k
 unfolding skip
@@ -71,14 +71,14 @@ module _ (t : Table) (b : Board) (d : DD.Sender) (few : size t (d .job .chord) �
     (r : DP.Phase) (all : (m : ℕ) → chosenBy r m ≡ m) where
   pub wakes-is : (x : ℕ) → d .job .phase ≡ P.Wake → x ≡ wokenOf t (jobIn t (d .job))
       → phaseIn r ≡ pick (leb 2 n) (free 0) signal
-      → effectIn t (worksBy d (inPhase (d .job) r) (W.Woke x) (G.Turn x (U.WakesBy (d .job .subject))))
+      → effectIn t (worksBy d (jobInPhase (d .job) r) (W.Woke x) (G.Turn x (U.WakesBy (d .job .subject))))
       ≡ wake-step t b (senderIn t d) (jobIn t (d .job))
   unfolding wake-step
   wakes-is x p e q = rw (all (size t (d .job .chord)), q, e, count-is t (d .job) (rw p) n len few eight, p)
 
   pub frees-is : (k f x : ℕ) → d .job .phase ≡ P.Free k → f ≡ firstSync t (d .job .chord) → x ≡ skip f k
       → k + 1 < size t (d .job .chord) → phaseIn r ≡ pick (leb (k + 1 + 2) n) (free (k + 1)) signal
-      → effectIn t (worksBy d (inPhase (d .job) r) (W.Freed (getD (d .job .chosen) x 0))
+      → effectIn t (worksBy d (jobInPhase (d .job) r) (W.Freed (getD (d .job .chosen) x 0))
       (G.Turn (getD (d .job .chosen) x 0) U.Frees))
       ≡ free-step t b (senderIn t d) (jobIn t (d .job)) k
   unfolding free-step

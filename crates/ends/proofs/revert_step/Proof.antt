@@ -5,7 +5,7 @@ use borrow.Author.Tests.{eq-eqb, ne-eqb}
 use Rattle.model.specs.Layout.{tableOf}
 use Rattle.model.proofs.AcceptedChords.{table-ok}
 use Rattle.state.specs.declared.Phase.the-variants as P
-use Rattle.state.specs.Builders.{inPhase}
+use Rattle.state.specs.Builders.{jobInPhase}
 use Rattle.ends.proofs.Reverting.{reverted, revert-on}
 use borrow.Author.Needs.{needs}
 use Rattle.ends.proofs.revert_step.Statement.{statement}
@@ -58,7 +58,7 @@ returns-2 c =
     let s = i .before .before .before .before in
     let a = s .args in
     let t = tableOf (a .table .now) in
-    let next = inPhase (a .d .job) (P.Revert (a .k + 1) (a .m)) in
+    let next = jobInPhase (a .d .job) (P.Revert (a .k + 1) (a .m)) in
     λ b e. rw (c .works2 .ensures, q .in-phase .ensures)
     (reverted t b (a .d) (a .k) (a .m) _ next (s .pre .1 .0) (s .pre .1 .1)
     (ne-eqb (a .k + 1) (a .m) (i .if1 .left)) (revert-on t (a .d .job) (a .k) (a .m) (s .pre .1 .0)))

@@ -8,7 +8,7 @@ use mir.ValLaws.{toZ-ofZ}
 use Rattle.model.specs.Effects.{Said}
 use Rattle.model.specs.Pools.{adds}
 use Rattle.boards.specs.Layout.{Lists}
-use Rattle.adds.specs.Sends.{sent}
+use Rattle.boards.specs.Calls.{sent}
 use Rattle.calls.specs.Calls.{Calls}
 use borrow.Author.Needs.{needs}
 use Rattle.host.proofs.gv_add.Statement.{statement}

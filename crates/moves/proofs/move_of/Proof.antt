@@ -7,7 +7,7 @@ use borrow.Author.Needs.{needs}
 use lib.ListN.{getD}
 use Rattle.model.specs.Layout.{tableOf}
 use Rattle.model.specs.Effects.{numberOf}
-use Rattle.state.specs.Views.{saidIn, idleIs, canStep}
+use Rattle.state.specs.Views.{saidIn, idleIs, senderSteps}
 use Rattle.boards.specs.declared.Call as DC
 use Rattle.boards.specs.declared.Call.the-variants as G
 use Rattle.boards.specs.Boards.{zeroSender}
@@ -51,7 +51,7 @@ add-free k =
 step-free : (k : tie.After-call2)
     → let s = stepped k in
     let i = k .call2 .given .0 .0 in
-    (i < 32) × (canStep (getD (view s .board .senders) i zeroSender) ≡ true)
+    (i < 32) × (senderSteps (getD (view s .board .senders) i zeroSender) ≡ true)
 step-free k =
     let s = stepped k in
     may-step (tableOf (s .args .table .now)) (view s .board) _

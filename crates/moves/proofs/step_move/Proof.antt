@@ -11,7 +11,7 @@ use Rattle.model.proofs.Tests.{never}
 use Rattle.columns.specs.Columns.{Passed}
 use Rattle.columns.specs.MatchColumns.{matchIn}
 use Rattle.columns.proofs.ListFrom.{length-from}
-use Rattle.state.specs.Views.{senderIn, effectIn, canStep}
+use Rattle.state.specs.Views.{senderIn, effectIn, senderSteps}
 use Rattle.boards.specs.declared.Sent as DS
 use Rattle.boards.specs.Calls.{Held}
 use Rattle.boards.specs.Layout.{Lists, lists, columnsIn}
@@ -105,7 +105,7 @@ effect-of-requires c κs =
     let e = columns-are c in
     let z = accepted s in
     let few = messages-few _ _ _ _ z in (
-      (table-accepted _ _ _ _ z, ap canStep (f .sender-at .ensures) ∙ s .pre .1 .0 .1),
+      (table-accepted _ _ _ _ z, ap senderSteps (f .sender-at .ensures) ∙ s .pre .1 .0 .1),
       (
         ready-by (e .0) (e .1) (e .2)
             (is-ready _ (view s .board) (view s .columns) (view s .matches) z (a .i) (f .sender-at .result)

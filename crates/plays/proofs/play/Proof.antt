@@ -60,7 +60,8 @@ caller-few c =
     omega (
       arith,
       c .caller-of .ensures,
-      caller-in (tableOf (s .args .table .now)) (boardFrom (s .args .board .now)) (callIn (s .args .call)) (unrefused f),
+      caller-in (tableOf (s .args .table .now)) (boardFrom (s .args .board .now)) (callIn (s .args .call))
+          (unrefused f),
     )
 
 few : (s : tie.Start) → (getD (s .args .board .now) 0 0 ≤ 1024) × (getD (s .args .board .now) 1 0 ≤ 1024)

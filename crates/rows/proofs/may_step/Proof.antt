@@ -6,7 +6,7 @@ use borrow.Author.Needs.{needs}
 use lib.Dec.{eqb}
 use lib.ListN.{getD}
 use native.Mathlib.Omega.{arith}
-use Rattle.state.specs.Views.{stepsIn, canStep}
+use Rattle.state.specs.Views.{stepsIn, senderSteps}
 use Rattle.boards.specs.Boards.{zeroSender}
 use Rattle.rows.specs.Decoded.{stateFrom, boardFrom}
 use Rattle.rows.proofs.WalkLaws.{all-numbers, part-at, part-first}
@@ -17,7 +17,7 @@ use Rattle.rows.proofs.may_step.Tie as tie
 -- whether the sender may step, by its numbers
 steps-are : (s : List ℕ) (i : ℕ) → i < 32
     → stepsIn (stateFrom (getD s (2 + 21 * i) 0)) (eqb (getD s (2 + 21 * i + 1) 0) 1)
-    ≡ canStep (getD (boardFrom s .senders) i zeroSender)
+    ≡ senderSteps (getD (boardFrom s .senders) i zeroSender)
 steps-are s i h =
     rw (sender-from s i zeroSender h, part-first s (2 + 21 * i), part-at s (2 + 21 * i) 1 (omega arith))
 

@@ -5,11 +5,11 @@ use Rattle.edges.proofs.full.fill.Statement.{statement}
 use Rattle.edges.proofs.full.fill.Tie as tie
 
 abbrev Inv-loop : tie.InvT-loop
-Inv-loop board₀ bytes₀ links₀ keys₀ cents₀ taken₀ ended₀ n₀ t12 t13 t14 t15 t16 board bytes links keys cents taken ended n =
+Inv-loop _ _ _ _ _ _ _ _ _ _ _ _ _ _ _ _ _ _ taken ended n =
     (n ≤ 1023) × (taken ≤ n) × (ended ≤ n)
 
 abbrev μ-loop : tie.MeasureT-loop
-μ-loop board₀ bytes₀ links₀ keys₀ cents₀ taken₀ ended₀ n₀ t12 t13 t14 t15 t16 board bytes links keys cents taken ended n =
+μ-loop _ _ _ _ _ _ _ _ _ _ _ _ _ _ _ _ _ _ taken ended n =
     1023 - n
 
 loop-holds : tie.Need-loop-holds Inv-loop μ-loop

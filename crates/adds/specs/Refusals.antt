@@ -1,4 +1,4 @@
--- What an add hands over, and what refuses it.
+-- What refuses an add.
 use mathlib.Core.Bool.{Bool}
 use Prim.Native.Nat.{ℕ}
 use lib.Dec.{ltb}
@@ -6,11 +6,7 @@ use lib.IntN.{ℤ}
 use lib.ListN.{length}
 use Rattle.model.specs.Basics.{unless}
 use Rattle.model.specs.Tables.{Table}
-use Rattle.model.specs.Boards.{Sent}
 use Rattle.model.specs.Adds.{centsOk}
-
-abbrev pub sent : ℕ → ℕ → ℤ → Sent
-sent channel property cents = record { channel = channel; property = property; cents = cents }
 
 -- by what is read: the sender's number, whether it is idle, and how many messages there are
 abbrev pub refusalBy : Table → ℕ → Bool → ℕ → ℤ → ℕ → ℕ
