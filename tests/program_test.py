@@ -2,11 +2,13 @@
 
     python3 tests/program_test.py [SESSIONS]
 
-The examples, odd files and odd inputs, and SESSIONS random sessions (default 300), each on its own random
-table, against tests/oracle.py. The last line is `program: N passed, M failed`.
+The examples, odd files and odd inputs, files that cannot be read or written, and SESSIONS random sessions (default
+300), each on its own random table, against tests/oracle.py. The last line is `program: N passed, M failed`.
 """
 
+import os
 import pathlib
+import random
 import subprocess
 import sys
 import tempfile
@@ -42,6 +44,8 @@ def odd_cases():
     tables = {"no file": None, "an empty file": b"", "one byte less": TABLE_P[:-1], "one byte more": TABLE_P + b"\0"}
     tables["413 bytes"] = TABLE_P + bytes(413 - len(TABLE_P))
     tables["a long file"] = TABLE_P + bytes(100_000)
+    tables["a full table"] = random_session.largest_table(random.Random(0))
+    tables["a full table and one byte"] = tables["a full table"] + b"\0"
     for name, table in tables.items():
         yield name, printed(table, RUN_OF_P), oracle.printout((table or b"")[:413], RUN_OF_P)
     inputs = {"no input": b"", "a line feed": b"\n", "no last line feed": RUN_OF_P.rstrip(b"\n")}
@@ -51,8 +55,26 @@ def odd_cases():
     inputs["unreadable lines"] = b"\n".join(random_session.UNREADABLE)
     inputs["5,000 line feeds"] = b"\n" * 5_000
     inputs["lines over the ends of reads"] = b"s 0\na 0 0 1 5\ns 12345\n" * 2_000
+    inputs["four megabytes"] = b"s 0\na 0 0 1 5\ns 12345\n" * 180_000 + RUN_OF_P
     for name, lines in inputs.items():
         yield name, printed(TABLE_P, lines), oracle.printout(TABLE_P, lines)
+
+
+def failing_cases():
+    """What cannot be read or written is said on standard error, and no printout passes for a whole one."""
+    with tempfile.TemporaryDirectory() as folder:
+        (pathlib.Path(folder) / "rules.bin").write_bytes(TABLE_P)
+        with open("/dev/full", "wb") as full:
+            run = subprocess.run([PROGRAM], cwd=folder, input=RUN_OF_P, stdout=full, stderr=subprocess.PIPE, timeout=120)
+        yield "a full device", run.stderr, b"standard output: No space left on device\n"
+        unreadable = os.open(folder, os.O_RDONLY)
+        run = subprocess.run([PROGRAM], cwd=folder, stdin=unreadable, capture_output=True, timeout=120)
+        os.close(unreadable)
+        yield "unreadable input", (run.stdout, run.stderr), (b"", b"standard input: Is a directory\n")
+    with tempfile.TemporaryDirectory() as folder:
+        (pathlib.Path(folder) / "rules.bin").mkdir()
+        run = subprocess.run([PROGRAM], cwd=folder, input=RUN_OF_P, capture_output=True, timeout=120)
+        yield "an unreadable table", (run.stdout, run.stderr), (b"refused 1\n", b"rules.bin: Is a directory\n")
 
 
 def random_cases(count):
@@ -65,7 +87,7 @@ def random_cases(count):
 def main():
     count = int(sys.argv[1]) if len(sys.argv) > 1 else 300
     passed = failed = 0
-    for cases in (example_cases(), odd_cases(), random_cases(count)):
+    for cases in (example_cases(), odd_cases(), failing_cases(), random_cases(count)):
         for name, got, wanted in cases:
             if got == wanted:
                 passed += 1

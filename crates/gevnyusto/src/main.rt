@@ -1,5 +1,5 @@
 // The matching board as a program: it reads `rules.bin`, plays the lines of its standard input, and prints what each
-// answers and, at the end, what is on the board.
+// answers and, at the end, what is on the board. What it cannot read or write it says on standard error, and stops.
 ghost use mathlib.Core.Path.{_≡_};
 ghost use Prim.Native.Nat.{_≤_};
 ghost use lib.ListN.{length, getD};
@@ -15,12 +15,13 @@ use libc::STDOUT_FILENO;
 use sessions::Carry;
 use state::Said;
 
-// The bytes since the last line feed, where the messages start that are not all consumed, and whether the input may go
-// on.
+// The bytes since the last line feed, where the messages start that are not all consumed, whether the input may go on,
+// and whether it has ended.
 struct Fed {
     carry: Carry,
     start: u16,
     more: bool,
+    ended: bool,
 }
 
 // The bytes of `rules.bin`, at most 413 of them; none where it cannot be opened.
@@ -29,18 +30,29 @@ fn load(buf: &mut [u8; 413]) -> usize
 {
     let fd = os::open_read(b"rules.bin");
     if fd < 0 {
+        if os::errno() != libc::ENOENT {
+            os::fail(b"rules.bin");
+        }
         return 0;
     }
     let n = io::read_full(fd, buf);
+    let mut past = [0u8; 1];
+    if libc::read(fd, &mut past) < 0 {
+        os::fail(b"rules.bin");
+    }
     libc::close(fd);
     n
 }
 
-// The first n bytes of a buffer go to standard output.
-fn say(out: &[u8], n: usize)
+// The first n bytes of a buffer go to standard output; whether they could.
+fn say(out: &[u8], n: usize) -> bool
     requires { ⌜ n ≤ length (now out) ⌝ }
 {
-    io::write_all(STDOUT_FILENO, &out[..n]);
+    if io::write_all(STDOUT_FILENO, &out[..n]) {
+        return true;
+    }
+    os::fail(b"standard output");
+    false
 }
 
 // A table that is refused.
@@ -83,13 +95,22 @@ fn serve_read(
         &mut out,
         start,
     );
-    say(&out, served.at);
+    let said = say(&out, served.at);
     let rest = served.carry;
     Fed {
         carry: rest,
         start: served.start,
-        more: true,
+        more: said,
+        ended: false,
     }
+}
+
+// Whether a read that put nothing was at the end, and did not fail.
+fn is_end(got: isize) -> bool {
+    if got < 0 {
+        os::fail(b"standard input");
+    }
+    got == 0
 }
 
 // One read of standard input.
@@ -118,6 +139,7 @@ fn serve_some(
             carry: carry,
             start: start,
             more: false,
+            ended: is_end(got),
         };
     }
     let n = io::count(got, &input);
@@ -153,6 +175,7 @@ fn serve_all(
         carry: sessions::no_bytes(),
         start: 0,
         more: true,
+        ended: false,
     };
     let mut turns = u64::MAX;
     while turns > 0 {
@@ -166,7 +189,7 @@ fn serve_all(
     fed
 }
 
-// The end of the input.
+// The end of the input; whether its last answer could be written.
 fn finish(
     table: &[u8],
     board: &mut [u16],
@@ -176,7 +199,7 @@ fn finish(
     cents: &mut [i64],
     carry: Carry,
     start: u16,
-)
+) -> bool
     requires { ⌜ Accepted (now table) (lists (now board) (now bytes) (now links) (now keys) (now cents)) ⌝ }
     requires { ⌜ Passed start (getD (now board) 0 0) (statusesIn (now bytes)) ⌝ }
     requires { ⌜ carry .len ≤ 81 ⌝ }
@@ -195,7 +218,7 @@ fn finish(
         &mut out,
         start,
     );
-    say(&out, served.at);
+    say(&out, served.at)
 }
 
 // What is on the board, in parts of a buffer each.
@@ -207,12 +230,14 @@ fn report(table: &[u8], board: &[u16], bytes: &[u8], links: &[u16], keys: &[u32]
     let mut next: u16 = 0;
     while next < all {
         let part = reports::report_part(table, board, bytes, links, keys, cents, next, &mut out);
-        say(&out, part.at);
+        if !say(&out, part.at) {
+            return;
+        }
         next = part.next;
     }
 }
 
-// The input on accepted lists, then the report.
+// The input on accepted lists, then, if it was read to its end and every answer written, the report.
 fn serve(
     table: &[u8],
     board: &mut [u16],
@@ -224,9 +249,13 @@ fn serve(
     requires { ⌜ Accepted (now table) (lists (now board) (now bytes) (now links) (now keys) (now cents)) ⌝ }
 {
     let fed = serve_all(table, board, bytes, links, keys, cents);
+    if !fed.ended {
+        return;
+    }
     let carry = fed.carry;
-    finish(table, board, bytes, links, keys, cents, carry, fed.start);
-    report(table, board, bytes, links, keys, cents);
+    if finish(table, board, bytes, links, keys, cents, carry, fed.start) {
+        report(table, board, bytes, links, keys, cents);
+    }
 }
 
 // An accepted table and an opened board.

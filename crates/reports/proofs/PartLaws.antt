@@ -41,7 +41,7 @@ take-sets l i (x ∷ xs) h =
     (append-assoc (take i l) (x ∷ []) xs)
 
 -- what was printed from the start, up to its end
-written : {out done text : List ℕ} {at : ℕ} → Printed out 0 text at done → at ≤ length out → take at done ≡ text
+pub written : {out done text : List ℕ} {at : ℕ} → Printed out 0 text at done → at ≤ length out → take at done ≡ text
 written {out} {done} {text} {at} p h =
     let e : at ≡ 0 + length text = p .place in
     rw (e, p .bytes) (take-sets out 0 text (omega (arith, p .place)))

@@ -39,14 +39,17 @@ slice-aggregate-say c = search needs
 say-requires : tie.Need-say-requires Inv-loop μ-loop
 say-requires c κs = search needs
 
+returns : tie.Need-returns Inv-loop μ-loop
+returns c = search needs
+
 loop-less : tie.Need-loop-less Inv-loop μ-loop
 loop-less c = search needs
 
 loop-again : tie.Need-loop-again Inv-loop μ-loop
 loop-again c = (search needs, search needs)
 
-returns : tie.Need-returns Inv-loop μ-loop
-returns c = search needs
+returns-2 : tie.Need-returns-2 Inv-loop μ-loop
+returns-2 c = search needs
 
 pub report-spec : {M : Type 1} → statement M
 report-spec =
@@ -61,6 +64,7 @@ report-spec =
     report-part-requires
     slice-aggregate-say
     say-requires
+    returns
     loop-less
     loop-again
-    returns)
+    returns-2)

@@ -12,6 +12,9 @@ slice-aggregate-read c = search needs
 read-requires : tie.Need-read-requires
 read-requires c κs = search needs
 
+is-end-requires : tie.Need-is-end-requires
+is-end-requires c κs = search needs
+
 returns : tie.Need-returns
 returns c = search needs
 
@@ -56,6 +59,7 @@ serve-some-spec =
     (tie.spec
     slice-aggregate-read
     read-requires
+    is-end-requires
     returns
     slice-aggregate-count
     count-requires

@@ -1,0 +1,1 @@
+// No code: what the functions that the program calls print together.
