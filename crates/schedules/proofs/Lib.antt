@@ -2,3 +2,4 @@
 pub mod PublicCalls
 pub mod PublicPeace
 pub mod PublicMerge
+pub mod Mixed

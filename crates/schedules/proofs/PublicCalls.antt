@@ -87,7 +87,7 @@ few-said t b (k ∷ ks) (suc n) z e = few-said t (answerTo t b k .board) ks n z 
 pub table-opened : (s : List ℕ) (l : Lists) → Opened s l → tableRefusal s ≡ 0
 table-opened s l o = unrefused s (o .before) (o .opens) .0
 
-opened : (s : List ℕ) (l : Lists) → Opened s l
+pub opened : (s : List ℕ) (l : Lists) → Opened s l
     → (refusalOf s (heldIn l) ≡ 0) × (boardOf s (heldIn l) ≡ emptyBoard builtinBackoffs)
 opened s l o =
     let fresh = o .board ∙ unrefused s (o .before) (o .opens) .1 in
@@ -95,7 +95,7 @@ opened s l o =
     rw (held-is l (a .numbers) (a .sized)) (a .accepted, opened-empty s l fresh)
 
 -- a board that the calls lead to, accepted
-demand : (s : List ℕ) (l : Lists) (ks : List Call) (h : Held) → Opened s l → refusalOf s h ≡ 0
+pub demand : (s : List ℕ) (l : Lists) (ks : List Call) (h : Held) → Opened s l → refusalOf s h ≡ 0
     → boardOf s h ≡ afterAll (tableOf s) (boardOf s (heldIn l)) ks → Keeps-demand-3 s ks h
 demand s l ks h o a e =
     let t = tableOf s in

@@ -2,3 +2,4 @@
 pub mod Schedules
 pub mod InPeace
 pub mod Merged
+pub mod Mixes
