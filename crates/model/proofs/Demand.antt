@@ -13,10 +13,10 @@ use Rattle.model.specs.Basics.{isIn, every}
 use Rattle.model.specs.Tables.{Table, isSync, chordAt}
 use Rattle.model.specs.Layout.{tableOf}
 use Rattle.model.specs.Boards.{Board, matchAt, noMatch, senderAt, Sent, consumed, messageAt, pending, isPending}
-use Rattle.model.specs.Boards.{channelOf, centsOf}
+use Rattle.model.specs.Boards.{channelOf}
 use Rattle.model.specs.Effects.{Answered}
 use Rattle.model.specs.Pools.{MatchRead, noRead, timesHeld, Call, Pool, readMatch, steps, answerTo, quiet}
-use Rattle.model.specs.Pools.{meets, sentAt, centsMatched}
+use Rattle.model.specs.Pools.{meets, sentAt, centsMatched, poolCents}
 use Rattle.model.specs.Demands.{boardAfter, poolOf, finalReads, Holds-own, poolAfter, Run-of, Quiet-at}
 use Rattle.model.specs.Demands.{Demand-3}
 use Rattle.model.proofs.Tests.{never}
@@ -206,7 +206,7 @@ module _ (t : Table) (rests : List ℕ) (cs : List Call) (tok : TableOk t) where
           waits-if i n own (omega (arith, own, v .locals i .own-in))
           (subst⁻¹ (λ (x : Sent). isSync t (x .channel) ≡ true) (as-sent t b b p ok n) w) (pending-or t b v q n) _ refl;
       cents = ok .total
-          ∙ ap (λ (z : ℤ). z +ℤ centsOf t (sentOf b) (p .inside)) (sym (matched-reads t b (b .matches)))
+          ∙ ap (λ (z : ℤ). z +ℤ poolCents t (sentOf b) (p .inside)) (sym (matched-reads t b (b .matches)))
           ∙ ap (λ (z : ℤ). centsMatched reads +ℤ z)
           (cents-same t (sentOf b) (sentAt (p .sent)) (p .inside) (λ j l. as-sent t b b p ok _));
     }

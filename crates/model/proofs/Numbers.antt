@@ -1,9 +1,11 @@
--- The model refuses a call by 8 to 13 and nothing else.
+-- The model refuses a call by 8 to 13 and nothing else, an add by its first ground.
 use mathlib.Core.Path.{_≡_, refl}
 use mathlib.Core.Bool.{Bool, true, false}
-use Prim.Native.Nat.{ℕ, zero, suc, _≤_}
+use Prim.Native.Nat.{ℕ, zero, suc, _≤_, _<_}
 use native.Mathlib.Omega.{arith}
+use borrow.Author.Tests.{le-leb, lt-leb, le-ltb, lt-ltb}
 use lib.Dec.{eqb, leb, ltb}
+use lib.IntN.{ℤ, pos, negsuc, natAbs}
 use lib.ListN.{length}
 use Rattle.model.specs.Basics.{unless}
 use Rattle.model.specs.Tables.{Table}
@@ -14,6 +16,7 @@ use Rattle.model.specs.Effects.{Signalled, Answered, Refused, Missed, Ag
 use Rattle.model.specs.Adds.{addRefusal, centsOk}
 use Rattle.model.specs.Steps.{stepBy, stateStep, senderStep, blockedStep}
 use Rattle.model.specs.Pools.{Call, adds, steps, answerTo, addAnswer, stepAnswer}
+use Rattle.model.specs.Orders.{Add-order}
 use Rattle.model.proofs.Tests.{tests}
 use Rattle.model.proofs.Words.{OutcomeSpeaks, step-speaks}
 
@@ -50,6 +53,37 @@ add-few t b i x =
     (unless-few (ltb (x .channel) (length (t .kinds))) 10 _ (omega arith)
     (unless-few (centsOk (x .cents)) 11 _ (omega arith)
     (unless-few (ltb (length (b .messages)) 1024) 12 0 (omega arith) (omega arith)))))
+
+cents-in : (z : ℤ) → natAbs z ≤ 999_999_999_999 → centsOk z ≡ true
+cents-in (pos a) l = le-leb a 999_999_999_999 l
+cents-in (negsuc a) l = lt-ltb a 999_999_999_999 l
+
+cents-over : (z : ℤ) → 999_999_999_999 < natAbs z → centsOk z ≡ false
+cents-over (pos a) l = lt-leb a 999_999_999_999 l
+cents-over (negsuc a) l = le-ltb a 999_999_999_999 (omega arith)
+
+pub add-order : (t : Table) (b : Board) (i : ℕ) (x : Sent) → Add-order t b i x
+unfolding addRefusal
+add-order t b i x = record {
+  no-sender = λ h. rw (le-ltb i 32 h);
+  not-idle = λ h s. rw (lt-ltb i 32 h, s);
+  no-channel = λ h s k. rw (lt-ltb i 32 h, s, le-ltb (x .channel) (length (t .kinds)) k);
+  cents-out = λ h s k c. rw (lt-ltb i 32 h, s, lt-ltb (x .channel) (length (t .kinds)) k, cents-over (x .cents) c);
+  full = λ h s k c n. rw (
+    lt-ltb i 32 h,
+    s,
+    lt-ltb (x .channel) (length (t .kinds)) k,
+    cents-in (x .cents) c,
+    le-ltb (length (b .messages)) 1024 n,
+  );
+  accepted = λ h s k c n. rw (
+    lt-ltb i 32 h,
+    s,
+    lt-ltb (x .channel) (length (t .kinds)) k,
+    cents-in (x .cents) c,
+    lt-ltb (length (b .messages)) 1024 n,
+  );
+}
 
 abbrev Few : Outcome → Type 0
 Few (refused f) = f ≤ 13

@@ -9,10 +9,10 @@ use lib.ListN.{length, length-map, getD, List·getD-map}
 use native.Mathlib.Omega.{arith}
 use Rattle.model.specs.Basics.{isIn}
 use Rattle.model.specs.Tables.{Table, chordAt}
-use Rattle.model.specs.Boards.{Board, Sent, messageAt, senderAt, centsOf, noSent, noMessage}
+use Rattle.model.specs.Boards.{Board, Sent, messageAt, senderAt, noSent, noMessage}
 use Rattle.model.specs.Looks.{alike}
 use Rattle.model.specs.Sound.{owns}
-use Rattle.model.specs.Pools.{Pool, ownOf, distinct, centsAdded, sentAt, meets, channelsMeet}
+use Rattle.model.specs.Pools.{Pool, ownOf, distinct, centsAdded, poolCents, sentAt, meets, channelsMeet}
 use Rattle.model.proofs.Tests.{and, both}
 use Rattle.model.proofs.Lists.{nth-every, every-nth}
 use Rattle.model.proofs.Written.{t}
@@ -35,7 +35,7 @@ pub record PoolOk (t : Table) (last b : Board) (p : Pool) : Type 0 where
   pub number : p .matches ≡ length (b .matches)
   pub good : p .good ≡ true
   pub once-in : distinct (p .inside) ≡ true
-  pub total : centsAdded t (p .sent) ≡ centsIn t (sentOf last) (b .matches) +ℤ centsOf t (sentOf last) (p .inside)
+  pub total : centsAdded t (p .sent) ≡ centsIn t (sentOf last) (b .matches) +ℤ poolCents t (sentOf last) (p .inside)
 
 module _ (t : Table) (last b : Board) (p : Pool) (ok : PoolOk t last b p) where
   pub count : length (p .sent) ≡ length (b .messages)

@@ -13,13 +13,13 @@ use lib.Seq.{getD-set-same, getD-set-other}
 use native.Mathlib.Omega.{arith}
 use Rattle.model.specs.Basics.{isIn, every}
 use Rattle.model.specs.Tables.{Table}
-use Rattle.model.specs.Boards.{Board, Match, senderAt, noMatch, centsOf, matchAt, Sent, Message, Sender, amount}
+use Rattle.model.specs.Boards.{Board, Match, senderAt, noMatch, centsOf, matchAt, Sent, Message, Sender}
 use Rattle.model.specs.Effects.{Effect, apply, records, matchesAfter, Change, none, turn, signals, wordOf}
 use Rattle.model.specs.Effects.{valueOf}
 use Rattle.model.specs.Adds.{added, newMessage}
 use Rattle.model.specs.Sound.{owns}
 use Rattle.model.specs.Pools.{Pool, centsAdded, matchReads, noRead, readMatch, sentAt, fair, without, leaves}
-use Rattle.model.specs.Pools.{MatchRead, enters}
+use Rattle.model.specs.Pools.{MatchRead, enters, worth, poolCents}
 use Rattle.model.proofs.Tests.{never, same?, and, either, or-right}
 use Rattle.model.proofs.Lists.{nth-isIn, nth-every}
 use Rattle.model.proofs.Written.{t, ms}
@@ -35,7 +35,7 @@ use Rattle.model.proofs.Obligation.{unmatched-before}
 use Rattle.model.proofs.Invariant.{Inv, StepOwes, step-call, CallOwes}
 use Rattle.model.proofs.PoolLaws.{sameZ-refl, one-distinct, in-snoc, in-without, without-in, without-distinct}
 use Rattle.model.proofs.PoolLaws.{snoc-distinct}
-use Rattle.model.proofs.Cents.{centsIn, cents-same, some-out, cents-in-snoc, added-snoc, cents-snoc}
+use Rattle.model.proofs.Cents.{cents-worth, centsIn, cents-same, some-out, cents-in-snoc, added-snoc, cents-snoc}
 use Rattle.model.proofs.PoolMeets.{PoolOk, count, sentOf, as-sent, full-meets}
 use Rattle.model.proofs.Adds as A
 
@@ -95,7 +95,7 @@ module _ (t : Table) (last b : Board) (p : Pool) (ok : PoolOk t last b p) (i : �
     good = ok .good;
     once-in = ok .once-in;
     total = subst⁻¹ (λ (ms : List Match).
-        centsAdded t (p .sent) ≡ centsIn t (sentOf last) ms +ℤ centsOf t (sentOf last) (p .inside))
+        centsAdded t (p .sent) ≡ centsIn t (sentOf last) ms +ℤ poolCents t (sentOf last) (p .inside))
         (matches-still b i e q) (ok .total);
   }
 
@@ -125,8 +125,10 @@ module _ (t : Table) (last b : Board) (p : Pool) (ok : PoolOk t last b p) (i : �
     all-in : every (λ n. isIn n (p .inside)) (m .messages) ≡ true
     all-in = nth-every _ (m .messages) 0 (λ j q. let r = fresh j q in ok .is-inside _ (r .1) (r .0))
 
-    cents-are : centsOf t (sentOf last) (m .messages) ≡ centsOf t (sentAt (p .sent)) (m .messages)
-    cents-are = cents-same t (sentOf last) (sentAt (p .sent)) (m .messages) (λ j q. let r = fresh j q .1 in
+    cents-are : centsOf t (sentOf last) (m .messages) ≡ poolCents t (sentAt (p .sent)) (m .messages)
+    cents-are =
+        cents-worth t (sentOf last) (m .messages)
+        ∙ cents-same t (sentOf last) (sentAt (p .sent)) (m .messages) (λ j q. let r = fresh j q .1 in
         gl .kept _ (omega (arith, r, messages-count b i e)) .sent ∙ g .kept _ r .sent ∙ as-sent t last b p ok _)
 
     in-reads : length (b .matches) < length (matchReads t last)
@@ -152,13 +154,14 @@ module _ (t : Table) (last b : Board) (p : Pool) (ok : PoolOk t last b p) (i : �
     not-in-it n u = rw last-is at (u (length (b .matches)) (omega (arith, count-now)))
 
     total-now : centsAdded t (p .sent)
-        ≡ centsIn t (sentOf last) (apply b i e .matches) +ℤ centsOf t (sentOf last) (without (m .messages) (p .inside))
+        ≡ centsIn t (sentOf last) (apply b i e .matches)
+        +ℤ poolCents t (sentOf last) (without (m .messages) (p .inside))
     total-now =
         ok .total
         ∙ ap (λ (z : ℤ). centsIn t (sentOf last) (b .matches) +ℤ z) (some-out t (sentOf last) (m .messages) (p .inside)
         (one-distinct (m .messages) (full .1 .selection .one)) (ok .once-in) all-in)
         ∙ sym (+ℤ-assoc (centsIn t (sentOf last) (b .matches)) _ _)
-        ∙ ap (λ (z : ℤ). z +ℤ centsOf t (sentOf last) (without (m .messages) (p .inside)))
+        ∙ ap (λ (z : ℤ). z +ℤ poolCents t (sentOf last) (without (m .messages) (p .inside)))
         (sym (ap (centsIn t (sentOf last)) (matches-more b i e x m ec) ∙ cents-in-snoc t (sentOf last) (b .matches) m))
 
     pub pool-matched : PoolOk t last (apply b i e) (leaves t (matchReads t last) p (length (b .matches)) true)
@@ -178,7 +181,7 @@ module _ (t : Table) (last b : Board) (p : Pool) (ok : PoolOk t last b p) (i : �
       once-in = without-distinct _ (p .inside) (ok .once-in);
       total = subst⁻¹ (λ (y : MatchRead). centsAdded t (p .sent)
           ≡ centsIn t (sentOf last) (apply b i e .matches)
-          +ℤ centsOf t (sentOf last) (without (y .messages) (p .inside))) read total-now;
+          +ℤ poolCents t (sentOf last) (without (y .messages) (p .inside))) read total-now;
     }
 
   pub step-pool : Grows (apply b i e) last → eqb (wordOf (e .said)) 6 ≡ isRecord (e .change)
@@ -243,16 +246,16 @@ module _ (t : Table) (last b : Board) (p : Pool) (ok : PoolOk t last b p) (i : �
   not-yet true e = absurd (omega (arith, ok .inside-is (length (b .messages)) e .0))
 
   total-new : centsAdded t (p .sent ++ (x ∷ []))
-      ≡ centsIn t (sentOf last) (b′ .matches) +ℤ centsOf t (sentOf last) (p .inside ++ (length (b .messages) ∷ []))
+      ≡ centsIn t (sentOf last) (b′ .matches) +ℤ poolCents t (sentOf last) (p .inside ++ (length (b .messages) ∷ []))
   total-new =
       added-snoc t (p .sent) x
-      ∙ ap (λ (z : ℤ). z +ℤ amount t x) (ok .total)
+      ∙ ap (λ (z : ℤ). z +ℤ worth t x) (ok .total)
       ∙ +ℤ-assoc (centsIn t (sentOf last) (b .matches)) _ _
       ∙ ap (λ (z : ℤ). centsIn t (sentOf last) (b .matches) +ℤ z)
-      (ap (λ (y : Sent). centsOf t (sentOf last) (p .inside) +ℤ amount t y) (sym is-x)
+      (ap (λ (y : Sent). poolCents t (sentOf last) (p .inside) +ℤ worth t y) (sym is-x)
       ∙ sym (cents-snoc t (sentOf last) (p .inside) (length (b .messages))))
       ∙ ap (λ (ms : List Match).
-      centsIn t (sentOf last) ms +ℤ centsOf t (sentOf last) (p .inside ++ (length (b .messages) ∷ [])))
+      centsIn t (sentOf last) ms +ℤ poolCents t (sentOf last) (p .inside ++ (length (b .messages) ∷ [])))
       (sym (A.matches-now t b i x))
     where
       is-x : sentOf last (length (b .messages)) ≡ x

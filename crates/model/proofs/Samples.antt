@@ -1,5 +1,5 @@
--- The samples computed: 01's (M) items as one theorem over the table of them, and its printed run of table P. Each is
--- closed, so that its two sides are the same once the definitions are unfolded.
+-- The samples computed: 01's (M) items as one theorem over the table of them, its printed run of table P, and runs of
+-- retries. Each is closed, so that its two sides are the same once the definitions are unfolded.
 use mathlib.Core.Path.{_≡_, refl}
 use mathlib.Core.List.{map}
 use Prim.Native.Nat.{ℕ}
@@ -13,7 +13,7 @@ use Rattle.model.specs.Steps.{look-step, claim-step, revert-step, consum
 use Rattle.model.specs.Steps.{skip, free-step, signal-step, more, pass-end-step, backoff-step, resume-step}
 use Rattle.model.specs.Steps.{stepBy}
 use Rattle.model.specs.Adds.{addRefusal, added}
-use Rattle.model.specs.Samples.{outcome, samples, expected, shownBy, tableP, scheduleP, shownP}
+use Rattle.model.specs.Samples.{outcome, samples, expected, shownBy, tableP, scheduleP, shownP, Retries-rest}
 
 -- to unfold this is to unfold every definition that a run computes with
 unfoldable pub opened : ℕ
@@ -30,3 +30,7 @@ m-items = refl
 pub run-of-P : shownBy (tableOf tableP) scheduleP ≡ shownP
 unfolding opened
 run-of-P = refl
+
+pub retries-rest : Retries-rest
+unfolding opened
+retries-rest = record { by-builtin = refl; by-rising = refl }

@@ -12,13 +12,13 @@ use Rattle.model.specs.Basics.{isIn, every}
 use Rattle.model.specs.Tables.{Table, isSync, chordAt}
 use Rattle.model.specs.Layout.{tableRefusal, tableOf}
 use Rattle.model.specs.Boards.{Sender, Board, messageAt, Match, senderAt, Message, Sent, emptyBoard, pending}
-use Rattle.model.specs.Boards.{isPending, centsOf}
+use Rattle.model.specs.Boards.{isPending}
 use Rattle.model.specs.Effects.{Refused, refused, Answered}
 use Rattle.model.specs.Steps.{stepBy}
 use Rattle.model.specs.Sound.{sound}
 use Rattle.model.specs.Pools.{answerTo, steps, adds, Call, quiet, afterAll, MatchRead, Pool, playedAll}
 use Rattle.model.specs.Pools.{emptyPool, history, matchReads, ownOf, sentAt, noRead, timesHeld, meets}
-use Rattle.model.specs.Pools.{centsAdded, centsMatched}
+use Rattle.model.specs.Pools.{centsAdded, centsMatched, poolCents}
 
 -- The frame: what a call leaves as it was, on every board
 
@@ -129,7 +129,8 @@ pub record Quiet-at (t : Table) (rests : List ℕ) (cs : List Call) : Type 0 whe
       → eqb (senderAt (boardAfter t rests cs) i .reply) 0 ≡ isIn n (poolOf t rests cs .inside)
   -- "Cents added are summed over the accepted adds, cents matched over the match reads, cents pending over the pool."
   pub cents : centsAdded t (poolOf t rests cs .sent)
-      ≡ centsMatched (finalReads t rests cs) +ℤ centsOf t (sentAt (poolOf t rests cs .sent)) (poolOf t rests cs .inside)
+      ≡ centsMatched (finalReads t rests cs)
+      +ℤ poolCents t (sentAt (poolOf t rests cs .sent)) (poolOf t rests cs .inside)
 
 -- for every accepted table, every rest table and every list of calls, refused ones among them
 pub record Demand-3 : Type 0 where

@@ -15,4 +15,5 @@ pub mod Lines
 pub mod Printing
 pub mod Sessions
 pub mod Demands
+pub mod Orders
 pub mod Samples

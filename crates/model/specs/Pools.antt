@@ -8,7 +8,6 @@ use lib.ListN.{length, getD, replicate, set}
 use Rattle.model.specs.Basics.{every, isIn, allOf, pick}
 use Rattle.model.specs.Tables.{Table, Chord, chordAt}
 use Rattle.model.specs.Boards.{Sent, Board, State, idle, working, blocked, Match, centsOf, messageAt, noSent}
-use Rattle.model.specs.Boards.{amount}
 use Rattle.model.specs.Effects.{Said, Outcome, refused, Refused, does, apply, Item, valueOf, wordOf}
 use Rattle.model.specs.Looks.{alike}
 use Rattle.model.specs.Steps.{stepBy}
@@ -134,6 +133,14 @@ sameZ (pos a) (negsuc b) = false
 sameZ (negsuc a) (pos b) = false
 sameZ (negsuc a) (negsuc b) = eqb a b
 
+-- what a message counts for in the pool's sums: by the call's cents alone
+abbrev pub worth : Table → Sent → ℤ
+worth t x = x .cents
+
+abbrev pub poolCents : Table → (ℕ → Sent) → List ℕ → ℤ
+poolCents t sent [] = pos 0
+poolCents t sent (n ∷ ns) = worth t (sent n) +ℤ poolCents t sent ns
+
 -- "K is the number of matches before. Match K reads a rule of the table, items that are all in the pool and meet it,
 -- and the cents of a match of them."
 unfoldable pub fair : Table → List MatchRead → Pool → ℕ → MatchRead → Bool
@@ -144,7 +151,7 @@ fair t ms p k m =
     ltb (m .chord) (length (t .chords)) ∷
     every (λ n. isIn n (p .inside)) (m .messages) ∷
     meets (chordAt t (m .chord)) (sentAt (p .sent)) (m .messages) ∷
-    sameZ (m .cents) (centsOf t (sentAt (p .sent)) (m .messages)) ∷ [])
+    sameZ (m .cents) (poolCents t (sentAt (p .sent)) (m .messages)) ∷ [])
 
 abbrev pub without : List ℕ → List ℕ → List ℕ
 without ys [] = []
@@ -174,7 +181,7 @@ playedAll t ms p (e ∷ es) = playedAll t ms (played t ms p (e .call) (e .said))
 -- "Cents added are summed over the accepted adds, cents matched over the match reads"
 abbrev pub centsAdded : Table → List Sent → ℤ
 centsAdded t [] = pos 0
-centsAdded t (x ∷ xs) = amount t x +ℤ centsAdded t xs
+centsAdded t (x ∷ xs) = worth t x +ℤ centsAdded t xs
 
 abbrev pub centsMatched : List MatchRead → ℤ
 centsMatched [] = pos 0

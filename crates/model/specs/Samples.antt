@@ -1,5 +1,7 @@
--- 01's "Edge items" marked (M), as one table of samples, and its printed run: bytes, calls, and what 01 says of them.
--- That without chords nothing ever matches is about every schedule, and so a theorem of its own (proofs/NoChords).
+-- 01's "Edge items" marked (M), as a table of samples, its printed run, and runs of retries: bytes, calls, and what 01
+-- says of them. That without chords nothing ever matches is about every schedule, and so a theorem of its own
+-- (proofs/NoChords).
+use mathlib.Core.Path.{_≡_}
 use mathlib.Core.Bool.{Bool, true}
 use mathlib.Core.List.{List, map, [], _∷_, _++_}
 use Prim.Native.Nat.{ℕ, zero, suc, _+_}
@@ -21,8 +23,11 @@ pub record Sample : Type 0 where
   pub refusal : ℕ
   pub said : List Said
 
+abbrev pub saidWith : List ℕ → Table → List Call → List Said
+saidWith rests t cs = map (λ e. e .said) (history t (emptyBoard rests) cs)
+
 abbrev pub saidTo : Table → List Call → List Said
-saidTo t cs = map (λ e. e .said) (history t (emptyBoard builtinBackoffs) cs)
+saidTo t cs = saidWith builtinBackoffs t cs
 
 -- by the reader's number: a refused table answers no call
 abbrev pub saidIf : ℕ → Table → List Call → List Said
@@ -133,6 +138,28 @@ saidContended =
     Item 0 ∷ Looked 0 ∷ Missed ∷ Item 1 ∷ Looked 1 ∷ Ended ∷ Looked 0 ∷ Item 2 ∷
     Looked 2 ∷ Looked 0 ∷ Claimed 1 ∷ Claimed 2 ∷ Matched 0 ∷ Lost 0 ∷ Reverted 1 ∷ Again ∷ Looked 1 ∷ Missed ∷ Again ∷
     Consumed 2 ∷ Consumed 0 ∷ Told 0 ∷ Answered 0 ∷ Rested ∷ Refused 8 ∷ []
+
+-- "as the rest table says at k (from 1; beyond 16, at 16)". Sender 1 holds message 1 claimed and is left there, so that
+-- each pass of sender 2 misses it and says `again`: seventeen retries, and the first step of the pass after them
+abbrev pub retrying : ℕ → List Call
+retrying n = send 0 1 7 0 ∷ send 1 0 7 0 ∷ replicate 3 (steps 1) ++ send 2 1 7 0 ∷ replicate n (steps 2)
+
+abbrev pub passes : List ℕ → List Said
+passes [] = []
+passes (k ∷ ks) = Missed ∷ Again ∷ replicate k Rested ++ passes ks
+
+abbrev pub saidRetrying : List ℕ → List Said
+saidRetrying rests = Item 0 ∷ Item 1 ∷ Looked 1 ∷ Looked 0 ∷ Claimed 1 ∷ Item 2 ∷ passes rests ++ Missed ∷ []
+
+-- a rest table that never gives the same twice
+abbrev pub rising : List ℕ
+rising = 0 ∷ 1 ∷ 2 ∷ 3 ∷ 4 ∷ 5 ∷ 6 ∷ 7 ∷ 8 ∷ 9 ∷ 10 ∷ 11 ∷ 12 ∷ 13 ∷ 14 ∷ 15 ∷ []
+
+pub record Retries-rest : Type 0 where
+  pub by-builtin : saidWith builtinBackoffs (tableOf tableP) (retrying 273)
+      ≡ saidRetrying (0 ∷ 1 ∷ 1 ∷ 2 ∷ 2 ∷ 4 ∷ 4 ∷ 8 ∷ 8 ∷ 16 ∷ 16 ∷ 16 ∷ 32 ∷ 32 ∷ 32 ∷ 32 ∷ 32 ∷ [])
+  pub by-rising : saidWith rising (tableOf tableP) (retrying 170)
+      ≡ saidRetrying (0 ∷ 1 ∷ 2 ∷ 3 ∷ 4 ∷ 5 ∷ 6 ∷ 7 ∷ 8 ∷ 9 ∷ 10 ∷ 11 ∷ 12 ∷ 13 ∷ 14 ∷ 15 ∷ 15 ∷ [])
 
 -- The (M) items
 
