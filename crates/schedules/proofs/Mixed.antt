@@ -17,7 +17,8 @@ use Rattle.refusals.specs.Calls.{boardOf, refusalOf}
 use Rattle.plays.specs.Replays.{CallRows, callAt, callsLen, callsOf, answerNumber, answerNumbers}
 use Rattle.calls.specs.Calls.{Replays-in}
 use Rattle.schedules.specs.Schedules.{Opened}
-use Rattle.schedules.specs.Mixes.{Act, called, replayed, Acts, callsBy, answersBy, callsIn, answersIn, Mixed-calls}
+use Rattle.schedules.specs.Mixes.{Act, called, replayed, Acts, callsBy, answersBy, callsIn, answersIn}
+use Rattle.schedules.specs.Mixes.{Mixed-calls}
 use Rattle.schedules.proofs.PublicCalls.{said-is, opened, demand}
 
 -- the answers of a schedule, part by part
