@@ -1,4 +1,4 @@
--- What refuses an add.
+-- What refuses an add (rule 6.4).
 use mathlib.Core.Bool.{Bool}
 use Prim.Native.Nat.{ℕ}
 use lib.Dec.{ltb}
@@ -8,7 +8,7 @@ use Rattle.model.specs.Basics.{unless}
 use Rattle.model.specs.Tables.{Table}
 use Rattle.model.specs.Adds.{centsOk}
 
--- by what is read: the sender's number, whether it is idle, and how many messages there are
+-- rule 6.4, by what is read: the sender's number, whether it is idle, and how many messages there are
 abbrev pub refusalBy : Table → ℕ → Bool → ℕ → ℤ → ℕ → ℕ
 refusalBy t i idle channel cents n =
     unless (ltb i 32) 8

@@ -1,4 +1,4 @@
--- A sender whose job has just ended: idle, blocked, or with its waker in hand.
+-- A sender whose job has just ended: idle, blocked, or at a job about its waker.
 use mathlib.Core.Path.{_≡_, refl, sym, _∙_, subst}
 use mathlib.Core.Logic.{_⊎_, inl, inr, _≢_}
 use mathlib.Core.Bool.{false}

@@ -1,4 +1,4 @@
--- The message that a pass has in hand: on the board, synchronous or not; a waker taken in hand is pending.
+-- The subject of a pass: on the board, synchronous or not; a waker that becomes the subject is pending.
 use mathlib.Core.Path.{_≡_, refl, sym, _∙_, ap, subst, subst⁻¹}
 use mathlib.Core.Bool.{Bool, false}
 use mathlib.Core.List.{List}

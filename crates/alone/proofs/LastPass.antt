@@ -1,4 +1,4 @@
--- The last pass: the waker in hand, and the sender's own message is not woken and meets nothing, so this pass cannot
+-- The last pass: about the waker, and the sender's own message is not woken and meets nothing, so this pass cannot
 -- wake it.
 use mathlib.Core.Path.{_≡_, refl, sym, _∙_, ap}
 use mathlib.Core.Logic.{_⊎_, inl, inr, _≢_}

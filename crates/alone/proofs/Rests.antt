@@ -1,4 +1,4 @@
--- What every schedule with a passing rest table keeps: no sender has more than 64 rests left, and every match has a
+-- What every schedule with a passing backoff table keeps: no sender has more than 64 rests left, and every match has a
 -- message.
 use mathlib.Core.Path.{_≡_, refl, ap, subst, subst⁻¹}
 use mathlib.Core.Logic.{_⊎_, inl, inr, _≢_}
@@ -74,7 +74,7 @@ pick-none : (u : Bool) (p q : Phase) → restsIn p ≡ 0 → restsIn q ≡ 0 →
 pick-none true p q e f = e
 pick-none false p q e f = f
 
--- phase by phase: only the end of a pass gives rests, as the rest table says, and a rest leaves one fewer
+-- phase by phase: only the end of a pass gives rests, as the backoff table says, and a rest leaves one fewer
 module _ (t : Table) (b : Board) (d : Sender) (w : Job) where
   looked-none : (k n : ℕ) → restsOf (lookedBy t b d w k n .sender .state) ≡ 0
   looked-none k zero = pass-none t (w .subject) _ _ _ _

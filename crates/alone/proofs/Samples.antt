@@ -1,4 +1,4 @@
--- In the scope paper's run of table P sender 1, in peace, takes just seven steps.
+-- In the run of table P sender 1, in peace, takes just seven steps.
 use mathlib.Core.Path.{_≡_, refl}
 use mathlib.Core.Bool.{true, false}
 use mathlib.Core.List.{List, [], _∷_, map}

@@ -1,4 +1,4 @@
--- A sender left in peace finishes (request 12): what peace is, what finishing is, and within how many steps.
+-- A sender left in peace finishes (rule 9.1): what peace is, what finishing is, and within how many steps.
 use mathlib.Core.Path.{_≡_}
 use mathlib.Core.Logic.{_≢_, _⊎_}
 use mathlib.Core.Bool.{true, false}
@@ -14,7 +14,7 @@ use Rattle.model.specs.Holdings.{Holds}
 use Rattle.model.specs.Pools.{Call, steps, afterAll, canStep}
 use Rattle.model.specs.Demands.{boardAfter}
 
--- no other sender holds a claimed message
+-- rule 9.1: no other sender holds a claimed message
 abbrev pub In-peace : Table → Board → ℕ → Type 0
 In-peace t b i = (j n : ℕ) → j ≢ i → Holds t (senderAt b j .state) n → ⊥
 
@@ -22,12 +22,11 @@ In-peace t b i = (j n : ℕ) → j ≢ i → Holds t (senderAt b j .state) n →
 abbrev pub Holds-all : Table → Board → ℕ → Type 0
 Holds-all t b i = (n : ℕ) → messageAt b n .status ≡ claimed → Holds t (senderAt b i .state) n
 
--- n steps of sender i, and none of any other
+-- rule 9.1: n steps of sender i, and none of any other
 abbrev pub steppedAlone : Table → Board → ℕ → ℕ → Board
 steppedAlone t b i n = afterAll t b (replicate n (steps i))
 
--- After at most so many steps sender i is idle, or blocked without a signal: it has no step, one more is refused 13,
--- and more change nothing.
+-- rules 9.1 and 5.6: after at most so many steps sender i has no step; one more is refused 13, and more change nothing
 pub record Finishes (t : Table) (b : Board) (i limit : ℕ) : Type 0 where
   pub count : ℕ
   pub few : count ≤ limit
@@ -36,7 +35,7 @@ pub record Finishes (t : Table) (b : Board) (i limit : ℕ) : Type 0 where
   pub refused-13 : stepBy t (steppedAlone t b i count) i ≡ refused 13
   pub for-good : (n : ℕ) → count ≤ n → steppedAlone t b i n ≡ steppedAlone t b i count
 
--- from every board that a schedule reaches, with every rest table that passes
+-- rule 9.1: from every board that a schedule reaches, with every backoff table that passes
 abbrev pub Left-in-peace : ℕ → Type 0
 Left-in-peace limit =
     (s rests : List ℕ) (cs : List Call) (i : ℕ)
@@ -46,7 +45,7 @@ Left-in-peace limit =
     → In-peace (tableOf s) (boardAfter (tableOf s) rests cs) i
     → Finishes (tableOf s) (boardAfter (tableOf s) rests cs) i limit
 
--- the steps that support may quote; request 12 asks for 4,096
+-- rule 9.1: the steps that support may quote; 4,096 are asked
 abbrev pub mostSteps : ℕ
 mostSteps = 1628
 

@@ -17,6 +17,7 @@ pub record HeldBoard : Type 0 where
   pub matches : ℕ
   pub senders : List DD.Sender
 
+-- rule 1.11: the board of these counts, senders and columns; its backoff table is the built-in one (rule 1.9)
 abbrev pub boardIn : Table → HeldBoard → Columns → MatchColumns → Board
 boardIn t b c m = record {
   messages = messagesFrom c 0 (b .messages);

@@ -1,5 +1,5 @@
--- The five lists that a host lends, and which part of which list is which column. A new column is one more part, behind
--- the others.
+-- The five lists that a host lends (rule 1.11), and which part of which list is which column. A new column is one more
+-- part, behind the others.
 use mathlib.Core.Path.{_≡_}
 use mathlib.Core.Bool.{Bool}
 use mathlib.Core.List.{List, [], _∷_}
@@ -44,6 +44,7 @@ keysLen = 1024
 abbrev pub centsLen : ℕ
 centsLen = 1024
 
+-- rule 1.11
 pub record Lists : Type 0 where
   pub board : List ℕ
   pub bytes : List ℕ
@@ -87,7 +88,7 @@ columnsIn l =
 abbrev pub matchesIn : Lists → MatchColumns
 matchesIn l = matchesOf (chordsIn (l .bytes)) (membersIn (l .links))
 
--- 01's "1,024 records": the lists that hold messages and matches are of their lengths
+-- rules 1.11 and 6.2: the lists that hold messages and matches are of their lengths
 unfoldable pub listsOk : Lists → Bool
 listsOk l =
     allOf

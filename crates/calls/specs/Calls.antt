@@ -1,4 +1,4 @@
--- What a public call says and leaves, for any table and any lists.
+-- What a public call says and leaves, for any table and any lists (rules 6.1 to 6.7).
 use mathlib.Core.Path.{_≡_}
 use mathlib.Core.Logic.{_≢_}
 use mathlib.Core.List.{List}
@@ -13,10 +13,10 @@ use Rattle.plays.specs.Replays.{CallRows, Replays}
 -- call k on l says w and leaves l′
 pub record Calls (s : List ℕ) (l : Lists) (k : Call) (w : Said) (l′ : Lists) : Type 0 where
   pub plays : Plays s (heldIn l) k w (heldIn l′)
-  -- a refused call leaves every list as found, also lists that hold no board
+  -- rule 6.1: a refused call leaves every list as it was, also lists that hold no board
   pub keeps : numberOf w ≢ 0 → l′ ≡ l
 
--- a replay of the calls c on l answers f, leaves l′, and turns the lent answers from before to after
+-- rule 6.7: a replay of the calls c on l answers f, leaves l′, and turns the lent answers from before to after
 pub record Replays-in (s : List ℕ) (l : Lists) (c : CallRows) (before after : List ℕ) (f : ℕ) (l′ : Lists)
     : Type 0 where
   pub replays : Replays s (heldIn l) c before after f (heldIn l′)

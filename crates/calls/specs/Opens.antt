@@ -1,4 +1,4 @@
--- The numbers of an empty board: no messages, no matches, every sender idle; the other lists may hold anything.
+-- Open (rule 6.3): the numbers of an empty board (rule 1.10); the other lists may hold anything.
 use mathlib.Core.Bool.{false}
 use mathlib.Core.List.{List}
 use Prim.Native.Nat.{ℕ}
@@ -15,9 +15,10 @@ use Rattle.calls.specs.Reads.{answered}
 abbrev pub freshBoard : HeldBoard
 freshBoard = record { messages = 0; matches = 0; senders = replicate 32 freshSender }
 
--- the table's refusal, then 30 for numbers of another length than a board's
+-- rule 6.3: the table's refusal, then 30 for numbers of another length than a board's
 unfoldable pub openNumber : List ℕ → List ℕ → ℕ
 openNumber s board = firstOf (tableRefusal s) (unless (eqb (length board) boardLen) 30 0)
 
+-- rule 6.3: the board's list after it, as it was where refused
 unfoldable pub openedNumbers : List ℕ → List ℕ → List ℕ
 openedNumbers s board = answered (openNumber s board) (boardNumbers freshBoard) board

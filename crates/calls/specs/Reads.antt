@@ -1,4 +1,4 @@
--- What the reads answer: the refusal, and what is read where there is none.
+-- What the reads answer (rule 6.6): the refusal, and what is read where there is none.
 use mathlib.Core.Bool.{Bool, false}
 use mathlib.Core.List.{List}
 use Prim.Native.Nat.{ℕ, zero, suc}
@@ -16,25 +16,26 @@ answered zero x z = x
 answered (suc f) x z = z
 
 module _ (s : List ℕ) (h : Held) where
+  -- rules 5.6 and 6.6
   unfoldable pub quietAnswer : Bool
   quietAnswer = answered (refusalOf s h) (quiet (boardOf s h)) false
 
-  -- 8: no such sender
+  -- rule 6.6, 8: no such sender
   unfoldable pub replyNumber : ℕ → ℕ
   replyNumber i = firstOf (refusalOf s h) (unless (ltb i 32) 8 0)
 
-  -- the match plus 1, 0 for none, which is no refusal
+  -- rule 6.6: the match plus 1, 0 for none
   unfoldable pub replyAnswer : ℕ → ℕ
   replyAnswer i = answered (replyNumber i) (senderAt (boardOf s h) i .reply) 0
 
-  -- 14: no such message
+  -- rule 6.6, 14: no such message
   unfoldable pub messageNumber : ℕ → ℕ
   messageNumber n = firstOf (refusalOf s h) (unless (ltb n (h .board .messages)) 14 0)
 
   unfoldable pub messageAnswer : ℕ → Message
   messageAnswer n = answered (messageNumber n) (messageAt (boardOf s h) n) noMessage
 
-  -- 15: no such match
+  -- rule 6.6, 15: no such match
   unfoldable pub matchNumber : ℕ → ℕ
   matchNumber k = firstOf (refusalOf s h) (unless (ltb k (h .board .matches)) 15 0)
 

@@ -1,4 +1,4 @@
--- The next chord that names a channel, as a number that is never over the number of chords.
+-- The next chord that names a channel (rule 4.1), as a number that is never over the number of chords.
 -- The model's own may be over it, where the search starts there.
 use Prim.Native.Nat.{ℕ}
 use lib.Dec.{ltb}

@@ -47,6 +47,7 @@ tableFor t = record {
   «chords_len» = length (t .chords);
 }
 
+-- rule 2.6: what a read answers
 unfoldable pub tableRead : List ℕ → DR.Read
 tableRead s = record {
   number = tableRefusal s;

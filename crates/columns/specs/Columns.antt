@@ -1,4 +1,4 @@
--- The lent messages, a list for each field, as the model's messages (01: "The host lends the list of items").
+-- The lent messages, a list for each field, as the model's messages (rule 1.11).
 use mathlib.Core.List.{List, [], _∷_}
 use mathlib.Core.Path.{_≡_}
 use Prim.Native.Nat.{ℕ, zero, suc, _<_, _≤_}
@@ -14,7 +14,7 @@ pub record Columns : Type 0 where
   pub matched : List ℕ
   pub wakers : List ℕ
 
--- a byte over 3 is no status: a board with one is not sound
+-- rule 1.4, by a byte; one over 3 is no status, and refused 30 (rule 6.2)
 abbrev pub statusOf : ℕ → Status
 statusOf zero = pending
 statusOf (suc zero) = claimed

@@ -1,4 +1,4 @@
--- The first number that passes a test, and the tests that a look makes of a message's number.
+-- The first number that passes a test, and the tests that a look makes of a message's number (rules 4.2 and 4.3).
 use mathlib.Core.Bool.{Bool, true, false, _&&_, _||_, not}
 use mathlib.Core.List.{List}
 use Prim.Native.Nat.{ℕ, zero, suc}

@@ -1,5 +1,5 @@
--- The lent matches, flat, as the model's matches: a chord a match, and eight message numbers a match, of which those
--- past the chord's size may hold anything.
+-- The lent matches, flat, as the model's matches (rules 1.5 and 1.11): a chord a match, and eight message numbers a
+-- match, of which those past the chord's size may hold anything.
 use mathlib.Core.List.{List}
 use Prim.Native.Nat.{ℕ, _*_}
 use lib.ListN.{getD, take, drop}

@@ -15,7 +15,7 @@ fn hands() {
     );
 }
 
-// Sender 0 in another phase at chord 0, where the message in hand wakes.
+// Sender 0 in another phase at chord 0, where the subject wakes.
 fn waking() {
     sound::lines(
         b"look 0|d 0 8 0 0 0;x 0\n\
@@ -42,7 +42,7 @@ fn waking() {
     );
 }
 
-// Sender 0 in another phase at chord 1, which names no waiting channel.
+// Sender 0 in another phase at chord 1, which names no synchronous channel.
 fn leaving() {
     sound::lines(
         b"rule 1, claim|d 0 7 1 1 0 0 0 0 0 5;x 0\n\
@@ -55,7 +55,7 @@ fn leaving() {
     );
 }
 
-// Sender 2 in another phase, with a message of a waiting channel in hand.
+// Sender 2 in another phase, with a subject of a synchronous channel.
 fn telling() {
     sound::lines(
         b"consume 0|d 2 8 3 0 1;x 2\n\

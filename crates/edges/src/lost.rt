@@ -41,7 +41,7 @@ fn second() {
     );
 }
 
-// A claim lost, and the message in hand consumed before the pass ends.
+// A claim lost, and the subject consumed before the pass ends (rules 4.5 and 4.9).
 fn third() {
     say::text(b"hand consumed by then\n");
     acts::section(

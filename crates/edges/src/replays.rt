@@ -1,4 +1,4 @@
-// Lists of calls: rows that do not fit, too little room for the answers, and 01's run of table P.
+// Lists of calls (rule 6.7): rows that do not fit, too little room for the answers, and the run of table P.
 ghost use Prim.Native.Nat.{_≤_};
 use crate::acts;
 use crate::lists::*;

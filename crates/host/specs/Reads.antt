@@ -1,4 +1,4 @@
--- Reads, given as numbers in a lent slice.
+-- Reads (rule 6.6), given as numbers in a lent slice.
 use mathlib.Core.List.{List, [], _∷_, _++_, map}
 use Prim.Native.Nat.{ℕ}
 use lib.Dec.{leb}
@@ -72,7 +72,7 @@ ofQuiet = record {
 }
 
 module _ (s : List ℕ) (h : Held) (q : Reading) (before : List ℤ) where
-  -- the read's own refusal, then 31 for a slice that is too short
+  -- rule 6.6's refusal, then 31 for a slice that is too short
   unfoldable pub readNumber : ℕ
   readNumber = firstOf (q .number s h) (unless (leb (q .size) (length before)) 31 0)
 

@@ -21,7 +21,7 @@ row r s = record { line = bytes s; read = r }
 abbrev step0 : ℕ → Line → Sample
 step0 zeros r = record { line = bytes "s " ++ replicate zeros 48; read = r }
 
--- what is read: 01's calls, `-0`, leading zeros, the most of each field, 80 bytes
+-- rule 8.3, what is read: both calls, `-0`, leading zeros, the most of each field, 80 bytes
 abbrev readable : List Sample
 readable =
     row (reads (send 0 1 7 0)) "a 0 1 7 0" ∷
@@ -34,7 +34,7 @@ readable =
     row (reads (steps 65535)) "s 0000000000000000000000065535" ∷
     step0 78 (reads (steps 0)) ∷ []
 
--- what is not: fields too few, too many or empty, signs, other bytes, one more than the most, 19 digits, 81 bytes
+-- and what is not: fields too few, too many or empty, signs, other bytes, one more than the most, 19 digits, 81 bytes
 abbrev unread : List String
 unread =
     "" ∷ "a" ∷ "s" ∷ "s " ∷ " s 1" ∷ "s  1" ∷ "s 1 " ∷ "s 1 2" ∷ "ss 1" ∷ "S 1" ∷ "1" ∷
@@ -51,7 +51,7 @@ pub line-samples : map (λ x. lineOf (x .line)) samples ≡ map (λ x. x .read) 
 unfolding lineOf cutAt isDecimal isNumber digitsOf isCents centsFrom addOf stepOf
 line-samples = refl
 
--- "a line feed that ends the input starts no further line"
+-- rule 8.2: with bytes after the last line feed, and without
 abbrev inputs : List String
 inputs = "" ∷ "\n" ∷ "s 0\ns 1" ∷ "s 0\ns 1\n" ∷ "\n\ns 0" ∷ []
 

@@ -13,7 +13,7 @@ pub sample-numbers : map (λ x. mergeWriteRefusal (x .first) (x .second) (x .map
 unfolding opened mergedTable mapOk countsFit mergeRefusal mergeWriteRefusal tableBytes
 sample-numbers = refl
 
--- bytes past the table are kept
+-- rule 2.7: the buffer stays past the table
 pub two-P : mergeWritten tableP tableP (0 ∷ 255 ∷ []) (replicate 29 7) ≡ twoP ++ (7 ∷ 7 ∷ [])
 unfolding opened mergedTable mapOk countsFit mergeRefusal mergeWriteRefusal mergeWritten tableBytes
 two-P = refl

@@ -1,4 +1,4 @@
--- Demand 3: for every accepted table, every rest table and every list of calls.
+-- Demand 3: for every accepted table, every backoff table and every list of calls.
 use mathlib.Core.Path.{_≡_, refl, ap, sym, _∙_, subst, subst⁻¹}
 use mathlib.Core.Logic.{_≢_, _⊎_, inl, inr}
 use mathlib.Core.Bool.{false, true, Bool}

@@ -26,7 +26,7 @@ module _ (t : Table) (h channel from : ℕ) (retry : Bool) (k : ℕ) (P : Job �
   unfolding passFrom
   pass-by = start-by (ltb (naming t channel from) (length (t .chords))) refl
 
--- an asynchronous sender goes idle; a synchronous one takes its waker in hand, goes idle with its match, or blocks
+-- an asynchronous sender goes idle; a synchronous one begins a job about its waker, goes idle with its match, or blocks
 module _ (t : Table) (is : List Message) (d : Sender) (h : ℕ) where
   abbrev pub OwnSync : Bool → Type 0
   OwnSync u = isSync t (getD is (d .own - 1) noMessage .sent .channel) ≡ u

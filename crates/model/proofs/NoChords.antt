@@ -162,12 +162,12 @@ empty-none rests = (refl, all-idle 32)
     all-idle (suc n) zero = tt
     all-idle (suc n) (suc j) = all-idle n j
 
--- "R=0"
+-- rule 2.2: R is 0
 pub no-chords-read : (s : List ℕ) → countR s ≡ 0 → tableOf s .chords ≡ []
 unfolding tableOf
 no-chords-read s e = ap (λ (n : ℕ). chordsFrom n (chordBytes s) (memberBytes s)) e
 
--- "nothing ever matches"
+-- no schedule matches
 pub no-chord-no-match : (t : Table) (rests : List ℕ) (cs : List Call)
     → t .chords ≡ []
     → boardAfter t rests cs .matches ≡ []

@@ -1,5 +1,5 @@
--- The samples computed: 01's (M) items as one theorem over the table of them, its printed run of table P, and runs of
--- retries. Each is closed, so that its two sides are the same once the definitions are unfolded.
+-- The samples computed: one theorem over the table of them, the run of table P, and runs of retries. Each is closed, so
+-- that its two sides are the same once the definitions are unfolded.
 use mathlib.Core.Path.{_≡_, refl}
 use mathlib.Core.List.{map}
 use Prim.Native.Nat.{ℕ}

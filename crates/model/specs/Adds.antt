@@ -1,4 +1,4 @@
--- An add: its refusals, and the board after an accepted one.
+-- An add (rule 6.4): its refusals, and the board after an accepted one.
 use mathlib.Core.Bool.{Bool, false}
 use mathlib.Core.List.{List, _++_, _∷_, []}
 use Prim.Native.Nat.{suc, ℕ}
@@ -10,12 +10,12 @@ use Rattle.model.specs.Tables.{Table}
 use Rattle.model.specs.Boards.{Board, Sent, isIdle, senderAt, Message, pending, Sender, working}
 use Rattle.model.specs.Jobs.{newPass}
 
--- "cents (signed, -999,999,999,999 to 999,999,999,999)"
+-- rule 1.4: cents in range
 abbrev pub centsOk : ℤ → Bool
 centsOk (pos a) = leb a 999999999999
 centsOk (negsuc a) = ltb a 999999999999
 
--- "desk 32 or more", "desk not idle", "tray T or more", "cents out of range", "1,024 items accepted"
+-- rule 6.4: no such sender, not idle, no such channel, cents not in range, no room
 unfoldable pub addRefusal : Table → Board → ℕ → Sent → ℕ
 addRefusal t b i x =
     unless (ltb i 32) 8
@@ -24,14 +24,16 @@ addRefusal t b i x =
     (unless (centsOk (x .cents)) 11
     (unless (ltb (length (b .messages)) 1024) 12 0))))
 
+-- rule 6.4
 abbrev pub newMessage : Sent → Message
 newMessage x = record { sent = x; status = pending; match = 0; waker = 0 }
 
--- "clears the desk's slip and waker and begins a job"
+-- rule 6.4: its own message n and a job about it, and nothing else
 abbrev pub newSender : Table → List Message → ℕ → Sender
 newSender t is n =
     record { state = working (newPass t is n 0); signalled = false; own = suc n; waker = 0; reply = 0; matched = 0 }
 
+-- rule 6.4: the message gets the next number
 unfoldable pub added : Table → Board → ℕ → Sent → Board
 added t b i x =
     let is = b .messages ++ (newMessage x ∷ []) in

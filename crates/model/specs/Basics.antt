@@ -27,13 +27,12 @@ abbrev pub firstBy : (ℕ → Bool) → List ℕ → ℕ
 firstBy f [] = 0
 firstBy f (m ∷ ms) = elim (f m) [ true ↦ 0 | false ↦ suc (firstBy f ms) ]
 
--- 01, "Refused, by place": "In the order checked". Refusal n unless the test holds, else what is checked next; 0 is no
--- refusal.
+-- rule 6.1: refusal n unless the test holds, else what is tested next; 0 is no refusal
 abbrev pub unless : Bool → ℕ → ℕ → ℕ
 unless true n next = next
 unless false n next = n
 
--- the first refusal, or the second where there is no first
+-- rule 6.1: the first refusal, or the second where there is no first
 abbrev pub firstOf : ℕ → ℕ → ℕ
 firstOf zero next = next
 firstOf (suc n) next = suc n

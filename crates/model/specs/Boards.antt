@@ -1,5 +1,5 @@
--- Messages, matches, senders and the board (01: items, matches, desks). Numbers that may be missing are kept plus 1, 0
--- for none.
+-- Messages, matches, senders and the board (rules 1.4 to 1.10). Numbers that may be missing are kept plus 1, 0 for
+-- none.
 use mathlib.Core.Bool.{Bool, true, false, _&&_}
 use mathlib.Core.List.{List, [], _∷_}
 use lib.IntN.{ℤ, pos, _+ℤ_}
@@ -9,30 +9,31 @@ use lib.ListN.{getD, length, replicate}
 use Rattle.model.specs.Basics.{allOf, every}
 use Rattle.model.specs.Tables.{Table}
 
+-- rule 1.4
 pub data Status : Type 0 where
   pending claimed woken consumed : Status
 
--- what a sender hands over: "a tray, a property number (u32, any value), cents"
+-- rule 1.4: what a sender hands over
 pub record Sent : Type 0 where
   pub channel : ℕ
   pub property : ℕ
   pub cents : ℤ
 
--- 01's item. It notes the match that consumed it and the subject that woke it (its waker).
+-- rule 1.4. It notes the match that consumed it and the subject that woke it (its waker).
 pub record Message : Type 0 where
   pub sent : Sent
   pub status : Status
   pub match : ℕ
   pub waker : ℕ
 
--- a fired chord, with its messages "in member order"
+-- rule 1.5: a fired chord, with its messages in the order of its members
 pub record Match : Type 0 where
   pub chord : ℕ
   pub messages : List ℕ
 
--- Where a job is. The first number of a phase is its place: the member that the next step is about, or for backoff the
--- rests after that one. revert has the number of claims made beside it, consume the match plus 1. pass-end: "When the
--- rules run out".
+-- rule 1.8: where a job is. The first number of a phase is its place: the member that the next step is about, or for
+-- backoff the rests after that one. revert has the number of claims made beside it, consume the match plus 1. pass-end:
+-- there is no further chord (rule 4.9).
 pub data Phase : Type 0 where
   look : ℕ → Phase
   claim : ℕ → Phase
@@ -45,8 +46,8 @@ pub data Phase : Type 0 where
   pass-end : Phase
   backoff : ℕ → Phase
 
--- A sender's work on the subject, 01's item in hand. chosen: "A desk remembers up to eight chosen items, in member
--- order"; retry: 01's retry mark; retries: how often the job said `again`, at most 16.
+-- rule 1.8: a sender's work on its subject. chosen: in the order of the members; retry: the retry mark; retries: how
+-- often the job said `again`, counted up to 16.
 pub record Job : Type 0 where
   pub subject : ℕ
   pub chord : ℕ
@@ -55,12 +56,13 @@ pub record Job : Type 0 where
   pub retry : Bool
   pub retries : ℕ
 
+-- rule 1.7
 pub data State : Type 0 where
   idle : State
   working : Job → State
   blocked : State
 
--- 01's desk: its own message, its waker, its reply (01: slip), and the match that it made of its own message
+-- rule 1.7: its own message, its waker, its reply, and the match that it made of its own message
 pub record Sender : Type 0 where
   pub state : State
   pub signalled : Bool
@@ -69,7 +71,7 @@ pub record Sender : Type 0 where
   pub reply : ℕ
   pub matched : ℕ
 
--- backoffs: 01's rest table, the one that the board was opened with
+-- rule 1.6. backoffs: the backoff table (rule 1.9) that the board was opened with
 pub record Board : Type 0 where
   pub messages : List Message
   pub matches : List Match
@@ -100,24 +102,26 @@ senderAt b i = getD (b .senders) i idleSender
 abbrev pub channelOf : Board → ℕ → ℕ
 channelOf b n = messageAt b n .sent .channel
 
--- "An empty board has no items, matches or slips and every desk idle"
+-- rule 1.10, with this backoff table
 abbrev pub emptyBoard : List ℕ → Board
 emptyBoard rests = record { messages = []; matches = []; senders = replicate 32 idleSender; backoffs = rests }
 
--- "as the rest table says at k (from 1; beyond 16, at 16)"
+-- rule 1.9
 unfoldable pub builtinBackoffs : List ℕ
 builtinBackoffs =
     0 ∷ 1 ∷ 1 ∷ 2 ∷ 2 ∷ 4 ∷ 4 ∷ 8 ∷ 8 ∷ 16 ∷ 16 ∷ 16 ∷ 32 ∷ 32 ∷ 32 ∷ 32 ∷ []
 
+-- rule 4.10: the k-th entry, from 1
 unfoldable pub backoffAt : List ℕ → ℕ → ℕ
 backoffAt rests k = getD rests (k - 1) 0
 
--- request 4: a rest table that passes has sixteen entries, none over 64, none less than the one before
+-- rule 9.1: no entry less than the one before
 abbrev pub neverFalls : List ℕ → Bool
 neverFalls [] = true
 neverFalls (x ∷ []) = true
 neverFalls (x ∷ y ∷ ys) = leb x y && neverFalls (y ∷ ys)
 
+-- rule 9.1: sixteen entries, none over 64, and in order
 unfoldable pub backoffsPass : List ℕ → Bool
 backoffsPass rests = allOf (eqb (length rests) 16 ∷ every (λ k. leb k 64) rests ∷ neverFalls rests ∷ [])
 
@@ -139,7 +143,7 @@ isConsumed claimed = false
 isConsumed woken = false
 isConsumed consumed = true
 
--- "neither consumed nor woken"
+-- rule 4.9: neither consumed nor woken
 abbrev pub isOpen : Status → Bool
 isOpen pending = true
 isOpen claimed = true
@@ -151,11 +155,11 @@ isIdle idle = true
 isIdle (working w) = false
 isIdle blocked = false
 
--- what a message counts for in sums
+-- rule 1.5: what a message counts for in sums
 unfoldable pub amount : Table → Sent → ℤ
 amount t x = x .cents
 
--- "A match's cents are the sum of its items' cents": over the numbers of messages that were sent so
+-- rule 1.5: a match's cents, over the numbers of messages that were sent so
 abbrev pub centsOf : Table → (ℕ → Sent) → List ℕ → ℤ
 centsOf t sent [] = pos 0
 centsOf t sent (n ∷ ns) = amount t (sent n) +ℤ centsOf t sent ns

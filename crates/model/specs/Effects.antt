@@ -1,4 +1,4 @@
--- What a step says and does: a word of 01, the stepping sender anew, and at most one other change to the board.
+-- What a step says and does (rule 6.8): a word, the stepping sender anew, and at most one other change to the board.
 use mathlib.Core.Bool.{_&&_, _||_, not}
 use mathlib.Core.List.{List, [], _∷_, _++_, map}
 use Prim.Native.Nat.{ℕ, suc}
@@ -7,13 +7,12 @@ use lib.ListN.{getD, set}
 use Rattle.model.specs.Boards.{Status, pending, claimed, woken, consumed, Message, Match, Sender, Board}
 use Rattle.model.specs.Boards.{noMessage, isIdle}
 
--- "Each step answers one of the words in `code`, some with an item or match number"; an add answers `item N`; or the
--- refusal.
+-- the words of steps (rules 4.2 to 5.5) and of an add (rule 6.4), with a message's or match's number; or the refusal
 pub data Said : Type 0 where
   Item Looked Claimed Lost Reverted Matched Consumed Told Woke Freed Signalled Answered Refused : ℕ → Said
   Missed Again Ended Rested Resumed : Said
 
--- 01's refusal number; 0 where the call was accepted
+-- rule 6.1: the number that refuses; 0 where the call was accepted
 abbrev pub numberOf : Said → ℕ
 numberOf (Item n) = 0
 numberOf (Looked n) = 0
@@ -34,7 +33,7 @@ numberOf (Answered k) = 0
 numberOf Resumed = 0
 numberOf (Refused f) = f
 
--- the word, by its number: 0 item, 1 looked, .., 16 resumed; 17 refused
+-- rule 8.4: the word, by its number: 0 item, 1 looked, .., 16 resumed; 17 refused
 abbrev pub wordOf : Said → ℕ
 wordOf (Item n) = 0
 wordOf (Looked n) = 1
@@ -55,7 +54,7 @@ wordOf (Answered k) = 15
 wordOf Resumed = 16
 wordOf (Refused f) = 17
 
--- the item or match number beside the word; 0 where there is none
+-- rule 8.4: the message's or match's number beside the word; 0 where there is none
 abbrev pub valueOf : Said → ℕ
 valueOf (Item n) = n
 valueOf (Looked n) = n
@@ -76,11 +75,12 @@ valueOf (Answered k) = k
 valueOf Resumed = 0
 valueOf (Refused f) = 0
 
--- How one message turns. consumes has the match plus 1, wakes-by the waker.
+-- rule 6.8: how one message turns. consumes has the match plus 1, wakes-by the waker.
 pub data Turn : Type 0 where
   claims frees resumes : Turn
   consumes wakes-by : ℕ → Turn
 
+-- rules 4.4 to 4.7, and 5.5
 abbrev pub statusAfter : Turn → Status
 statusAfter claims = claimed
 statusAfter frees = pending
@@ -88,7 +88,7 @@ statusAfter (consumes m) = consumed
 statusAfter (wakes-by h) = woken
 statusAfter resumes = pending
 
--- "the item noting its match"
+-- rule 4.6: a consumed message notes its match
 abbrev pub matchAfter : Turn → ℕ → ℕ
 matchAfter claims m = m
 matchAfter frees m = m
@@ -96,7 +96,7 @@ matchAfter (consumes k) m = k
 matchAfter (wakes-by h) m = m
 matchAfter resumes m = m
 
--- "becomes woken and notes the hand as its waker"
+-- rule 4.7: a woken message notes its waker
 abbrev pub wakerAfter : Turn → ℕ → ℕ
 wakerAfter claims w = w
 wakerAfter frees w = w
@@ -112,27 +112,29 @@ turned τ x = record {
   waker = wakerAfter τ (x .waker);
 }
 
--- What a step does beside altering its own sender: nothing; message n turns; match m is recorded with the last claim,
--- of n; message n's sender is signalled.
+-- rule 6.8: what a step does beside altering its own sender: nothing; message n turns; match m is recorded with the
+-- last claim, of n; message n's sender is signalled.
 pub data Change : Type 0 where
   none : Change
   turn : ℕ → Turn → Change
   records : ℕ → Match → Change
   signals : ℕ → Change
 
+-- rule 6.8: one message at most
 unfoldable pub messagesAfter : Change → List Message → List Message
 messagesAfter none is = is
 messagesAfter (turn n τ) is = set is n (turned τ (getD is n noMessage))
 messagesAfter (records n m) is = set is n (turned claims (getD is n noMessage))
 messagesAfter (signals n) is = is
 
+-- rule 1.6: a match gets the next number
 unfoldable pub matchesAfter : Change → List Match → List Match
 matchesAfter none ms = ms
 matchesAfter (turn n τ) ms = ms
 matchesAfter (records n m) ms = ms ++ (m ∷ [])
 matchesAfter (signals n) ms = ms
 
--- "An item's signal is that of the desk, not idle, whose own item it is; without one .. none is set."
+-- rule 4.8: signalled if it is not idle and message n is its own
 abbrev pub signalledSender : ℕ → Sender → Sender
 signalledSender n d = record {
   state = d .state;
@@ -143,6 +145,7 @@ signalledSender n d = record {
   matched = d .matched;
 }
 
+-- rule 4.8
 unfoldable pub sendersAfter : Change → List Sender → List Sender
 sendersAfter none ds = ds
 sendersAfter (turn n τ) ds = ds
@@ -154,7 +157,7 @@ pub record Effect : Type 0 where
   pub change : Change
   pub sender : Sender
 
--- the board after the effect of a step of sender i
+-- rule 6.8: the board after the effect of a step of sender i
 unfoldable pub apply : Board → ℕ → Effect → Board
 apply b i e = record {
   messages = messagesAfter (e .change) (b .messages);

@@ -1,4 +1,4 @@
--- The claimed messages that a sender holds, read off its state (request 12).
+-- The claimed messages that a sender holds, read off its state (rule 9.1).
 use mathlib.Core.Path.{_≡_}
 use mathlib.Core.Logic.{_≢_}
 use mathlib.Core.List.{List}
@@ -9,10 +9,10 @@ use Rattle.model.specs.Boards.{Phase, look, claim, revert, consume, tell
 use Rattle.model.specs.Boards.{State, idle, working, blocked}
 use Rattle.model.specs.Steps.{skip}
 
--- The places of chord r that a job in this phase has claimed and has not yet put back, consumed, woken or freed; c
--- messages are chosen. A claim at k has claimed those before k. A revert at k has put back those before k, of the m
--- that were claimed; so has a consume consumed them. A job about to wake holds all; one that frees holds those from the
--- k-th place on other than the woken member's.
+-- rule 9.1: the places of chord r that a job in this phase has claimed and has not yet put back, consumed, woken or
+-- freed; c messages are chosen. A claim at k has claimed those before k. A revert at k has put back those before k, of
+-- the m that were claimed; so has a consume consumed them. A job about to wake holds all; one that frees holds those
+-- from the k-th place on other than the woken member's.
 abbrev pub Held-place : Table → ℕ → Phase → ℕ → ℕ → Type 0
 Held-place t r (look k) c j = ⊥
 Held-place t r (claim k) c j = j < k

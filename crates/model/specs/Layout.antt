@@ -1,4 +1,4 @@
--- Table bytes (01, "Table bytes"): refusals 1 to 7 in their order, the table read and written, a chord's channels as a
+-- Table bytes (rules 2.1 to 2.9): refusals 1 to 7 in their order, the table read and written, a chord's channels as a
 -- part.
 use mathlib.Core.Path.{_≡_}
 use mathlib.Core.Bool.{Bool, true, _&&_}
@@ -9,11 +9,11 @@ use lib.ListN.{length, getD, take, drop}
 use Rattle.model.specs.Basics.{allOf, pick, every, unless, firstOf}
 use Rattle.model.specs.Tables.{Chord, Table, chordAt}
 
--- "little endian .. u16": the i-th of the bytes s
+-- rule 2.1: the i-th number of the bytes s
 unfoldable pub word : ℕ → List ℕ → ℕ
 word i s = getD s (2 * i) 0 + 256 * getD s (2 * i + 1) 0
 
--- "Header of 12 bytes, six u16: trays T (1 to 16), rules R (0 to 32), members M (0 to 256), then the offsets"
+-- rule 2.2: how many channels, chords and members there are, and where chords and members begin
 abbrev pub countT : List ℕ → ℕ
 countT s = word 0 s
 
@@ -29,10 +29,11 @@ chordsStart T = 12 + T
 abbrev pub membersStart : ℕ → ℕ → ℕ
 membersStart T R = 12 + (T + 4 * R)
 
+-- rule 2.2, and refusal 2 of rule 2.6
 unfoldable pub countsOk : List ℕ → Bool
 countsOk s = allOf (leb 1 (countT s) ∷ leb (countT s) 16 ∷ leb (countR s) 32 ∷ leb (countM s) 256 ∷ [])
 
--- "the offsets of trays, rules and members, which must be 12, 12+T and 12+T+4R. The length is 12+T+4R+M."
+-- rule 2.2, and refusal 3 of rule 2.6
 unfoldable pub offsetsOk : List ℕ → Bool
 offsetsOk s =
     allOf
@@ -41,6 +42,7 @@ offsetsOk s =
     eqb (word 5 s) (membersStart (countT s) (countR s)) ∷
     eqb (length s) (membersStart (countT s) (countR s) + countM s) ∷ [])
 
+-- rule 2.2: the bytes from where channels, chords and members begin
 abbrev pub kindBytes : List ℕ → List ℕ
 kindBytes s = take (countT s) (drop 12 s)
 
@@ -50,28 +52,29 @@ chordBytes s = drop (chordsStart (countT s)) s
 abbrev pub memberBytes : List ℕ → List ℕ
 memberBytes s = drop (membersStart (countT s) (countR s)) s
 
--- "A tray is a byte: 0 leave, 1 waiting."
+-- rule 2.3, and refusal 4 of rule 2.6
 unfoldable pub kindsOk : List ℕ → Bool
 kindsOk ks = every (λ k. leb k 1) ks
 
--- "A rule is a u16 (its first member's index), a u8 (member count, 1 to 8) and a u8 (1: .. equal property numbers; 0:
--- any)."
+-- rule 2.4, and refusal 5 of rule 2.6: the four bytes of a chord whose members begin at next
 unfoldable pub chordOk : ℕ → List ℕ → Bool
 chordOk next s = allOf (eqb (word 0 s) next ∷ leb 1 (getD s 2 0) ∷ leb (getD s 2 0) 8 ∷ leb (getD s 3 0) 1 ∷ [])
 
--- "Each rule starts where the one before it ended"
+-- rule 2.4: each of n chords, from where the members before it end
 abbrev pub chordsOk : ℕ → ℕ → List ℕ → Bool
 chordsOk zero next s = true
 chordsOk (suc n) next s = chordOk next s && chordsOk n (next + getD s 2 0) (drop 4 s)
 
+-- rule 2.6, refusal 6: the sizes of n chords together
 abbrev pub membersSum : ℕ → List ℕ → ℕ
 membersSum zero s = 0
 membersSum (suc n) s = getD s 2 0 + membersSum n (drop 4 s)
 
+-- rule 2.5, and refusal 7 of rule 2.6
 unfoldable pub membersOk : ℕ → List ℕ → Bool
 membersOk T ms = every (λ m. ltb m T) ms
 
--- refusals 1 to 7; 0 for an accepted table
+-- rule 2.6: refusals 1 to 7; 0 for an accepted table
 unfoldable pub tableRefusal : List ℕ → ℕ
 tableRefusal s =
     unless (leb 12 (length s)) 1
@@ -82,17 +85,18 @@ tableRefusal s =
     (unless (eqb (membersSum (countR s) (chordBytes s)) (countM s)) 6
     (unless (membersOk (countT s) (memberBytes s)) 7 0))))))
 
--- n chords, from their bytes and the members' bytes
+-- rules 2.4 and 2.5: n chords, from their bytes and the members' bytes
 abbrev pub chordsFrom : ℕ → List ℕ → List ℕ → List Chord
 chordsFrom zero s ms = []
 chordsFrom (suc n) s ms =
     record { channels = take (getD s 2 0) ms; equal = eqb (getD s 3 0) 1 } ∷ chordsFrom n (drop 4 s)
     (drop (getD s 2 0) ms)
 
+-- rules 2.2 to 2.5: the table that accepted bytes are
 unfoldable pub tableOf : List ℕ → Table
 tableOf s = record { kinds = kindBytes s; chords = chordsFrom (countR s) (chordBytes s) (memberBytes s) }
 
--- "A rule's members are handed back as the part of the table bytes that holds them": where it starts, and its length
+-- rule 2.8: where a chord's part starts, and its length
 abbrev pub chordEntry : List ℕ → ℕ → List ℕ
 chordEntry s r = drop (chordsStart (countT s) + 4 * r) s
 
@@ -102,15 +106,15 @@ partStart s r = membersStart (countT s) (countR s) + word 0 (chordEntry s r)
 abbrev pub partSize : List ℕ → ℕ → ℕ
 partSize s r = getD (chordEntry s r) 2 0
 
--- the reader's numbers, then 32, "no such rule"
+-- rule 2.8: the reader's numbers, then 32, no such chord
 unfoldable pub chordRefusal : List ℕ → ℕ → ℕ
 chordRefusal s r = firstOf (tableRefusal s) (unless (ltb r (countR s)) 32 0)
 
--- empty when refused; an accepted chord has 1 to 8 channels, so this is no part of one
+-- rule 2.8: empty when refused; an accepted chord has 1 to 8 channels, so this is no part of one
 unfoldable pub chordPart : List ℕ → ℕ → List ℕ
 chordPart s r = pick (eqb (chordRefusal s r) 0) (take (partSize s r) (drop (partStart s r) s)) []
 
--- written: the bytes of a table
+-- rules 2.1 to 2.5 the other way: the bytes of a table
 abbrev pub two : ℕ → List ℕ
 two v = v % 256 ∷ (v / 256 ∷ [])
 
@@ -130,24 +134,25 @@ abbrev pub writtenHeader : ℕ → ℕ → ℕ → List ℕ
 writtenHeader T R M =
     two T ++ (two R ++ (two M ++ (two 12 ++ (two (chordsStart T) ++ two (membersStart T R)))))
 
+-- rule 2.7
 unfoldable pub tableBytes : Table → List ℕ
 tableBytes t =
     writtenHeader (length (t .kinds)) (length (t .chords)) (length (writtenMembers (t .chords))) ++
     (t .kinds ++ (writtenChords 0 (t .chords) ++ writtenMembers (t .chords)))
 
--- 31: "buffer shorter than the table, after the reader's numbers for what is to be written"
+-- rule 2.7: the reader's numbers for the bytes of the table, then 31 for a buffer that is shorter
 unfoldable pub writeRefusal : Table → List ℕ → ℕ
 writeRefusal t out = firstOf (tableRefusal (tableBytes t)) (unless (leb (length (tableBytes t)) (length out)) 31 0)
 
--- "bytes past the table are kept"; a refusal leaves the buffer as found
+-- rule 2.7: the buffer after it, as it was past the table; all of it as it was where refused
 unfoldable pub written : Table → List ℕ → List ℕ
 written t out = pick (eqb (writeRefusal t out) 0) (tableBytes t ++ drop (length (tableBytes t)) out) out
 
--- a chord that keeps them among T channels
+-- rule 1.2: one to eight members, each one of T channels
 unfoldable pub chordKeeps : ℕ → Chord → Bool
 chordKeeps T c = allOf (leb 1 (length (c .channels)) ∷ leb (length (c .channels)) 8 ∷ membersOk T (c .channels) ∷ [])
 
--- a table that keeps the layout's rules
+-- rules 1.1 to 1.3: a table that can be written
 unfoldable pub keepsLayout : Table → Bool
 keepsLayout t =
     allOf
@@ -161,7 +166,7 @@ keepsLayout t =
 abbrev pub allBytes : List ℕ → Bool
 allBytes s = every (λ b. ltb b 256) s
 
--- Demand 2: a table survives being written and read, both ways.
+-- rules 2.8 and 2.9: a table survives being written and read, both ways, and its chords' parts are their channels
 pub record Tables-survive : Type 0 where
   pub back : (s : List ℕ) → allBytes s ≡ true → tableRefusal s ≡ 0 → tableBytes (tableOf s) ≡ s
   pub there : (t : Table) → keepsLayout t ≡ true → (tableRefusal (tableBytes t) ≡ 0) × (tableOf (tableBytes t) ≡ t)

@@ -1,4 +1,4 @@
--- The program's lines (01, "The program's printout"), as bytes.
+-- The program's lines (rules 8.2 and 8.3), as bytes.
 use mathlib.Core.Bool.{Bool, false, _&&_}
 use mathlib.Core.List.{List, [], _∷_}
 use Prim.Native.Nat.{ℕ, _+_, _-_, _*_}
@@ -9,6 +9,7 @@ use Rattle.model.specs.Basics.{pick, every, allOf}
 use Rattle.model.specs.Pools.{Call}
 use Rattle.model.specs.Pools.Call.{adds, steps}
 
+-- rule 8.3
 pub data Line : Type 0 where
   unreadable : Line
   reads : Call → Line
@@ -23,22 +24,22 @@ unfoldable pub cutAt : ℕ → List ℕ → List (List ℕ)
 cutAt c [] = [] ∷ []
 cutAt c (x ∷ xs) = pick (eqb x c) ([] ∷ cutAt c xs) (joined x (cutAt c xs))
 
--- "A line ends at a line feed or the end of input; a line feed that ends the input starts no further line": what
--- follows the last line feed is a line unless it is empty.
+-- rule 8.2: what follows the last line feed is a line unless it is empty
 abbrev pub ended : List (List ℕ) → List (List ℕ)
 ended [] = []
 ended ([] ∷ []) = []
 ended ((x ∷ xs) ∷ []) = (x ∷ xs) ∷ []
 ended (s ∷ t ∷ ts) = s ∷ ended (t ∷ ts)
 
+-- rule 8.2
 abbrev pub linesOf : List ℕ → List (List ℕ)
 linesOf s = ended (cutAt 10 s)
 
--- "single spaces": two spaces together, or one at an end, leave an empty field, and that is no number.
+-- rule 8.3: two spaces together, or one at an end, leave an empty field, and that is no number
 abbrev pub fieldsOf : List ℕ → List (List ℕ)
 fieldsOf s = cutAt 32 s
 
--- "decimal": one digit or more. "Leading zeros [..] are read."
+-- rule 8.3: one digit or more, leading zeros among them
 abbrev pub isDigit : ℕ → Bool
 isDigit x = leb 48 x && leb x 57
 
@@ -53,29 +54,30 @@ valueFrom n (x ∷ xs) = valueFrom (10 * n + (x - 48)) xs
 abbrev pub digitsValue : List ℕ → ℕ
 digitsValue s = valueFrom 0 s
 
--- "Desk and tray are at most 65,535, property a u32"
+-- rule 8.3: a number up to the most that its field may be
 unfoldable pub isNumber : ℕ → List ℕ → Bool
 isNumber most s = isDecimal s && leb (digitsValue s) most
 
--- "cents at most 18 digits", leading zeros among them
+-- rule 8.3: up to 18 digits, leading zeros among them
 abbrev pub isMagnitude : List ℕ → Bool
 isMagnitude s = isDecimal s && leb (length s) 18
 
--- "Only cents may begin with a minus."
+-- rule 8.3: a minus, which is read before cents alone
 abbrev pub isMinus : List ℕ → Bool
 isMinus s = eqb (getD s 0 0) 45
 
 unfoldable pub digitsOf : List ℕ → List ℕ
 digitsOf s = pick (isMinus s) (drop 1 s) s
 
+-- rule 8.3
 unfoldable pub isCents : List ℕ → Bool
 isCents s = isMagnitude (digitsOf s)
 
--- "`-0`" is read, as 0.
+-- rule 8.3; `-0` is 0
 unfoldable pub centsFrom : List ℕ → ℤ
 centsFrom s = pick (isMinus s) (negℤ (pos (digitsValue (digitsOf s)))) (pos (digitsValue (digitsOf s)))
 
--- "`a DESK TRAY PROPERTY CENTS`", after the `a`
+-- rule 8.3: the fields after the `a`
 unfoldable pub addOf : List ℕ → List ℕ → List ℕ → List ℕ → Line
 addOf sender channel property cents =
     pick
@@ -96,7 +98,7 @@ addLine (d ∷ t ∷ p ∷ []) = unreadable
 addLine (d ∷ t ∷ p ∷ c ∷ []) = addOf d t p c
 addLine (d ∷ t ∷ p ∷ c ∷ e ∷ es) = unreadable
 
--- "`s DESK`", after the `s`
+-- rule 8.3: the field after the `s`
 unfoldable pub stepOf : List ℕ → Line
 stepOf sender = pick (isNumber 65535 sender) (reads (steps (digitsValue sender))) unreadable
 
@@ -111,11 +113,11 @@ isByte c [] = false
 isByte c (x ∷ []) = eqb x c
 isByte c (x ∷ y ∷ ys) = false
 
+-- rule 8.3, by the fields
 abbrev pub lineBy : List (List ℕ) → Line
 lineBy [] = unreadable
 lineBy (f ∷ fs) = pick (isByte 97 f) (addLine fs) (pick (isByte 115 f) (stepLine fs) unreadable)
 
--- The bytes of a line, without its line feed. "A line that does not read as one of these, or is over 80 bytes, prints
--- `refused 16`."
+-- rule 8.3: the bytes of a line, without its line feed; over 80 bytes are unreadable
 unfoldable pub lineOf : List ℕ → Line
 lineOf s = pick (leb (length s) 80) (lineBy (fieldsOf s)) unreadable

@@ -1,4 +1,4 @@
--- What a look chooses for a member of its chord, and when it marks a retry (01, "Look").
+-- What a look chooses for a member of its chord, and when it marks a retry (rules 4.2 and 4.3).
 use mathlib.Core.Bool.{Bool, not, _||_, _&&_, true, false}
 use mathlib.Core.List.{List, _∷_, []}
 use Prim.Native.Nat.{ℕ, suc}
@@ -7,14 +7,15 @@ use Rattle.model.specs.Basics.{allOf, isIn, firstBy, pick}
 use Rattle.model.specs.Tables.{Chord, Table, chordAt, channelAt}
 use Rattle.model.specs.Boards.{Sent, Message, isPending, isClaimed, Board, channelOf, Job, messageAt}
 
--- "with equal property numbers where wanted": whether a message like e fits beside one like s
+-- rule 1.2: a message like e fits beside one like s, by their properties if the chord wants one property
 unfoldable pub alike : Chord → Sent → Sent → Bool
 alike r s e = not (r .equal) || eqb (e .property) (s .property)
 
+-- rule 4.2: of the member's channel, and of the property of s if the chord wants one
 abbrev pub fits : Chord → ℕ → Sent → Message → Bool
 fits r channel s x = eqb (x .sent .channel) channel && alike r s (x .sent)
 
--- "pending item of its tray not yet chosen, with the hand's property number if the rule wants that"
+-- rule 4.2: message n fits, is pending and is not chosen yet
 abbrev pub isFree : Chord → ℕ → Sent → List ℕ → ℕ → Message → Bool
 isFree r channel s chosen n x = allOf (fits r channel s x ∷ isPending (x .status) ∷ not (isIn n chosen) ∷ [])
 
@@ -27,16 +28,15 @@ abbrev pub someMessage : (Message → Bool) → List Message → Bool
 someMessage f [] = false
 someMessage f (x ∷ xs) = f x || someMessage f xs
 
--- "if the tray has a claimed item that would fit, chosen or not"
+-- rule 4.3: a claimed message fits, chosen or not
 unfoldable pub someClaimed : Chord → ℕ → Sent → List Message → Bool
 someClaimed r channel s is = someMessage (λ x. fits r channel s x && isClaimed (x .status)) is
 
--- the member that the subject fills: "the first member of its tray"
+-- rule 4.2: the place of the member that the subject takes
 abbrev pub subjectPlace : Table → Board → ℕ → ℕ → ℕ
 subjectPlace t b h r = firstBy (eqb (channelOf b h)) (chordAt t r .channels)
 
--- "The item in hand fills the first member of its tray, whatever its status .. Any other member takes the
--- lowest-numbered pending item": what a look takes for member k, its number plus 1, 0 for none
+-- rule 4.2: what a look takes for member k, its number plus 1; 0 for none
 unfoldable pub choice : Table → Board → Job → ℕ → ℕ
 choice t b w k =
     pick (eqb (subjectPlace t b (w .subject) (w .chord)) k) (suc (w .subject))
@@ -44,7 +44,7 @@ choice t b w k =
     (isFree (chordAt t (w .chord)) (channelAt t (w .chord) k) (messageAt b (w .subject) .sent) (w .chosen)) 0
     (b .messages))
 
--- "If there is none: `missed` .. the retry mark is set"
+-- rule 4.3: the retry mark after a look that found none
 abbrev pub missedRetry : Table → Board → Job → ℕ → Bool
 missedRetry t b w k =
     w .retry || someClaimed (chordAt t (w .chord)) (channelAt t (w .chord) k) (messageAt b (w .subject) .sent)

@@ -1,4 +1,5 @@
--- Orders that 01 fixes, as types: an add's refusals, "In the order checked", and the rests of a job's retries.
+-- Orders that the rules fix, as types: of an add's refusals (rules 6.1 and 6.4), and of the rests of a job's retries
+-- (rule 4.10).
 use mathlib.Core.Path.{_≡_}
 use mathlib.Core.Bool.{true, false, _&&_}
 use mathlib.Core.List.{map, [], _∷_}
@@ -13,7 +14,7 @@ use Rattle.model.specs.Jobs.{inJob}
 use Rattle.model.specs.Steps.{more, pass-end-step, restsThen}
 use Rattle.model.specs.Adds.{addRefusal}
 
--- each number where its ground holds and none before it, whatever comes after
+-- rules 6.1 and 6.4: each number where its ground holds and none before it, whatever comes after
 pub record Add-order (t : Table) (b : Board) (i : ℕ) (x : Sent) : Type 0 where
   pub no-sender : 32 ≤ i → addRefusal t b i x ≡ 8
   pub not-idle : i < 32 → isIdle (senderAt b i .state) ≡ false → addRefusal t b i x ≡ 9
@@ -44,9 +45,10 @@ abbrev pub times : ℕ → ℕ
 times zero = 0
 times (suc k) = more (times k)
 
+-- rules 1.9 and 4.10
 pub record Backoffs-in-order : Type 0 where
   pub times-is : (k : ℕ) → times k ≡ min k 16
-  -- one more `again` of such a job: "as the rest table says at k (from 1; beyond 16, at 16)"
+  -- one more `again` of such a job: the k-th entry, and from the sixteenth on that one
   pub rests : (t : Table) (b : Board) (d : Sender) (w : Job) (k : ℕ)
       → w .retries ≡ times k
       → (w .retry && isOpen (messageAt b (w .subject) .status)) ≡ true

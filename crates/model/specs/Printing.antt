@@ -1,4 +1,4 @@
--- The program's printout: answers, matches and items not consumed as lines of bytes, and the last line.
+-- The program's printout (rules 8.4 and 8.5): answers, matches and open messages as lines of bytes, and the last line.
 use mathlib.Core.Bool.{Bool, true, false}
 use mathlib.Core.List.{List, [], _∷_, _++_}
 use Prim.Native.Nat.{ℕ, zero, suc, _+_, _/_, _%_}
@@ -58,7 +58,7 @@ alone s = record { text = bytes s; numbered = false }
 abbrev pub named : String → Word
 named s = record { text = bytes s; numbered = true }
 
--- the words in the order of `wordOf`
+-- rule 8.4: the words in the order of `wordOf`
 unfoldable pub words : List Word
 words =
     named "item" ∷ named "looked" ∷ alone "missed" ∷ named "claimed" ∷ named "lost" ∷ named "reverted" ∷
@@ -68,14 +68,15 @@ words =
 abbrev pub wordAt : ℕ → Word
 wordAt n = getD words n (alone "")
 
--- the number beside the word: the refusal's, or the item's or match's
+-- rule 8.4: the number beside the word, the refusal's, or the message's or match's
 abbrev pub numberBeside : Said → ℕ
 numberBeside s = firstOf (numberOf s) (valueOf s)
 
+-- rule 8.4: the word, and its number where it has one
 abbrev pub wordLine : Word → ℕ → List ℕ
 wordLine w n = w .text ++ (pick (w .numbered) (spaced n) [] ++ feed)
 
--- "Printed, a line each"
+-- rule 8.4
 abbrev pub answerLine : Said → List ℕ
 answerLine s = wordLine (wordAt (wordOf s)) (numberBeside s)
 
@@ -91,7 +92,7 @@ centsText = bytes " cents "
 abbrev pub itemsText : List ℕ
 itemsText = bytes " items"
 
--- "A match line gives number, rule, cents, and items in member order."
+-- rule 8.5: `match K rule R cents C items N ..`
 abbrev pub matchLine : ℕ → MatchRead → List ℕ
 matchLine k m =
     matchText ++ (spaced k ++
@@ -99,7 +100,7 @@ matchLine k m =
     (centsText ++ (signed (m .cents) ++
     (itemsText ++ (spacedAll (m .messages) ++ feed)))))))
 
--- a consumed item has no line
+-- rule 8.5; a consumed message has no line
 abbrev pub statusText : Status → List ℕ
 statusText pending = bytes "pending"
 statusText claimed = bytes "claimed"
@@ -109,11 +110,11 @@ statusText consumed = []
 abbrev pub openText : List ℕ
 openText = bytes "open"
 
--- "then items not consumed (`open N status`)"
+-- rule 8.5: `open N STATUS`
 abbrev pub openLine : ℕ → Status → List ℕ
 openLine n s = openText ++ (spaced n ++ (32 ∷ (statusText s ++ feed)))
 
--- "then `quiet yes` or `quiet no`"
+-- rule 8.5: the last line
 abbrev pub quietLine : Bool → List ℕ
 quietLine true = bytes "quiet yes" ++ feed
 quietLine false = bytes "quiet no" ++ feed

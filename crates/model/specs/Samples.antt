@@ -1,5 +1,5 @@
--- 01's "Edge items" marked (M), as a table of samples, its printed run, and runs of retries: bytes, calls, and what 01
--- says of them. That without chords nothing ever matches is about every schedule, and so a theorem of its own
+-- The rules at their edges, as a table of samples; the run of table P, and runs of retries: bytes, calls, and what the
+-- rules say of them. That a table without chords gives no match is about every schedule, and so a theorem of its own
 -- (proofs/NoChords).
 use mathlib.Core.Path.{_≡_}
 use mathlib.Core.Bool.{Bool, true}
@@ -46,17 +46,17 @@ readAs s n = record { table = s; calls = []; refusal = n; said = [] }
 abbrev pub runAs : List ℕ → List Call → List Said → Sample
 runAs s cs said = record { table = s; calls = cs; refusal = 0; said = said }
 
--- 01's line `a DESK TRAY PROPERTY CENTS`
+-- rule 8.3: the call of a line `a`
 abbrev pub send : ℕ → ℕ → ℕ → ℕ → Call
 send i channel property cents = adds i (record { channel = channel; property = property; cents = pos cents })
 
--- the same with CENTS below 0
+-- the same with cents below 0
 abbrev pub sendBack : ℕ → ℕ → ℕ → ℕ → Call
 sendBack i channel property cents = adds i (record { channel = channel; property = property; cents = negℤ (pos cents) })
 
 -- Tables
 
--- "Table P, hexadecimal: 02 00 01 00 02 00 0C 00 0E 00 12 00 00 01 00 00 02 01 00 01."
+-- table P: channel 0 asynchronous, channel 1 synchronous, and a chord of both that wants one property
 abbrev pub tableP : List ℕ
 tableP =
     0x02 ∷ 0x00 ∷ 0x01 ∷ 0x00 ∷ 0x02 ∷ 0x00 ∷ 0x0C ∷ 0x00 ∷ 0x0E ∷ 0x00 ∷ 0x12 ∷ 0x00 ∷
@@ -86,8 +86,8 @@ repeating T n =
 
 -- Schedules
 
--- "Input: `a 0 1 7 0`; `s 0` three times; `a 1 0 7 5000`; `s 1` seven times; `s 0` eight times", with the property of
--- message 1 left open
+-- Sender 0 blocks on message 0, of the synchronous channel; sender 1 adds message 1 and wakes it, and sender 0 matches.
+-- The property of message 1 is left open.
 abbrev pub scheduleFor : ℕ → List Call
 scheduleFor property =
     send 0 1 7 0 ∷ replicate 3 (steps 0) ++ send 1 0 property 5000 ∷ replicate 7 (steps 1) ++ replicate 8 (steps 0)
@@ -95,7 +95,7 @@ scheduleFor property =
 abbrev pub scheduleP : List Call
 scheduleP = scheduleFor 7
 
--- The run of P: "Printed, a line each", then "match 0 rule 0 cents 5000 items 1 0 / quiet yes", and no `open` line
+-- The run of P, as it is printed (rules 8.4 and 8.5): the answers, one match, no message left, quiet
 
 pub record Shown : Type 0 where
   pub said : List Said
@@ -139,8 +139,8 @@ saidContended =
     Looked 2 ∷ Looked 0 ∷ Claimed 1 ∷ Claimed 2 ∷ Matched 0 ∷ Lost 0 ∷ Reverted 1 ∷ Again ∷ Looked 1 ∷ Missed ∷ Again ∷
     Consumed 2 ∷ Consumed 0 ∷ Told 0 ∷ Answered 0 ∷ Rested ∷ Refused 8 ∷ []
 
--- "as the rest table says at k (from 1; beyond 16, at 16)". Sender 1 holds message 1 claimed and is left there, so that
--- each pass of sender 2 misses it and says `again`: seventeen retries, and the first step of the pass after them
+-- rule 4.10: sender 1 holds message 1 claimed and is left there, so that each pass of sender 2 misses it and says
+-- `again`: seventeen retries, and the first step of the pass after them
 abbrev pub retrying : ℕ → List Call
 retrying n = send 0 1 7 0 ∷ send 1 0 7 0 ∷ replicate 3 (steps 1) ++ send 2 1 7 0 ∷ replicate n (steps 2)
 
@@ -151,7 +151,7 @@ passes (k ∷ ks) = Missed ∷ Again ∷ replicate k Rested ++ passes ks
 abbrev pub saidRetrying : List ℕ → List Said
 saidRetrying rests = Item 0 ∷ Item 1 ∷ Looked 1 ∷ Looked 0 ∷ Claimed 1 ∷ Item 2 ∷ passes rests ++ Missed ∷ []
 
--- a rest table that never gives the same twice
+-- a backoff table that never gives the same twice
 abbrev pub rising : List ℕ
 rising = 0 ∷ 1 ∷ 2 ∷ 3 ∷ 4 ∷ 5 ∷ 6 ∷ 7 ∷ 8 ∷ 9 ∷ 10 ∷ 11 ∷ 12 ∷ 13 ∷ 14 ∷ 15 ∷ []
 
@@ -161,7 +161,7 @@ pub record Retries-rest : Type 0 where
   pub by-rising : saidWith rising (tableOf tableP) (retrying 170)
       ≡ saidRetrying (0 ∷ 1 ∷ 2 ∷ 3 ∷ 4 ∷ 5 ∷ 6 ∷ 7 ∷ 8 ∷ 9 ∷ 10 ∷ 11 ∷ 12 ∷ 13 ∷ 14 ∷ 15 ∷ 15 ∷ [])
 
--- The (M) items
+-- The table of samples
 
 abbrev pub oneMessage : List Call
 oneMessage = send 0 0 7 0 ∷ replicate 3 (steps 0)
@@ -174,31 +174,31 @@ saidOne = Item 0 ∷ Looked 0 ∷ Missed ∷ Ended ∷ []
 
 abbrev pub samples : List Sample
 samples =
-    -- "P accepted"
+    -- rule 2.6: accepted
     readAs tableP 0 ∷
-    -- "P less its last byte: 3"
+    -- rule 2.6: 3, one byte short
     readAs (take 19 tableP) 3 ∷
-    -- "11 bytes: 1"
+    -- rule 2.6: 1, of 11 bytes
     readAs (take 11 tableP) 1 ∷
-    -- "T=17: 2"
+    -- rule 2.6: 2, with 17 channels
     readAs (repeating 17 2) 2 ∷
-    -- "R=0 with M=0 accepted, nothing ever matches"
+    -- rules 1.3 and 4.9: no chords, and the first step ends the job
     runAs chordlessTable (send 0 0 7 0 ∷ steps 0 ∷ []) (Item 0 ∷ Ended ∷ []) ∷
-    -- "a rule byte count of 9: 5"
+    -- rule 2.6: 5, a chord of nine members
     readAs (repeating 1 9) 5 ∷
-    -- and the most that is taken: "T (1 to 16)", "member count, 1 to 8"
+    -- rules 2.2 and 2.4: the most channels, and the most members of a chord
     readAs (repeating 16 8) 0 ∷
-    -- "item 1 with property 8 in the run above: `looked 1`, `missed`, `ended`"
+    -- rules 4.2 and 4.3: in the run of P, a message of another property does not fit
     runAs tableP (scheduleFor 8)
     (Item 0 ∷ Missed ∷ Ended ∷ Refused 13 ∷ Item 1 ∷ Looked 1 ∷ Missed ∷ Ended ∷ replicate 12 (Refused 13)) ∷
-    -- "cents 999,999,999,999 taken, one more: 11"
+    -- rules 1.4 and 6.4: the most cents, and 11 for one more
     runAs tableP (send 0 0 7 999_999_999_999 ∷ send 1 0 7 1_000_000_000_000 ∷ []) (Item 0 ∷ Refused 11 ∷ []) ∷
-    -- "cents (signed, -999,999,999,999 to 999,999,999,999)"
+    -- rules 1.4 and 6.4: the least cents, and 11 for one less
     runAs tableP (sendBack 0 0 7 999_999_999_999 ∷ sendBack 1 0 7 1_000_000_000_000 ∷ []) (Item 0 ∷ Refused 11 ∷ []) ∷
-    -- "a rule naming tray 0 twice, one item: `looked`, `missed`, `ended`"
+    -- rules 4.2 and 4.3: a message takes one member, not two of its channel
     runAs (repeating 1 2) oneMessage saidOne ∷
-    -- "that rule, second item: matched"
+    -- rule 4.6: with a second message both match
     runAs (repeating 1 2) (oneMessage ++ secondMessage)
     (saidOne ++ Item 1 ∷ Looked 1 ∷ Looked 0 ∷ Claimed 1 ∷ Matched 0 ∷ Consumed 1 ∷ Consumed 0 ∷ []) ∷
-    -- the steps of a lost claim, by 01's rules
+    -- rules 4.2 to 4.6, 4.8 to 4.10 and 5.3 to 5.5: a claim is lost, put back and retried; a sender is told
     runAs contendedTable contended saidContended ∷ []

@@ -1,4 +1,4 @@
--- The program: what it prints for the bytes of `rules.bin` and of standard input (01, "The program's printout").
+-- The program (rules 8.1 to 8.5): what it prints for the bytes of `rules.bin` and of standard input.
 use mathlib.Core.List.{List, [], _∷_, _++_}
 use Prim.Native.Nat.{ℕ, zero, suc}
 use lib.Dec.{eqb}
@@ -12,7 +12,7 @@ use Rattle.model.specs.Pools.{Answer, answerTo, MatchRead, matchReads, q
 use Rattle.model.specs.Lines.{Line, reads, unreadable, lineOf}
 use Rattle.model.specs.Printing.{answerLine, matchLine, openLine, quietLine}
 
--- "A line that does not read as one of these [..] prints `refused 16`"
+-- rule 8.3: what is no call answers `refused 16` and changes nothing
 abbrev pub lineAnswer : Table → Board → Line → Answer
 lineAnswer t b unreadable = record { said = Refused 16; board = b }
 lineAnswer t b (reads k) = answerTo t b k
@@ -23,12 +23,13 @@ pub record Session : Type 0 where
   pub board : Board
   pub partial : List ℕ
 
--- the line is answered
+-- rule 8.4: the line is answered
 unfoldable pub lineEnds : Table → Session → Session
 lineEnds t x =
     let a = lineAnswer t (x .board) (lineOf (x .partial)) in
     record { text = x .text ++ answerLine (a .said); board = a .board; partial = [] }
 
+-- rule 8.2: a line feed ends the line
 abbrev pub fedByte : Table → Session → ℕ → Session
 fedByte t x c =
     pick (eqb c 10) (lineEnds t x) (record { text = x .text; board = x .board; partial = x .partial ++ (c ∷ []) })
@@ -37,34 +38,37 @@ abbrev pub fed : Table → Session → List ℕ → Session
 fed t x [] = x
 fed t x (c ∷ cs) = fed t (fedByte t x c) cs
 
--- "A line ends at a line feed or the end of input; a line feed that ends the input starts no further line."
+-- rule 8.2: bytes after the last line feed are a line
 abbrev pub inputEnds : Table → Session → List ℕ → Session
 inputEnds t x [] = x
 inputEnds t x (c ∷ cs) = lineEnds t x
 
+-- rules 8.2 to 8.4, on an empty board
 abbrev pub sessionOf : Table → List ℕ → Session
 sessionOf t input =
     let x = fed t (record { text = []; board = emptyBoard builtinBackoffs; partial = [] }) input in
     inputEnds t x (x .partial)
 
--- "At the end come all matches, then items not consumed (`open N status`), then `quiet yes` or `quiet no`."
+-- rule 8.5: of each match
 abbrev pub matchLines : ℕ → List MatchRead → List ℕ
 matchLines k [] = []
 matchLines k (m ∷ ms) = matchLine k m ++ matchLines (suc k) ms
 
+-- rule 8.5: of each message that is not consumed
 abbrev pub openLines : ℕ → List Message → List ℕ
 openLines n [] = []
 openLines n (x ∷ xs) = pick (isConsumed (x .status)) [] (openLine n (x .status)) ++ openLines (suc n) xs
 
+-- rule 8.5
 unfoldable pub reportText : Table → Board → List ℕ
 reportText t b = matchLines 0 (matchReads t b) ++ (openLines 0 (b .messages) ++ quietLine (quiet b))
 
--- "A refused table prints `refused` and its number and ends"
+-- rule 8.1: a table that is refused prints one line, else the answers and the report
 abbrev pub printedBy : ℕ → List ℕ → List ℕ → List ℕ
 printedBy (suc f) s input = answerLine (Refused (suc f))
 printedBy zero s input = let x = sessionOf (tableOf s) input in x .text ++ reportText (tableOf s) (x .board)
 
--- "an absent file is 0 bytes, and one over 412 bytes is judged by its first 413"
+-- rule 8.1: by the first 413 bytes of the file, which is empty if it is not there
 unfoldable pub printout : List ℕ → List ℕ → List ℕ
 printout file input = printedBy (tableRefusal (take 413 file)) (take 413 file) input
 

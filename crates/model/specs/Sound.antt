@@ -1,4 +1,4 @@
--- Sound boards, clause by clause as 01's sentence has them ("The parts of a board").
+-- Sound boards (rules 3.1 to 3.6), clause by clause.
 use mathlib.Core.Bool.{not, Bool, true, _&&_, _||_}
 use mathlib.Core.List.{_∷_, [], List}
 use Prim.Native.Nat.{ℕ, suc}
@@ -12,14 +12,14 @@ use Rattle.model.specs.Boards.{backoff, Sender, State, idle, working, bl
 use Rattle.model.specs.Steps.{toTell}
 use Rattle.model.specs.Adds.{centsOk}
 
--- "a consumed item holds its match and a woken one its waker"
+-- rule 3.2: what a consumed and a woken message note
 abbrev pub noteOk : Message → Status → Bool
 noteOk x pending = true
 noteOk x claimed = true
 noteOk x woken = leb 1 (x .waker)
 noteOk x consumed = leb 1 (x .match)
 
--- "each counted item has a tray under T and cents in range", and its numbers "below its count"
+-- rule 3.2: its channel, its cents, and the match and waker that it notes
 unfoldable pub messageOk : Table → Board → Message → Bool
 messageOk t b x =
     allOf
@@ -32,11 +32,11 @@ messageOk t b x =
 abbrev pub allBelow : ℕ → List ℕ → Bool
 allBelow m ns = every (λ n. ltb n m) ns
 
--- "every item, rule, member and match number held by a desk, item or match is below its count"
+-- rule 3.3
 unfoldable pub matchOk : Table → Board → Match → Bool
 matchOk t b m = ltb (m .chord) (length (t .chords)) && allBelow (length (b .messages)) (m .messages)
 
--- a chord of the table that names the subject's channel, and "as many chosen items as its place in the rule calls for"
+-- rule 3.6: at a chord of the table that names the subject's channel, with c chosen
 abbrev pub atChord : Table → Board → Job → ℕ → Bool
 atChord t b w c =
     allOf
@@ -44,11 +44,11 @@ atChord t b w c =
     isIn (channelOf b (w .subject)) (chordAt t (w .chord) .channels) ∷
     eqb (length (w .chosen)) c ∷ [])
 
+-- rule 4.7: the last claim wakes
 abbrev pub toWake : Table → Board → Job → Bool
 toWake t b w = wakes t (w .chord) (channelOf b (w .subject))
 
--- "the place being one that the steps have for that rule and hand: none waking where the rule names no waiting tray,
--- none telling where no waiting item is left to tell"
+-- rule 3.6: a place where the steps of a job about this subject can be
 abbrev pub placeOk : Table → Board → Job → Phase → Bool
 placeOk t b w (look k) = atChord t b w k && ltb k (size t (w .chord))
 placeOk t b w (claim k) = atChord t b w (size t (w .chord)) && ltb k (size t (w .chord))
@@ -75,7 +75,7 @@ placeOk t b w signal = atChord t b w (size t (w .chord)) && toWake t b w
 placeOk t b w pass-end = eqb (length (w .chosen)) 0
 placeOk t b w (backoff rests) = eqb (length (w .chosen)) 0
 
--- "a desk in a job has its own item or its waker in hand"
+-- rules 3.5 and 3.6
 abbrev pub jobOk : Table → Board → Sender → Job → Bool
 jobOk t b d w =
     allOf
@@ -84,12 +84,13 @@ jobOk t b d w =
     allBelow (length (b .messages)) (w .chosen) ∷
     placeOk t b w (w .phase) ∷ [])
 
--- "a desk not idle holds its own item"
+-- rule 3.4: a sender that is not idle has its own message
 abbrev pub stateOk : Table → Board → Sender → State → Bool
 stateOk t b d idle = true
 stateOk t b d (working w) = leb 1 (d .own) && jobOk t b d w
 stateOk t b d blocked = leb 1 (d .own)
 
+-- rule 3.4: what a sender has is on the board
 unfoldable pub senderOk : Table → Board → Sender → Bool
 senderOk t b d =
     allOf
@@ -102,12 +103,12 @@ senderOk t b d =
 abbrev pub owns : ℕ → Sender → Bool
 owns o d = not (isIdle (d .state)) && eqb (d .own) o
 
--- its own item "is no other such desk's"
+-- rule 3.4: no two senders that are not idle have the same own message
 abbrev pub noneShared : List Sender → Bool
 noneShared [] = true
 noneShared (d ∷ ds) = (isIdle (d .state) || every (λ e. not (owns (d .own) e)) ds) && noneShared ds
 
--- "its counts are within the limits": 32 senders, 1,024 messages and as many matches
+-- rule 3.1, and 3.2 to 3.6 of every message, match and sender
 unfoldable pub sound : Table → Board → Bool
 sound t b =
     allOf

@@ -1,4 +1,4 @@
--- Channels and chords (01: trays and rules), as the steps use them.
+-- Channels and chords (rules 1.1 to 1.3), as the steps use them.
 use mathlib.Core.Bool.{Bool, true, false, _&&_, not}
 use mathlib.Core.List.{List, []}
 use Prim.Native.Nat.{ℕ, zero, suc, _-_}
@@ -6,13 +6,12 @@ use lib.Dec.{eqb, ltb}
 use lib.ListN.{length, getD}
 use Rattle.model.specs.Basics.{isIn, firstBy}
 
--- 01's rule: "names one to eight trays, its members, in order". Its channels are the members; equal: "all its items
--- must have equal property numbers".
+-- rule 1.2: the channels that its members name, in order; equal: it wants one property of all its messages
 pub record Chord : Type 0 where
   pub channels : List ℕ
   pub equal : Bool
 
--- The kind of a channel is its byte. 01's leave tray, 0, is asynchronous; its waiting tray, 1, is synchronous.
+-- rules 1.1 and 1.3. The kind of a channel is its byte: 0 asynchronous, 1 synchronous.
 pub record Table : Type 0 where
   pub kinds : List ℕ
   pub chords : List Chord
@@ -29,15 +28,15 @@ size t r = length (chordAt t r .channels)
 abbrev pub channelAt : Table → ℕ → ℕ → ℕ
 channelAt t r k = getD (chordAt t r .channels) k 0
 
+-- rule 1.1; a number that is no channel is not synchronous
 unfoldable pub isSync : Table → ℕ → Bool
 isSync t x = eqb (getD (t .kinds) x 0) 1
 
--- "the first member of a waiting tray"; the size for none
+-- rule 4.7: the place of the first synchronous member; the size for none
 unfoldable pub firstSync : Table → ℕ → ℕ
 firstSync t r = firstBy (isSync t) (chordAt t r .channels)
 
--- The last claim wakes and does not match: "`matched K` instead, if the item in hand is of a waiting tray or the
--- rule names none." "Otherwise .. `woke N`".
+-- rules 4.6 and 4.7: the last claim wakes and does not match, for a subject of this channel
 unfoldable pub wakes : Table → ℕ → ℕ → Bool
 wakes t r channel = not (isSync t channel) && ltb (firstSync t r) (size t r)
 
@@ -47,6 +46,6 @@ namingUpTo t channel from zero = from
 namingUpTo t channel from (suc n) =
     elim (isIn channel (chordAt t from .channels)) [ true ↦ from | false ↦ namingUpTo t channel (suc from) n ]
 
--- "the rules naming its tray, in rule order": the next one; the number of chords or more for none
+-- rule 4.1: the next chord that names the channel; the number of chords or more for none
 unfoldable pub naming : Table → ℕ → ℕ → ℕ
 naming t channel from = namingUpTo t channel from (length (t .chords) - from)

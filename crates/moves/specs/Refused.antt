@@ -17,7 +17,7 @@ callerOf (steps i) = i
 abbrev pub placeOf : ℕ → ℕ
 placeOf i = pick (ltb i 32) i 0
 
--- 8 to 12 for an add, 8 or 13 for a step; 0 for none
+-- rules 6.4 and 6.5: 8 to 12 for an add, 8 or 13 for a step; 0 for none
 abbrev pub callRefusal : Table → HeldBoard → Call → ℕ
 callRefusal t b (adds i x) =
     refusalBy t i (idleIs (getD (b .senders) i zeroSender .state)) (x .channel) (x .cents) (b .messages)

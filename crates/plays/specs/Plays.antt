@@ -16,5 +16,5 @@ pub record PlaysIn (s : List ℕ) (l : Lists) (k : Call) (w : Said) (l′ : List
   pub plays : Plays s (heldOf l) k w (heldOf l′)
   pub numbers : encodes (l′ .board) ≡ true
   pub sized : Sized l′
-  -- a refused call leaves every list as found
+  -- rule 6.1
   pub keeps : numberOf w ≢ 0 → l′ ≡ l

@@ -1,4 +1,4 @@
--- A replay: calls lent in rows, played one after another on a board that is tested once.
+-- A replay (rule 6.7): calls lent in rows, played one after another on a board that is tested once.
 use mathlib.Core.Path.{_≡_}
 use mathlib.Core.Logic.{_≢_}
 use mathlib.Core.Bool.{Bool}
@@ -52,7 +52,7 @@ answerNumber w = wordOf w * 65536 + (valueOf w + numberOf w)
 abbrev pub answerNumbers : List Exchange → List ℕ
 answerNumbers es = map (λ e. answerNumber (e .said)) es
 
--- the refusal of the board, then 30 for rows that do not fit, then 31 for no room for the answers
+-- rule 6.7: the refusal of the board, then 30 for rows that do not fit, then 31 for no room for the answers
 abbrev pub refusalAfter : ℕ → CallRows → ℕ → ℕ
 refusalAfter f c room = firstOf f (unless (rowsFit c) 30 (unless (leb (callsLen c) room) 31 0))
 
@@ -67,7 +67,7 @@ pub record Fit (c : CallRows) (room : ℕ) : Type 0 where
 
 -- all calls c played on h leave h′, and turn the lent answers from before to after
 pub record Plays-all (s : List ℕ) (h : Held) (c : CallRows) (before after : List ℕ) (h′ : Held) : Type 0 where
-  -- "A schedule hands each call the board that the one before returned"
+  -- rule 7.1: each call on what the one before left
   pub leaves : boardOf s h′ ≡ afterAll (tableOf s) (boardOf s h) (callsOf c)
   pub says : after
       ≡ answerNumbers (history (tableOf s) (boardOf s h) (callsOf c)) ++ drop (callsLen c) before
@@ -77,7 +77,7 @@ pub record Plays-all (s : List ℕ) (h : Held) (c : CallRows) (before after : Li
 -- a replay of the calls c on h answers f, leaves h′, and turns the lent answers from before to after
 pub record Replays (s : List ℕ) (h : Held) (c : CallRows) (before after : List ℕ) (f : ℕ) (h′ : Held) : Type 0 where
   pub number : f ≡ replayNumber s h c (length before)
-  -- "a refusal returns the number only and leaves all as found"
+  -- rule 6.1
   pub keeps : f ≢ 0 → (h′ ≡ h) × (after ≡ before)
   pub plays : f ≡ 0 → Plays-all s h c before after h′
   pub beyond : Beyond h h′

@@ -1,5 +1,5 @@
--- What the program prints: the parts that its functions leave in their buffers, one after another, in the order in
--- which `main` calls them. Reading and writing descriptors is all that is left to `main`.
+-- What the program prints (rules 8.1 to 8.5): the parts that its functions leave in their buffers, one after another,
+-- in the order in which `main` calls them. Reading and writing descriptors is all that is left to `main`.
 use mathlib.Core.Path.{_≡_}
 use mathlib.Core.List.{List, [], _∷_, _++_}
 use Prim.Native.Nat.{ℕ, zero, suc, _<_, _≤_}
@@ -48,7 +48,7 @@ pub record Serves-all (s : List ℕ) (chunks : List (List ℕ)) (text : List ℕ
   pub reports : Reports s last 0 parts report
   pub whole : text ≡ answers ++ (take at out ++ report)
 
--- a table that is refused: one line
+-- rule 8.1: a table that is refused, one line
 pub record Says-refused (number : ℕ) (text : List ℕ) : Type 0 where
   pub before : List ℕ
   pub at : ℕ

@@ -1,4 +1,4 @@
--- Lines of 01's run of table P and its kin, and every word, computed.
+-- Lines of the run of table P and its kin, and every word, computed.
 use mathlib.Core.Path.{_≡_, refl}
 use mathlib.Core.Bool.{true}
 use mathlib.Core.List.{List, [], _∷_, map}

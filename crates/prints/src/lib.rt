@@ -125,7 +125,7 @@ fn put_word(out: &mut [u8], at: usize, word: u8) -> usize
     put_text(out, at, &words[start..start + len])
 }
 
-// The number beside a word: a refusal's, or that of an item or match.
+// The number beside a word: a refusal's, or that of a message or match.
 fn number_beside(said: Said) -> u16
     ensures { λ r. ⌜ r ≡ numberBeside (saidIn said) ⌝ }
 {
@@ -167,7 +167,7 @@ fn put_items(out: &mut [u8], at: usize, numbers: &[u16]) -> usize
     next
 }
 
-// The head of a match line: its number, rule and cents.
+// The head of a match line: its number, chord and cents.
 fn put_head(out: &mut [u8], at: usize, k: u16, chord: u8, cents: i64) -> usize
     requires { ⌜ at + 49 ≤ length (now out) ⌝ }
     ensures { λ r. ⌜ Printed (now (out .entry)) at (matchText ++ (spaced k ++ (ruleText ++ (spaced chord
@@ -194,7 +194,7 @@ pub fn put_match(out: &mut [u8], at: usize, k: u16, m: MatchRead) -> usize
     put(out, next, b'\n')
 }
 
-// The line of an item that is not consumed.
+// The line of a message that is not consumed.
 pub fn put_open(out: &mut [u8], at: usize, n: u16, status: u8) -> usize
     requires { ⌜ (at + 19 ≤ length (now out)) × (status < 3) ⌝ }
     ensures { λ r. ⌜ Printed (now (out .entry)) at (openLine n (statusOf status)) r (now (out .exit)) ⌝ }

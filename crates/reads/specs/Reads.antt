@@ -1,4 +1,4 @@
--- What a read answers as the model's message and match, and what a sound board gives it.
+-- What a read (rule 6.6) answers as the model's message and match, and what a sound board gives it.
 use mathlib.Core.Path.{_≡_}
 use mathlib.Core.Bool.{true}
 use mathlib.Core.List.{List}

@@ -1,4 +1,4 @@
--- A claim on one record of a lent list (01: "a claim alters one record of it and no other").
+-- A claim on one record of a lent list (rules 4.4 and 6.8).
 use mathlib.Core.Bool.{Bool, _&&_}
 use mathlib.Core.List.{List}
 use Prim.Native.Nat.{ℕ}
@@ -14,7 +14,7 @@ use Rattle.records.specs.declared.Message.{Message}
 abbrev pub noRecord : Message
 noRecord = record { channel = 0; property = 0; cents = pos 0; status = 0; matched = 0; waker = 0 }
 
--- "pending becomes claimed": the status, 1, and nothing else of the record
+-- rule 4.4: the status, 1, and nothing else of the record
 abbrev pub claimedOf : Message → Message
 claimedOf x = record {
   channel = x .channel;
@@ -25,10 +25,10 @@ claimedOf x = record {
   waker = x .waker;
 }
 
--- the list has message n, and it is pending
+-- rule 4.4: the list has message n, and it is pending
 abbrev pub claimable : List Message → ℕ → Bool
 claimable ms n = ltb n (length ms) && isPending (statusOf (getD ms n noRecord .status))
 
--- the list after the claim of message n: one record altered, or none
+-- rule 6.8: the list after the claim of message n, one record altered or none
 abbrev pub claimedAt : List Message → ℕ → List Message
 claimedAt ms n = pick (claimable ms n) (set ms n (claimedOf (getD ms n noRecord))) ms

@@ -16,7 +16,7 @@ use Rattle.refusals.specs.Judged.{boardRefusal}
 abbrev pub boardOf : List ℕ → Held → Board
 boardOf s h = boardIn (tableOf s) (h .board) (h .columns) (h .matches)
 
--- the number that every board call gives first; 0 for none
+-- rule 6.2: the number that every board call gives first; 0 for none
 abbrev pub refusalOf : List ℕ → Held → ℕ
 refusalOf s h = boardRefusal s (h .board) (h .columns) (h .matches)
 
@@ -29,7 +29,7 @@ saidAfter (suc f) w = Refused (suc f)
 abbrev pub SameFrom : {A : Type 0} → ℕ → List A → List A → Type 0
 SameFrom n xs ys = drop n xs ≡ drop n ys
 
--- records past the counts stay as they were
+-- rule 1.11: records past the counts stay as they were
 pub record Beyond (h h′ : Held) : Type 0 where
   pub messages-grow : h .board .messages ≤ h′ .board .messages
   pub matches-grow : h .board .matches ≤ h′ .board .matches
@@ -46,7 +46,7 @@ pub record Beyond (h h′ : Held) : Type 0 where
 pub record Plays (s : List ℕ) (h : Held) (k : Call) (w : Said) (h′ : Held) : Type 0 where
   pub says : w ≡ saidAfter (refusalOf s h) (answerTo (tableOf s) (boardOf s h) k .said)
   pub leaves : refusalOf s h ≡ 0 → boardOf s h′ ≡ answerTo (tableOf s) (boardOf s h) k .board
-  -- "a refusal returns the number only and leaves all as found"
+  -- rule 6.1
   pub keeps : numberOf w ≢ 0 → h′ ≡ h
   -- no later call is refused for its board
   pub accepted : refusalOf s h ≡ 0 → refusalOf s h′ ≡ 0

@@ -24,7 +24,7 @@ heldOf l = held (boardFrom (l .board)) (columnsIn l) (matchesIn l)
 unfoldable pub heldIn : Lists → Held
 heldIn l = pick (listsOk l && encodes (l .board)) (heldOf l) nothing
 
--- the numbers of lists of their lengths are those of a sound board
+-- rule 6.2: the numbers of lists of their lengths are those of a sound board
 abbrev pub soundIn : List ℕ → Lists → Bool
 soundIn s l =
     encodes (l .board) && (statusesOk (boardFrom (l .board) .messages) (columnsIn l .statuses)

@@ -1,5 +1,4 @@
--- What every board call tests first, on any bytes and numbers (01, "Refused, by place": "every board call, first: 30,
--- lent list not 1,024 records, or board not sound").
+-- What every board call tests first, on any bytes and numbers (rule 6.2).
 use mathlib.Core.Path.{_≡_}
 use mathlib.Core.Bool.{Bool, _&&_}
 use mathlib.Core.List.{List, [], _∷_}
@@ -13,8 +12,7 @@ use Rattle.columns.specs.Columns.{Columns}
 use Rattle.columns.specs.MatchColumns.{MatchColumns}
 use Rattle.boards.specs.Boards.{HeldBoard, boardIn}
 
--- "lent list not 1,024 records": each column of messages has 1,024, and the matches have 1,024 chords, with eight
--- messages each
+-- rules 1.11 and 6.2: each column of messages has 1,024, and the matches have 1,024 chords, with eight messages each
 unfoldable pub lentOk : Columns → MatchColumns → Bool
 lentOk c m =
     allOf
@@ -27,11 +25,11 @@ lentOk c m =
     eqb (length (m .chords)) 1024 ∷
     eqb (length (m .messages)) 8192 ∷ [])
 
--- the first n bytes are statuses: a byte over 3 is none
+-- rule 6.2: the first n bytes are statuses; a byte over 3 is none
 unfoldable pub statusesOk : ℕ → List ℕ → Bool
 statusesOk n s = every (λ x. leb x 3) (take n s)
 
--- the reader's numbers for the table, then "30, lent list not 1,024 records, or board not sound"
+-- rule 6.2: the reader's numbers for the table, then 30
 unfoldable pub boardRefusal : List ℕ → HeldBoard → Columns → MatchColumns → ℕ
 boardRefusal s b c m =
     firstOf (tableRefusal s)

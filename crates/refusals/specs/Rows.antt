@@ -1,4 +1,4 @@
--- The tests of a sender by its 21 numbers.
+-- The tests of a sender by its 21 numbers (rules 3.4 to 3.6 and 6.2).
 use mathlib.Core.Bool.{Bool, true, _&&_}
 use mathlib.Core.List.{List, [], _∷_}
 use Prim.Native.Nat.{ℕ, zero, suc}

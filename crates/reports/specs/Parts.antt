@@ -12,7 +12,7 @@ use Rattle.boards.specs.Layout.{Lists}
 use Rattle.refusals.specs.Held.{heldOf}
 use Rattle.refusals.specs.Calls.{boardOf}
 
--- "then items not consumed (`open N status`)": the line of a consumed item is empty
+-- rule 8.5: the line of a consumed message is empty
 abbrev pub itemLine : ℕ → Status → List ℕ
 itemLine n s = pick (isConsumed s) [] (openLine n s)
 
@@ -24,7 +24,7 @@ abbrev pub numbered : {A : Type 0} → (ℕ → A → List ℕ) → ℕ → List
 numbered f k [] = []
 numbered f k (x ∷ xs) = f k x ∷ numbered f (suc k) xs
 
--- "At the end come all matches, then items not consumed (`open N status`), then `quiet yes` or `quiet no`."
+-- rule 8.5
 unfoldable pub reportLines : Table → Board → List (List ℕ)
 reportLines t b =
     numbered matchLine 0 (matchReads t b) ++ (numbered messageLine 0 (b .messages) ++ (quietLine (quiet b) ∷ []))

@@ -1,4 +1,4 @@
--- The board that numbers are: the other way round.
+-- The board that numbers are (rule 1.11): the other way round.
 use mathlib.Core.List.{List, [], _∷_}
 use Prim.Native.Nat.{ℕ, zero, suc}
 use lib.Dec.{eqb}

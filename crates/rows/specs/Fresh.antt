@@ -1,4 +1,4 @@
--- An idle sender as it is opened; its job is not read.
+-- An idle sender as it is opened (rule 1.10); its job is not read.
 use mathlib.Core.Bool.{false}
 use lib.ListN.{replicate}
 use Rattle.state.specs.declared.Phase.the-variants as P

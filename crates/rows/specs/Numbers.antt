@@ -1,4 +1,5 @@
--- The board as 674 plain numbers: how many messages and matches there are, then 21 numbers for each of 32 senders.
+-- The board as 674 plain numbers (rule 1.11): how many messages and matches there are, then 21 numbers for each of 32
+-- senders.
 use mathlib.Core.Bool.{Bool, true, _&&_, _||_, not}
 use mathlib.Core.List.{List, [], _∷_, _++_}
 use Prim.Native.Nat.{ℕ, zero, suc}
@@ -60,14 +61,14 @@ boardNumbers b = b .messages ∷ b .matches ∷ sendersNumbers (b .senders)
 abbrev pub placeless : ℕ → Bool
 placeless phase = eqb phase 5 || (eqb phase 7 || eqb phase 8)
 
--- these are the numbers of a phase: a second number that is not 0 is a consume's, or a revert's, which fits a byte
+-- rule 6.2: numbers of a phase; a second number that is not 0 is a consume's, or a revert's, which fits a byte
 unfoldable pub encodesPhase : ℕ → ℕ → ℕ → Bool
 encodesPhase phase place second =
     allOf
     (leb phase 9 ∷ leb place 255 ∷ (not (placeless phase) || eqb place 0) ∷
     (eqb phase 3 || (eqb second 0 || (eqb phase 2 && leb second 255))) ∷ [])
 
--- 21 numbers are those of a sender
+-- rule 6.2: 21 numbers are those of a sender
 unfoldable pub encodesSender : List ℕ → Bool
 encodesSender a =
     allOf
@@ -79,6 +80,6 @@ unfoldable pub encodesSenders : ℕ → List ℕ → Bool
 encodesSenders zero s = true
 encodesSenders (suc n) s = encodesSender (take 21 s) && encodesSenders n (drop 21 s)
 
--- numbers, each below 65,536, that are those of a board
+-- rule 6.2: numbers, each below 65,536, that are those of a board
 unfoldable pub encodes : List ℕ → Bool
 encodes s = eqb (length s) 674 && encodesSenders 32 (drop 2 s)

@@ -1,4 +1,4 @@
--- Public calls under a merged table (request 1): on channels that are the first's own they do what they do under the
+-- Public calls under a merged table (rule 9.4): on channels that are the first's own they do what they do under the
 -- first.
 use mathlib.Core.Path.{_≡_}
 use mathlib.Core.Bool.{true}

@@ -44,6 +44,7 @@ answersIn [] = []
 answersIn (called k w ∷ xs) = answerNumber w ∷ answersIn xs
 answersIn (replayed c before after f ∷ xs) = answersBy f c after ++ answersIn xs
 
+-- rule 7.10
 pub record Mixed-calls : Type 0 where
   pub demand : (s : List ℕ) (l : Lists) (xs : List Act) (l′ : Lists)
       → Opened s l → Acts s l xs l′ → Keeps-demand-3 s (callsIn xs) (heldIn l′)

@@ -1,4 +1,5 @@
--- Public calls one after another, and a replay, and what they owe together: demand 3, about what the calls return.
+-- Public calls one after another, and a replay, and what they owe together (rule 7.10): demand 3, about what the calls
+-- return.
 use mathlib.Core.Path.{_≡_}
 use mathlib.Core.Logic.{_≢_}
 use mathlib.Core.Bool.{true}
@@ -19,7 +20,7 @@ use Rattle.calls.specs.Reads.{matchAnswer, messageAnswer, replyAnswer, quietAns
 use Rattle.calls.specs.Opens.{openNumber, openedNumbers}
 use Rattle.calls.specs.Calls.{Calls, Replays-in}
 
--- the calls, and what was said to them, from l to l′: each call is lent the lists that the one before left
+-- rule 7.1: the calls, and what was said to them, from l to l′; each call is lent the lists that the one before left
 abbrev pub Calls-in-turn : List ℕ → Lists → List Call → List Said → Lists → Type 0
 Calls-in-turn s l [] ws l′ = (ws ≡ []) × (l′ ≡ l)
 Calls-in-turn s l (k ∷ ks) [] l′ = ⊥
@@ -30,14 +31,14 @@ exchanges [] ws = []
 exchanges (k ∷ ks) [] = []
 exchanges (k ∷ ks) (w ∷ ws) = record { call = k; said = w } ∷ exchanges ks ws
 
--- from an accepted board, calls and answers are the model's schedule, and "none of its calls is refused 30"
+-- rules 7.1 and 7.2: from an accepted board, calls and answers are the model's schedule, and none is refused 30
 pub record Is-schedule (s : List ℕ) (h : Held) (ks : List Call) (ws : List Said) (h′ : Held) : Type 0 where
   pub says : exchanges ks ws ≡ history (tableOf s) (boardOf s h) ks
   pub leaves : boardOf s h′ ≡ afterAll (tableOf s) (boardOf s h) ks
   pub accepted : refusalOf s h′ ≡ 0
   pub never-30 : (n : ℕ) → numberOf (getD ws n Ended) ≢ 30
 
--- what the reads answer on h is what b holds
+-- rule 6.6: what the reads answer on h is what b holds
 pub record Reads-as (s : List ℕ) (h : Held) (b : Board) : Type 0 where
   pub match-reads : (k : ℕ) → k < length (b .matches)
       → matchAnswer s h k ≡ getD (matchReads (tableOf s) b) k noRead
@@ -46,7 +47,7 @@ pub record Reads-as (s : List ℕ) (h : Held) (b : Board) : Type 0 where
   pub reply-reads : (i : ℕ) → i < 32 → replyAnswer s h i ≡ senderAt b i .reply
   pub quiet-reads : quietAnswer s h ≡ quiet b
 
--- h′ and its reads are those that demand 3 speaks of after these calls
+-- rules 7.2 to 7.9: h′ and its reads are those that demand 3 speaks of after these calls
 pub record Keeps-demand-3 (s : List ℕ) (ks : List Call) (h′ : Held) : Type 0 where
   pub leaves : boardOf s h′ ≡ boardAfter (tableOf s) builtinBackoffs ks
   pub reads : Reads-as s h′ (boardAfter (tableOf s) builtinBackoffs ks)
@@ -54,13 +55,14 @@ pub record Keeps-demand-3 (s : List ℕ) (ks : List Call) (h′ : Held) : Type 0
   pub run : Run-of (tableOf s) builtinBackoffs ks
   pub quietly : quiet (boardOf s h′) ≡ true → Quiet-at (tableOf s) builtinBackoffs ks
 
--- lists whose board was just opened; the others are of their lengths and hold anything
+-- rule 6.3: lists whose board was just opened; the others are of their lengths and hold anything
 pub record Opened (s : List ℕ) (l : Lists) : Type 0 where
   pub before : List ℕ
   pub opens : openNumber s before ≡ 0
   pub board : l .board ≡ openedNumbers s before
   pub sized : Sized l
 
+-- rule 7.10
 pub record Public-calls : Type 0 where
   pub schedule : (s : List ℕ) (l : Lists) (ks : List Call) (ws : List Said) (l′ : Lists)
       → refusalOf s (heldIn l) ≡ 0 → Calls-in-turn s l ks ws l′ → Is-schedule s (heldIn l) ks ws (heldIn l′)

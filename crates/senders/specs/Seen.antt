@@ -1,4 +1,5 @@
--- What the test of senders sees of a board: its counts and its messages' channels. And the parts of that test.
+-- What the test of senders sees of a board: its counts and its messages' channels. And the parts of that test (rules
+-- 3.4 to 3.6).
 use mathlib.Core.Path.{_≡_}
 use mathlib.Core.Bool.{Bool, true, _&&_, _||_, not}
 use mathlib.Core.List.{List, [], _∷_}
@@ -26,19 +27,19 @@ pub record Known (t : Table) (n : ℕ) (channels : List ℕ) : Type 0 where
 unfoldable pub channelIn : List ℕ → ℕ → ℕ → ℕ
 channelIn channels n v = pick (ltb v n) (getD channels v 0) 0
 
--- a chord of the table that names the channel
+-- rule 3.6: a chord of the table that names the channel
 unfoldable pub inChord : Table → ℕ → ℕ → Bool
 inChord t chord channel = ltb chord (length (t .chords)) && isIn channel (chordAt t chord .channels)
 
--- message v of a match of the subject is to be told of it
+-- rule 4.6: the sender of message v of a match of the subject is told
 abbrev pub isTold : Table → List ℕ → ℕ → ℕ → ℕ → Bool
 isTold t channels n subject v = isSync t (channelIn channels n v) && not (eqb v subject)
 
--- what no two senders may have in common: the own message plus 1, 0 for an idle sender
+-- rule 3.4: what no two senders may have in common, the own message plus 1; 0 for an idle sender
 abbrev pub markBy : DD.Sender → ℕ
 markBy d = pick (idleIs (d .state)) 0 (d .own + 1)
 
--- no mark but 0 stands twice
+-- rule 3.4: no mark but 0 stands twice
 abbrev pub noneTwice : List ℕ → Bool
 noneTwice [] = true
 noneTwice (m ∷ ms) = (eqb m 0 || every (λ x. not (eqb x m)) ms) && noneTwice ms

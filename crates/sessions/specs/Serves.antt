@@ -1,4 +1,4 @@
--- What a line of the program's input, a chunk of it and its end leave.
+-- What a line of the program's input, a chunk of it and its end leave (rules 8.2 to 8.4).
 use mathlib.Core.Path.{_≡_}
 use mathlib.Core.List.{List, []}
 use Prim.Native.Nat.{ℕ, _+_, _≤_}
@@ -16,7 +16,7 @@ use Rattle.refusals.specs.Calls.{boardOf}
 use Rattle.prints.specs.Printed.{Printed}
 use Rattle.sessions.specs.declared.Carry as DC
 
--- the model's answer to the bytes of a line
+-- rule 8.3: the model's answer to the bytes of a line
 abbrev pub answerOn : List ℕ → Lists → List ℕ → Answer
 answerOn s l line = lineAnswer (tableOf s) (boardOf s (heldOf l)) (lineOf line)
 
@@ -31,7 +31,7 @@ pub record Serves (s : List ℕ) (l : Lists) (line out : List ℕ) (at : ℕ) (l
 abbrev pub carryOf : DC.Carry → List ℕ
 carryOf c = take (c .len) (c .bytes)
 
--- "A line that [..] is over 80 bytes, prints `refused 16`": its first 81 bytes are enough to tell.
+-- rule 8.3: of a line over 80 bytes the first 81 are enough to tell
 abbrev pub Keeps : List ℕ → DC.Carry → Type 0
 Keeps p c = take 81 p ≡ carryOf c
 

@@ -1,4 +1,4 @@
--- The tests of lent columns, by the places of what they test.
+-- The tests of lent columns (rules 3.2 and 3.3), by the places of what they test.
 use mathlib.Core.Bool.{Bool, true, _&&_, _||_, not}
 use mathlib.Core.List.{List}
 use Prim.Native.Nat.{ℕ, zero, suc, _*_}
@@ -21,19 +21,19 @@ eachBelow (suc n) f = eachBelow n f && f n
 abbrev pub below : ℕ → List ℕ → ℕ → Bool
 below m s i = ltb (getD s i 0) m
 
--- the i-th amount is in range
+-- rule 3.2: the i-th amount is in range
 abbrev pub inRange : List ℤ → ℕ → Bool
 inRange cents i = centsOk (getD cents i (pos 0))
 
--- the i-th link is at most m, and there where the status asks for it
+-- rule 3.2: the i-th link is at most m, and there where the status asks for it
 abbrev pub linkOk : List ℕ → List ℕ → ℕ → ℕ → ℕ → Bool
 linkOk links statuses m asks i =
     leb (getD links i 0) m && (not (eqb (getD statuses i 0) asks) || leb 1 (getD links i 0))
 
--- the numbers of the i-th match, as many as its chord has channels, are below m
+-- rule 3.3: the numbers of the i-th match, as many as its chord has channels, are below m
 abbrev pub numbersOk : Table → List ℕ → List ℕ → ℕ → ℕ → Bool
 numbersOk t chords messages m i = eachBelow (size t (getD chords i 0)) (below m (drop (8 * i) messages))
 
--- n messages in columns: their bytes are statuses, and each is sound on the board
+-- rules 3.2 and 6.2: of n messages in columns the bytes are statuses, and each is sound on the board
 abbrev pub messagesOk : Table → Board → Columns → ℕ → Bool
 messagesOk t b c n = every (λ x. leb x 3) (take n (c .statuses)) && every (messageOk t b) (messagesFrom c 0 n)

@@ -36,7 +36,7 @@ phaseIn P.Signal = signal
 phaseIn P.PassEnd = pass-end
 phaseIn (P.Backoff rests) = backoff rests
 
--- how many messages a job at a chord of n channels has chosen
+-- rule 3.6: how many messages a job at a chord of n channels has chosen
 abbrev pub chosenBy : DP.Phase → ℕ → ℕ
 chosenBy (P.Look k) n = k
 chosenBy (P.Claim k) n = n
@@ -69,7 +69,7 @@ idleIs S.Idle = true
 idleIs S.Working = false
 idleIs S.Blocked = false
 
--- whether a sender may step: it is at work, or blocked with a signal
+-- rule 5.6: whether a sender has a step
 abbrev pub stepsIn : DS.State → Bool → Bool
 stepsIn S.Idle signalled = false
 stepsIn S.Working signalled = true

@@ -1,4 +1,4 @@
--- What the reader's first tests say of the bytes: counts in range, then a length that is theirs.
+-- What the reader's first tests (rule 2.6) say of the bytes: counts in range, then a length that is theirs.
 -- Later tests take these facts instead of the tests.
 use mathlib.Core.Path.{_≡_}
 use mathlib.Core.List.{List}

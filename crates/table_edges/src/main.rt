@@ -1,5 +1,5 @@
 // Table bytes cut short, and with one byte damaged: how many of a byte's 255 other values give each number.
-// Tables go through the reader and the writer first: 01's table P, and one of 16 channels and 32 chords of 8.
+// Tables go through the reader and the writer first: table P, and one of 16 channels and 32 chords of 8.
 ghost use Prim.Native.Nat.{_<_, _≤_};
 use libc::STDOUT_FILENO;
 

@@ -1,4 +1,4 @@
--- What is written to standard output: the bytes of the table that the text declares, which the reader accepts.
+-- What is written to standard output (rule 2.7): the bytes of the table that the text declares, which are accepted.
 use mathlib.Core.Path.{_≡_}
 use mathlib.Core.List.{List}
 use Prim.Native.Nat.{ℕ}

@@ -1,4 +1,4 @@
--- What is written to standard output: the bytes of the merged table, which the reader accepts and reads as that table.
+-- What is written to standard output (rule 9.4): the bytes of the merged table, which the reader reads as that table.
 use mathlib.Core.Path.{_≡_}
 use mathlib.Core.List.{List}
 use Prim.Native.Nat.{ℕ}

@@ -1,4 +1,4 @@
--- The tests that decide the reader's number for what is to be written: counts, kinds, sizes, members.
+-- The tests that decide the reader's number for what a write gives (rule 2.7): counts, kinds, sizes, members.
 -- The rest of the layout holds of every written table.
 use mathlib.Core.Path.{_≡_}
 use mathlib.Core.Bool.{Bool, true, _&&_}
@@ -12,14 +12,17 @@ use Rattle.model.specs.Layout.{writtenMembers, membersOk, two, flag}
 use Rattle.codec.specs.declared.Table as DT
 use Rattle.codec.specs.Views.{tableIn}
 
+-- rule 1.3
 unfoldable pub countsIn : Table → Bool
 countsIn t =
     leb 1 (length (t .kinds)) && (leb (length (t .kinds)) 16 && (leb (length (t .chords)) 32 &&
     leb (length (writtenMembers (t .chords))) 256))
 
+-- rule 1.2
 unfoldable pub sized : Chord → Bool
 sized c = leb 1 (length (c .channels)) && leb (length (c .channels)) 8
 
+-- rule 2.5
 unfoldable pub membersWritten : Table → Bool
 membersWritten t = every (λ c. membersOk (length (t .kinds)) (c .channels)) (t .chords)
 

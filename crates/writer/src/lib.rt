@@ -227,7 +227,7 @@ fn put_table(table: codec::Table, out: &mut [u8], m: u16)
 }
 
 // The bytes of the table from the start of a buffer, and 0; the bytes past them are kept.
-// Or a number, with the buffer as it was: the reader's for what is to be written, then 31 where the buffer is shorter.
+// Or a number, with the buffer as it was: the reader's for these bytes, then 31 where the buffer is shorter.
 pub fn write_table(table: codec::Table, out: &mut [u8]) -> u8
     ensures { λ r. ⌜ r ≡ writeRefusal (tableIn table) (now (out .entry)) ⌝ }
     ensures { λ _. ⌜ now (out .exit) ≡ written (tableIn table) (now (out .entry)) ⌝ }

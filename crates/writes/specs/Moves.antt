@@ -1,4 +1,4 @@
--- A move: what a call that is not refused does to the board.
+-- A move: what a call that is not refused does to the board (rule 6.8).
 use mathlib.Core.Path.{_≡_}
 use mathlib.Core.Bool.{Bool, true, false}
 use mathlib.Core.List.{List}

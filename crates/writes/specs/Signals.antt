@@ -1,4 +1,4 @@
--- Senders signalled: their numbers, and the board.
+-- Senders signalled (rule 4.8): their numbers, and the board.
 use mathlib.Core.Bool.{Bool, _&&_, not}
 use mathlib.Core.List.{List, map}
 use Prim.Native.Nat.{ℕ, _+_}

@@ -1,4 +1,4 @@
--- What a step's effect writes: to a message's columns, to the match columns, to the senders.
+-- What a step's effect (rule 6.8) writes: to a message's columns, to the match columns, to the senders.
 use mathlib.Core.Bool.{_&&_, _||_, not}
 use mathlib.Core.List.{List, map}
 use Prim.Native.Nat.{ℕ, _+_, _*_, _<_, _≤_}
@@ -94,7 +94,7 @@ Sure messages matches (G.Turn n u) = (n < messages) × WakerFits u
 Sure messages matches (G.Record n) = (n < messages) × (matches < 1024)
 Sure messages matches (G.Signal n) = n < 1024
 
--- the sender with its signal set, if it is not idle and message n is its own
+-- rule 4.8: the sender with its signal set, if it is not idle and message n is its own
 abbrev pub signalledBy : ℕ → DD.Sender → DD.Sender
 signalledBy n d = record {
   state = d .state;

@@ -1,4 +1,4 @@
--- `prints::put_match` meets its contract: the head, the items in member order, and a line feed.
+-- `prints::put_match` meets its contract: the head, the messages in the order of the members, and a line feed.
 use mathlib.Core.Path.{_≡_, sym}
 use Prim.Native.Nat.{_+_, _≤_}
 use native.Mathlib.Omega.{arith}

@@ -1,4 +1,4 @@
--- `sessions::serve_line` meets its contract: a line that does not read is refused, another is played.
+-- `sessions::serve_line` meets its contract: an unreadable line is refused, another is played.
 use mathlib.Core.Path.{sym, ap, _∙_}
 use Rattle.lines.specs.Views.{lineIn}
 use Rattle.sessions.proofs.LineLaws.{serves-unread, serves-read}
