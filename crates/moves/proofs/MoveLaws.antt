@@ -34,7 +34,7 @@ use Rattle.writes.specs.Moves.{movedHeld}
 use Rattle.moves.specs.Refused.{callRefusal}
 use Rattle.moves.proofs.StepLaws.{SenderIs, chords-fit, does-says, does-leaves, effect-accepted}
 use Rattle.moves.proofs.AddLaws.{Wrote, add-plays}
-use Rattle.moves.proofs.AfterLaws.{statuses-after, messages-beyond, matches-beyond, lengths-after}
+use Rattle.moves.proofs.AfterLaws.{statuses-after, messages-beyond, matches-beyond, lengths-after, others-after}
 
 -- message x is added as number n, by a sender that is d from then on
 abbrev pub addition : ℕ → DS.Sent → DD.Sender → DM.Move
@@ -87,6 +87,7 @@ module _ (s : List ℕ) (h : Held) (z : refusalOf s h ≡ 0) where
       add-plays s h i y z (withMessage (h .board) i d) (written o n y) wrote refl refl
       (refusal-is (tableOf s) (h .board) o (h .matches) i y ∙ e)
       (added-is (tableOf s) (h .board) i y d o (h .matches) room _ _ _ _ _ _ f refl refl refl refl refl refl)
+      (others-after G.None (h .board .senders) i d)
 
   pub add-move : (k : ℕ) → n ≡ k → AddMoves k
   add-move k e = subst AddMoves e adds-next
@@ -127,6 +128,7 @@ module _ (s : List ℕ) (h : Held) (z : refusalOf s h ≡ 0) where
           wakers = a .2;
           chords = b .1;
           messages = b .2;
+          recorded = b .3;
         }
 
     pub step-move : Plays s h (steps i) (saidIn (x .said)) after
@@ -138,4 +140,4 @@ module _ (s : List ℕ) (h : Held) (z : refusalOf s h ≡ 0) where
         (lengths-after n (h .board .matches) (x .change) (x .sender .job .chord) (x .sender .job .chosen)
         (h .columns) (h .matches) sure eight lent)
         (statuses-after (x .change) n (h .columns .statuses) (statuses-known s _ _ _ z))
-        beyond-after
+        beyond-after (others-after (x .change) (h .board .senders) i (x .sender))
