@@ -92,4 +92,4 @@ module _ (s : List ℕ) (h : Held) (i : ℕ) (x : Sent) (z : refusalOf s h ≡ 0
     add-plays e d r =
         let u = status-added n (h .columns .statuses) 0 (statuses-known s _ _ _ z) (omega arith) in
         plays-it s h (adds i x) z (Item n) h′ (rw (e, length-messages (h .columns) 0 n)) refl (rw e d) lengths
-        (rw (q, add-one n, w .statuses) u) beyond r
+        (rw (q, add-one n, w .statuses) u) beyond r (λ v. absurd (omega (arith, v, k)))

@@ -3,11 +3,11 @@
 use mathlib.Core.Path.{_≡_, refl, sym, ap, _∙_}
 use mathlib.Core.Logic.{_≢_}
 use mathlib.Core.Bool.{true}
-use mathlib.Core.List.{List, [], _∷_, map}
-use Prim.Native.Nat.{ℕ, zero, suc, _+_, _*_, _≤_}
+use mathlib.Core.List.{List, [], _∷_, _++_, map, append-assoc}
+use Prim.Native.Nat.{ℕ, zero, suc, _+_, _*_, _<_, _≤_}
 use native.Mathlib.Omega.{arith}
-use lib.ListN.{length, getD, take, set, length-set}
-use lib.Seq.{drop-set-lt, getD-set-other, take-take, take-at, length-take-le}
+use lib.ListN.{length, getD, take, drop, set, length-set}
+use lib.Seq.{drop-set-lt, getD-set-same, getD-set-other, take-all, take-take, take-at, drop-at, length-take-le}
 use lib.Seq.{paste, take-paste, drop-paste, length-paste}
 use Rattle.columns.specs.Columns.{Columns}
 use Rattle.columns.specs.MatchColumns.{MatchColumns}
@@ -17,6 +17,7 @@ use Rattle.state.specs.declared.Change as DG
 use Rattle.state.specs.declared.Change.the-variants as G
 use Rattle.state.specs.declared.Sender as DD
 use Rattle.boards.specs.Boards.{zeroSender}
+use Rattle.boards.specs.Parts.{part}
 use Rattle.refusals.specs.Judged.{statusesOk, Lengths}
 use Rattle.refusals.specs.Calls.{SameFrom, SameTo, Same-row}
 use Rattle.refusals.proofs.CallLaws.{status-written, row-same}
@@ -38,12 +39,23 @@ statuses-after (G.Turn k u) n s e = status-written n s (statusBy u) e (status-sm
 statuses-after (G.Record k) n s e = status-written n s 1 e (omega arith) k
 statuses-after (G.Signal k) n s e = e
 
--- what stands before a copy stays
-before-paste : (d : List ℕ) (at : ℕ) (s : List ℕ) (n : ℕ) → at ≤ length d → n ≤ length s
-    → take at (paste d at s n) ≡ take at d
-before-paste d at s n hd hs =
-    sym (take-take at (at + n) (paste d at s n) (omega arith)) ∙ ap (take at) (take-paste d at s n hd hs)
-    ∙ take-at (take at d) (take n s) at (length-take-le at d hd)
+-- a copy, and what stands before it
+module _ (d : List ℕ) (at : ℕ) (s : List ℕ) (n : ℕ) (hd : at ≤ length d) where
+  before-paste : n ≤ length s → take at (paste d at s n) ≡ take at d
+  before-paste hs =
+      sym (take-take at (at + n) (paste d at s n) (omega arith)) ∙ ap (take at) (take-paste d at s n hd hs)
+      ∙ take-at (take at d) (take n s) at (length-take-le at d hd)
+
+  paste-here : length s ≡ n → part at n (paste d at s n) ≡ s
+  unfolding part
+  paste-here e =
+      let rest = drop (at + n) d in
+      rw (
+        append-assoc (take at d) (take n s) rest,
+        drop-at (take at d) (take n s ++ rest) at (length-take-le at d hd),
+        take-at (take n s) rest n (length-take-le n s (omega (arith, e))),
+      )
+      (take-all n s (omega (arith, e)))
 
 module _ (n k : ℕ) where
   -- a change is written to messages that there are, and to the next match
@@ -138,3 +150,14 @@ others-after g ds i d j n = go g
     go (G.Turn k u) = rw other (row-same _)
     go (G.Record k) = rw other (row-same _)
     go (G.Signal k) = rw other at (signalled-row k (set ds i d) j)
+
+-- a match that a change records is the sender's choice
+pub records-after : (n k : ℕ) (g : DG.Change) (ds : List DD.Sender) (i : ℕ) (d : DD.Sender) (ms : List ℕ)
+    → Sure n k g → length (d .job .chosen) ≡ 8 → length ms ≡ 8192 → i < length ds → k < matchesBy g k
+    → part (8 * k) 8 (matchMessagesBy g k (d .job .chosen) ms)
+    ≡ getD (sendersBy g (set ds i d)) i zeroSender .job .chosen
+records-after n k G.None ds i d ms h e l m q = absurd (omega (arith, q))
+records-after n k (G.Turn x u) ds i d ms h e l m q = absurd (omega (arith, q))
+records-after n k (G.Record x) ds i d ms h e l m q =
+    rw (getD-set-same ds i d zeroSender m) (paste-here ms (8 * k) (d .job .chosen) 8 (omega (arith, h .1)) e)
+records-after n k (G.Signal x) ds i d ms h e l m q = absurd (omega (arith, q))

@@ -4,7 +4,7 @@ use mathlib.Core.Bool.{true, false}
 use mathlib.Core.List.{List}
 use Prim.Native.Nat.{ℕ, _<_}
 use native.Mathlib.Omega.{arith}
-use lib.ListN.{length, getD}
+use lib.ListN.{length, getD, length-map}
 use Rattle.model.specs.Boards.{Message, noMessage}
 use Rattle.model.specs.Effects.{does, apply, Item}
 use Rattle.model.specs.Layout.{tableOf}
@@ -22,7 +22,7 @@ use Rattle.boards.specs.Calls.{Held, sentIn}
 use Rattle.boards.proofs.SenderLaws.{nth-sender}
 use Rattle.refusals.specs.Judged.{Lengths}
 use Rattle.refusals.specs.Calls.{boardOf, refusalOf, Beyond, Plays}
-use Rattle.refusals.proofs.Refusals.{table-accepted, lent-whole, statuses-known, messages-few}
+use Rattle.refusals.proofs.Refusals.{table-accepted, lent-whole, statuses-known, sound-board, messages-few}
 use Rattle.refusals.proofs.CallLaws.{plays-it}
 use Rattle.adds.proofs.RefusalLaws.{refusal-is}
 use Rattle.adds.proofs.MessageLaws.{Room, written}
@@ -34,7 +34,8 @@ use Rattle.writes.specs.Moves.{movedHeld}
 use Rattle.moves.specs.Refused.{callRefusal}
 use Rattle.moves.proofs.StepLaws.{SenderIs, chords-fit, does-says, does-leaves, effect-accepted}
 use Rattle.moves.proofs.AddLaws.{Wrote, add-plays}
-use Rattle.moves.proofs.AfterLaws.{statuses-after, messages-beyond, matches-beyond, lengths-after, others-after}
+use Rattle.moves.proofs.AfterLaws.{statuses-after, messages-beyond, matches-beyond, lengths-after}
+use Rattle.moves.proofs.AfterLaws.{others-after, records-after}
 
 -- message x is added as number n, by a sender that is d from then on
 abbrev pub addition : ℕ → DS.Sent → DD.Sender → DM.Move
@@ -50,6 +51,9 @@ module _ (s : List ℕ) (h : Held) (z : refusalOf s h ≡ 0) where
 
   lent : Lengths (h .columns) (h .matches)
   lent = lent-whole s _ _ _ z
+
+  all-senders : length (h .board .senders) ≡ 32
+  all-senders = simp length-map at (sound-board s _ _ _ z .senders-all)
 
   -- d is sender i
   pub sender-is : (i : ℕ) (d : DD.Sender) → d ≡ getD (h .board .senders) i zeroSender → SenderIs (h .board) i d
@@ -95,7 +99,8 @@ module _ (s : List ℕ) (h : Held) (z : refusalOf s h ≡ 0) where
   -- a step's effect
   module _ (i : ℕ) (x : DE.Effect) (y : DS.Sent)
       (is : stepBy (tableOf s) (boardOf s h) i ≡ does (effectIn (tableOf s) x))
-      (sure : Sure n (h .board .matches) (x .change)) (eight : length (x .sender .job .chosen) ≡ 8) where
+      (sure : Sure n (h .board .matches) (x .change)) (eight : length (x .sender .job .chosen) ≡ 8)
+      (few : i < 32) where
     abbrev after : Held
     after = movedHeld h i (effectMove y x)
 
@@ -141,3 +146,5 @@ module _ (s : List ℕ) (h : Held) (z : refusalOf s h ≡ 0) where
         (h .columns) (h .matches) sure eight lent)
         (statuses-after (x .change) n (h .columns .statuses) (statuses-known s _ _ _ z))
         beyond-after (others-after (x .change) (h .board .senders) i (x .sender))
+        (records-after n (h .board .matches) (x .change) (h .board .senders) i (x .sender) (h .matches .messages) sure
+        eight (lent .messages-len) (omega (arith, few, all-senders)))

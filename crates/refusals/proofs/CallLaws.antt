@@ -20,7 +20,7 @@ use Rattle.columns.specs.MatchColumns.{MatchColumns}
 use Rattle.state.specs.declared.Sender as DD
 use Rattle.boards.specs.Calls.{Held}
 use Rattle.refusals.specs.Judged.{lentOk, statusesOk, boardRefusal, Lengths}
-use Rattle.refusals.specs.Calls.{boardOf, refusalOf, Beyond, callerOf, rowAt, Same-row, Plays}
+use Rattle.refusals.specs.Calls.{boardOf, refusalOf, Beyond, callerOf, rowAt, Same-row, Records, Plays}
 use Rattle.refusals.proofs.Refusals.{table-accepted, board-sound}
 
 -- Statuses
@@ -107,6 +107,7 @@ module _ (s : List ℕ) (h : Held) where
       accepted = λ z. z;
       beyond = beyond-same;
       others = λ j _. row-same (rowAt h j);
+      records = λ x. absurd (omega (arith, x));
     }
 
     module _ (z : refusalOf s h ≡ 0) where
@@ -120,14 +121,16 @@ module _ (s : List ℕ) (h : Held) where
         accepted = λ x. x;
         beyond = beyond-same;
         others = λ j _. row-same (rowAt h j);
+        records = λ x. absurd (omega (arith, x));
       }
 
       -- the call is carried out
       pub plays-it : (w : Said) (h′ : Held) → w ≡ answerTo (tableOf s) (boardOf s h) k .said → numberOf w ≡ 0
           → boardOf s h′ ≡ answerTo (tableOf s) (boardOf s h) k .board → Lengths (h′ .columns) (h′ .matches)
           → statusesOk (h′ .board .messages) (h′ .columns .statuses) ≡ true → Beyond h h′
-          → ((j : ℕ) → j ≢ callerOf k → Same-row (rowAt h j) (rowAt h′ j)) → Plays s h k w h′
-      plays-it w h′ e n q l u y r = record {
+          → ((j : ℕ) → j ≢ callerOf k → Same-row (rowAt h j) (rowAt h′ j)) → Records (callerOf k) h h′
+          → Plays s h k w h′
+      plays-it w h′ e n q l u y r v = record {
         says = rw z e;
         leaves = λ _. q;
         keeps = λ x. absurd (x n);
@@ -135,4 +138,5 @@ module _ (s : List ℕ) (h : Held) where
             (ap (sound (tableOf s)) q ∙ call-sound (tableOf s) (boardOf s h) k (board-sound s _ _ _ z));
         beyond = y;
         others = r;
+        records = v;
       }

@@ -2,7 +2,7 @@
 use mathlib.Core.Path.{_≡_}
 use mathlib.Core.Logic.{_≢_}
 use mathlib.Core.List.{List}
-use Prim.Native.Nat.{ℕ, zero, suc, _*_, _≤_}
+use Prim.Native.Nat.{ℕ, zero, suc, _*_, _<_, _≤_}
 use lib.ListN.{getD, drop, take}
 use Rattle.model.specs.Layout.{tableOf}
 use Rattle.model.specs.Boards.{Board}
@@ -11,6 +11,7 @@ use Rattle.model.specs.Pools.{Call, adds, steps, answerTo}
 use Rattle.state.specs.declared.Sender as DD
 use Rattle.boards.specs.Boards.{boardIn, zeroSender}
 use Rattle.boards.specs.Calls.{Held}
+use Rattle.boards.specs.Parts.{part}
 use Rattle.refusals.specs.Judged.{boardRefusal}
 
 -- the model's board, by the table's bytes
@@ -64,6 +65,12 @@ pub record Same-row (d e : DD.Sender) : Type 0 where
   pub matched : d .matched ≡ e .matched
   pub job : d .job ≡ e .job
 
+-- a match that sender i has just recorded is its choice, all eight numbers
+abbrev pub Records : ℕ → Held → Held → Type 0
+Records i h h′ =
+    h .board .matches < h′ .board .matches
+    → part (8 * h .board .matches) 8 (h′ .matches .messages) ≡ rowAt h′ i .job .chosen
+
 -- call k on h says w and leaves h′
 pub record Plays (s : List ℕ) (h : Held) (k : Call) (w : Said) (h′ : Held) : Type 0 where
   pub says : w ≡ saidAfter (refusalOf s h) (answerTo (tableOf s) (boardOf s h) k .said)
@@ -75,3 +82,4 @@ pub record Plays (s : List ℕ) (h : Held) (k : Call) (w : Said) (h′ : Held) :
   pub beyond : Beyond h h′
   -- a call writes no sender but the caller, except a signal
   pub others : (j : ℕ) → j ≢ callerOf k → Same-row (rowAt h j) (rowAt h′ j)
+  pub records : Records (callerOf k) h h′
