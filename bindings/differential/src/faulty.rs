@@ -42,13 +42,13 @@ impl Calls for Faulty {
             lists.bytes[STATUSES + usize::from(answer as u16)] = 0;
         }
         if self.due("board") && answer >> 16 == 12 {
-            lists.board[2 + 21 * sender_of(call) + 12] += 1;
+            lists.board[2 + 21 * call.sender() + 12] += 1;
         }
         if self.due("refusal") && answer >> 16 == 17 {
             lists.links.iter_mut().last().into_iter().for_each(|link| *link ^= 1);
         }
         if self.due("law") && answer >> 16 == 13 {
-            leave_chord_count(&mut lists.board[2 + 21 * sender_of(call)..][..21], table);
+            leave_chord_count(&mut lists.board[2 + 21 * call.sender()..][..21], table);
         }
         if self.due("answer") && answer >> 16 == 13 { 12 << 16 } else { answer }
     }
@@ -94,11 +94,5 @@ fn map_last_member_wrongly(table: &mut [u8]) {
     let (channels, members, end) = (number(0), number(4), number(10) + number(4));
     if members > 0 {
         table[end - 1] = (table[end - 1] + 1) % channels as u8;
-    }
-}
-
-fn sender_of(call: Call) -> usize {
-    match call {
-        Call::Add { sender, .. } | Call::Step { sender } => sender.into(),
     }
 }

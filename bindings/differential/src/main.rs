@@ -27,6 +27,7 @@ mod proved;
 mod random;
 mod schedule;
 mod seen;
+mod stays;
 mod strays;
 
 use calls::Calls;

@@ -3,6 +3,7 @@
 use crate::calls::{Call, Calls, Merge, Read};
 use crate::difference::difference;
 use crate::seen::Seen;
+use crate::stays::altered;
 use reference::{Lists, Rows, Table};
 
 const REFUSED: u32 = 17;
@@ -98,7 +99,9 @@ impl Pair {
         if one >> 16 == REFUSED {
             self.unchanged("refused calls")?
         } else {
-            self.compare_lists()?
+            self.compare_lists()?;
+            let change = altered(&self.ours_before, &self.ours, call.sender());
+            change.map_or(Ok(()), |change| Err(format!("ours, which it may not alter: {change}")))?
         }
         self.tally.calls += 1;
         Ok(one)

@@ -28,6 +28,14 @@ pub enum Call {
     Step { sender: u16 },
 }
 
+impl Call {
+    pub fn sender(self) -> usize {
+        match self {
+            Call::Add { sender, .. } | Call::Step { sender } => sender.into(),
+        }
+    }
+}
+
 /// The calls of a replay in rows, as the host interface has them. Of `calls` the kind, the sender and the channel; a
 /// kind of 0 is a step, any other an add.
 #[derive(Clone, Debug, Default)]

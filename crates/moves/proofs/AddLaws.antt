@@ -17,7 +17,7 @@ use Rattle.columns.proofs.Messages.{length-messages}
 use Rattle.boards.specs.Boards.{HeldBoard, boardIn}
 use Rattle.boards.specs.Calls.{Held, held}
 use Rattle.refusals.specs.Judged.{Lengths}
-use Rattle.refusals.specs.Calls.{boardOf, refusalOf, Beyond, Plays}
+use Rattle.refusals.specs.Calls.{boardOf, refusalOf, Beyond, rowAt, Same-row, Plays}
 use Rattle.refusals.proofs.Refusals.{lent-whole, statuses-known}
 use Rattle.refusals.proofs.CallLaws.{status-added, plays-nothing, plays-it}
 
@@ -83,12 +83,13 @@ module _ (s : List ℕ) (h : Held) (i : ℕ) (x : Sent) (z : refusalOf s h ≡ 0
       wakers = past (o .wakers) _ n 0 (w .wakers) (b′ .messages) q;
       chords = refl;
       messages = refl;
+      recorded = refl;
     }
 
     pub add-plays : addRefusal (tableOf s) (boardOf s h) i x ≡ 0
         → boardIn (tableOf s) b′ c′ (h .matches) ≡ added (tableOf s) (boardOf s h) i x
-        → Plays s h (adds i x) (Item n) h′
-    add-plays e d =
+        → ((j : ℕ) → j ≢ i → Same-row (rowAt h j) (rowAt h′ j)) → Plays s h (adds i x) (Item n) h′
+    add-plays e d r =
         let u = status-added n (h .columns .statuses) 0 (statuses-known s _ _ _ z) (omega arith) in
         plays-it s h (adds i x) z (Item n) h′ (rw (e, length-messages (h .columns) 0 n)) refl (rw e d) lengths
-        (rw (q, add-one n, w .statuses) u) beyond
+        (rw (q, add-one n, w .statuses) u) beyond r (λ v. absurd (omega (arith, v, k)))

@@ -1,21 +1,28 @@
--- What a change leaves: the statuses, the columns' lengths, and what stands past the counts.
-use mathlib.Core.Path.{_≡_, refl, _∙_}
+-- What a change leaves: the statuses, the columns' lengths, what stands past the counts, recorded matches, and the
+-- rows of the other senders.
+use mathlib.Core.Path.{_≡_, refl, sym, ap, _∙_}
+use mathlib.Core.Logic.{_≢_}
 use mathlib.Core.Bool.{true}
-use mathlib.Core.List.{List}
-use Prim.Native.Nat.{ℕ, _+_, _*_, _≤_}
+use mathlib.Core.List.{List, [], _∷_, _++_, map, append-assoc}
+use Prim.Native.Nat.{ℕ, zero, suc, _+_, _*_, _<_, _≤_}
 use native.Mathlib.Omega.{arith}
-use lib.ListN.{length, length-set}
-use lib.Seq.{drop-set-lt, drop-paste, length-paste}
+use lib.ListN.{length, getD, take, drop, set, length-set}
+use lib.Seq.{drop-set-lt, getD-set-same, getD-set-other, take-all, take-take, take-at, drop-at, length-take-le}
+use lib.Seq.{paste, take-paste, drop-paste, length-paste}
 use Rattle.columns.specs.Columns.{Columns}
 use Rattle.columns.specs.MatchColumns.{MatchColumns}
 use Rattle.state.specs.declared.Turn as DU
 use Rattle.state.specs.declared.Turn.the-variants as U
 use Rattle.state.specs.declared.Change as DG
 use Rattle.state.specs.declared.Change.the-variants as G
+use Rattle.state.specs.declared.Sender as DD
+use Rattle.boards.specs.Boards.{zeroSender}
+use Rattle.boards.specs.Parts.{part}
 use Rattle.refusals.specs.Judged.{statusesOk, Lengths}
-use Rattle.refusals.specs.Calls.{SameFrom}
-use Rattle.refusals.proofs.CallLaws.{status-written}
+use Rattle.refusals.specs.Calls.{SameFrom, SameTo, Same-row}
+use Rattle.refusals.proofs.CallLaws.{status-written, row-same}
 use Rattle.writes.specs.Writes.{Sure, statusBy, statusesBy, matchedBy, wakersBy, chordsBy, matchMessagesBy, matchesBy}
+use Rattle.writes.specs.Writes.{signalledBy, sendersBy}
 
 -- a turn's status is one
 status-small : (u : DU.Turn) → statusBy u ≤ 3
@@ -32,6 +39,24 @@ statuses-after (G.Turn k u) n s e = status-written n s (statusBy u) e (status-sm
 statuses-after (G.Record k) n s e = status-written n s 1 e (omega arith) k
 statuses-after (G.Signal k) n s e = e
 
+-- a copy, and what stands before it
+module _ (d : List ℕ) (at : ℕ) (s : List ℕ) (n : ℕ) (hd : at ≤ length d) where
+  before-paste : n ≤ length s → take at (paste d at s n) ≡ take at d
+  before-paste hs =
+      sym (take-take at (at + n) (paste d at s n) (omega arith)) ∙ ap (take at) (take-paste d at s n hd hs)
+      ∙ take-at (take at d) (take n s) at (length-take-le at d hd)
+
+  paste-here : length s ≡ n → part at n (paste d at s n) ≡ s
+  unfolding part
+  paste-here e =
+      let rest = drop (at + n) d in
+      rw (
+        append-assoc (take at d) (take n s) rest,
+        drop-at (take at d) (take n s ++ rest) at (length-take-le at d hd),
+        take-at (take n s) rest n (length-take-le n s (omega (arith, e))),
+      )
+      (take-all n s (omega (arith, e)))
+
 module _ (n k : ℕ) where
   -- a change is written to messages that there are, and to the next match
   pub messages-beyond : (g : DG.Change) (st ma wa : List ℕ) → Sure n k g
@@ -47,15 +72,17 @@ module _ (n k : ℕ) where
       → length ms ≡ 8192
       → (k ≤ matchesBy g k) × SameFrom (matchesBy g k) (chordsBy g k chord cs) cs
       × SameFrom (8 * matchesBy g k) (matchMessagesBy g k chosen ms) ms
-  matches-beyond G.None chord chosen cs ms h e l = (omega arith, refl, refl)
-  matches-beyond (G.Turn x u) chord chosen cs ms h e l = (omega arith, refl, refl)
+      × SameTo (8 * k) (matchMessagesBy g k chosen ms) ms
+  matches-beyond G.None chord chosen cs ms h e l = (omega arith, refl, refl, refl)
+  matches-beyond (G.Turn x u) chord chosen cs ms h e l = (omega arith, refl, refl, refl)
   matches-beyond (G.Record x) chord chosen cs ms h e l =
       let u : 8 * (k + 1) ≡ 8 * k + 8 = omega arith in (
         omega arith,
         drop-set-lt (k + 1) cs k chord (omega arith),
         rw u (drop-paste ms (8 * k) chosen 8 (omega (arith, h .1)) (omega arith)),
+        before-paste ms (8 * k) chosen 8 (omega (arith, h .1)) (omega arith),
       )
-  matches-beyond (G.Signal x) chord chosen cs ms h e l = (omega arith, refl, refl)
+  matches-beyond (G.Signal x) chord chosen cs ms h e l = (omega arith, refl, refl, refl)
 
   -- the columns stay as long as they were
   messages-long : (g : DG.Change) (st ma wa : List ℕ) → (length (statusesBy g st) ≡ length st)
@@ -102,3 +129,35 @@ module _ (n k : ℕ) where
         chords-len = q .0 ∙ l .chords-len;
         messages-len = q .1 ∙ l .messages-len;
       }
+
+-- a signal writes nothing else of a sender
+signalled-row : (n : ℕ) (ds : List DD.Sender) (j : ℕ)
+    → Same-row (getD ds j zeroSender) (getD (map (signalledBy n) ds) j zeroSender)
+signalled-row n [] j = row-same zeroSender
+signalled-row n (d ∷ ds) zero =
+    record { state = refl; own = refl; waker = refl; reply = refl; matched = refl; job = refl }
+signalled-row n (d ∷ ds) (suc j) = signalled-row n ds j
+
+pub others-after : (g : DG.Change) (ds : List DD.Sender) (i : ℕ) (d : DD.Sender) (j : ℕ) → j ≢ i
+    → Same-row (getD ds j zeroSender) (getD (sendersBy g (set ds i d)) j zeroSender)
+others-after g ds i d j n = go g
+  where
+    other : getD (set ds i d) j zeroSender ≡ getD ds j zeroSender
+    other = getD-set-other ds i j d zeroSender n
+
+    go : (g : DG.Change) → Same-row (getD ds j zeroSender) (getD (sendersBy g (set ds i d)) j zeroSender)
+    go G.None = rw other (row-same _)
+    go (G.Turn k u) = rw other (row-same _)
+    go (G.Record k) = rw other (row-same _)
+    go (G.Signal k) = rw other at (signalled-row k (set ds i d) j)
+
+-- a match that a change records is the sender's choice
+pub records-after : (n k : ℕ) (g : DG.Change) (ds : List DD.Sender) (i : ℕ) (d : DD.Sender) (ms : List ℕ)
+    → Sure n k g → length (d .job .chosen) ≡ 8 → length ms ≡ 8192 → i < length ds → k < matchesBy g k
+    → part (8 * k) 8 (matchMessagesBy g k (d .job .chosen) ms)
+    ≡ getD (sendersBy g (set ds i d)) i zeroSender .job .chosen
+records-after n k G.None ds i d ms h e l m q = absurd (omega (arith, q))
+records-after n k (G.Turn x u) ds i d ms h e l m q = absurd (omega (arith, q))
+records-after n k (G.Record x) ds i d ms h e l m q =
+    rw (getD-set-same ds i d zeroSender m) (paste-here ms (8 * k) (d .job .chosen) 8 (omega (arith, h .1)) e)
+records-after n k (G.Signal x) ds i d ms h e l m q = absurd (omega (arith, q))

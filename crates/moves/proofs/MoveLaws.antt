@@ -4,7 +4,7 @@ use mathlib.Core.Bool.{true, false}
 use mathlib.Core.List.{List}
 use Prim.Native.Nat.{ℕ, _<_}
 use native.Mathlib.Omega.{arith}
-use lib.ListN.{length, getD}
+use lib.ListN.{length, getD, length-map}
 use Rattle.model.specs.Boards.{Message, noMessage}
 use Rattle.model.specs.Effects.{does, apply, Item}
 use Rattle.model.specs.Layout.{tableOf}
@@ -22,7 +22,7 @@ use Rattle.boards.specs.Calls.{Held, sentIn}
 use Rattle.boards.proofs.SenderLaws.{nth-sender}
 use Rattle.refusals.specs.Judged.{Lengths}
 use Rattle.refusals.specs.Calls.{boardOf, refusalOf, Beyond, Plays}
-use Rattle.refusals.proofs.Refusals.{table-accepted, lent-whole, statuses-known, messages-few}
+use Rattle.refusals.proofs.Refusals.{table-accepted, lent-whole, statuses-known, sound-board, messages-few}
 use Rattle.refusals.proofs.CallLaws.{plays-it}
 use Rattle.adds.proofs.RefusalLaws.{refusal-is}
 use Rattle.adds.proofs.MessageLaws.{Room, written}
@@ -35,6 +35,7 @@ use Rattle.moves.specs.Refused.{callRefusal}
 use Rattle.moves.proofs.StepLaws.{SenderIs, chords-fit, does-says, does-leaves, effect-accepted}
 use Rattle.moves.proofs.AddLaws.{Wrote, add-plays}
 use Rattle.moves.proofs.AfterLaws.{statuses-after, messages-beyond, matches-beyond, lengths-after}
+use Rattle.moves.proofs.AfterLaws.{others-after, records-after}
 
 -- message x is added as number n, by a sender that is d from then on
 abbrev pub addition : ℕ → DS.Sent → DD.Sender → DM.Move
@@ -50,6 +51,9 @@ module _ (s : List ℕ) (h : Held) (z : refusalOf s h ≡ 0) where
 
   lent : Lengths (h .columns) (h .matches)
   lent = lent-whole s _ _ _ z
+
+  all-senders : length (h .board .senders) ≡ 32
+  all-senders = simp length-map at (sound-board s _ _ _ z .senders-all)
 
   -- d is sender i
   pub sender-is : (i : ℕ) (d : DD.Sender) → d ≡ getD (h .board .senders) i zeroSender → SenderIs (h .board) i d
@@ -87,6 +91,7 @@ module _ (s : List ℕ) (h : Held) (z : refusalOf s h ≡ 0) where
       add-plays s h i y z (withMessage (h .board) i d) (written o n y) wrote refl refl
       (refusal-is (tableOf s) (h .board) o (h .matches) i y ∙ e)
       (added-is (tableOf s) (h .board) i y d o (h .matches) room _ _ _ _ _ _ f refl refl refl refl refl refl)
+      (others-after G.None (h .board .senders) i d)
 
   pub add-move : (k : ℕ) → n ≡ k → AddMoves k
   add-move k e = subst AddMoves e adds-next
@@ -94,7 +99,8 @@ module _ (s : List ℕ) (h : Held) (z : refusalOf s h ≡ 0) where
   -- a step's effect
   module _ (i : ℕ) (x : DE.Effect) (y : DS.Sent)
       (is : stepBy (tableOf s) (boardOf s h) i ≡ does (effectIn (tableOf s) x))
-      (sure : Sure n (h .board .matches) (x .change)) (eight : length (x .sender .job .chosen) ≡ 8) where
+      (sure : Sure n (h .board .matches) (x .change)) (eight : length (x .sender .job .chosen) ≡ 8)
+      (few : i < 32) where
     abbrev after : Held
     after = movedHeld h i (effectMove y x)
 
@@ -127,6 +133,7 @@ module _ (s : List ℕ) (h : Held) (z : refusalOf s h ≡ 0) where
           wakers = a .2;
           chords = b .1;
           messages = b .2;
+          recorded = b .3;
         }
 
     pub step-move : Plays s h (steps i) (saidIn (x .said)) after
@@ -138,4 +145,6 @@ module _ (s : List ℕ) (h : Held) (z : refusalOf s h ≡ 0) where
         (lengths-after n (h .board .matches) (x .change) (x .sender .job .chord) (x .sender .job .chosen)
         (h .columns) (h .matches) sure eight lent)
         (statuses-after (x .change) n (h .columns .statuses) (statuses-known s _ _ _ z))
-        beyond-after
+        beyond-after (others-after (x .change) (h .board .senders) i (x .sender))
+        (records-after n (h .board .matches) (x .change) (h .board .senders) i (x .sender) (h .matches .messages) sure
+        eight (lent .messages-len) (omega (arith, few, all-senders)))

@@ -20,11 +20,11 @@ use Rattle.state.specs.Views.{senderIn, idleIs, senderSteps}
 use Rattle.boards.specs.Boards.{HeldBoard, zeroSender}
 use Rattle.boards.specs.Calls.{Held}
 use Rattle.boards.proofs.SenderLaws.{nth-sender}
-use Rattle.refusals.specs.Calls.{boardOf, refusalOf, Plays}
+use Rattle.refusals.specs.Calls.{boardOf, refusalOf, callerOf, Plays}
 use Rattle.steps.proofs.StateSteps.{refused-is}
 use Rattle.adds.specs.Refusals.{refusalBy}
 use Rattle.adds.proofs.RefusalLaws.{refusal-is}
-use Rattle.moves.specs.Refused.{placeOf, callerOf, callRefusal}
+use Rattle.moves.specs.Refused.{placeOf, callRefusal}
 use Rattle.moves.proofs.StepLaws.{past-senders, by-state, refused-plays}
 use Rattle.moves.proofs.AddLaws.{add-refused}
 

@@ -9,10 +9,6 @@ use Rattle.state.specs.Views.{idleIs, senderSteps}
 use Rattle.boards.specs.Boards.{HeldBoard, zeroSender}
 use Rattle.adds.specs.Refusals.{refusalBy}
 
-abbrev pub callerOf : Call → ℕ
-callerOf (adds i x) = i
-callerOf (steps i) = i
-
 -- a sender's place; that of the first for one past the last
 abbrev pub placeOf : ℕ → ℕ
 placeOf i = pick (ltb i 32) i 0

@@ -10,7 +10,7 @@ use borrow.Author.Tests.{eqb-true, ne-eqb, leb-true, le-leb, lt-leb}
 use lib.Dec.{eqb, leb}
 use lib.IntN.{pos}
 use lib.ListN.{length, getD, drop, take, set, length-set, take-append-drop}
-use lib.Seq.{drop-drop, drop-set-lt, take-suc-set, getD-set-same}
+use lib.Seq.{drop-drop, drop-set-lt, take-take, take-suc-set, getD-set-same}
 use Rattle.model.specs.Layout.{tableOf}
 use Rattle.model.specs.Boards.{Board}
 use Rattle.model.specs.Effects.{Said}
@@ -18,19 +18,23 @@ use Rattle.model.specs.Pools.{Call, adds, steps, answerTo, afterAll, history}
 use Rattle.model.proofs.Tests.{both, unless-none, first-none, refused-first}
 use Rattle.columns.specs.Columns.{listFrom}
 use Rattle.columns.proofs.ListFrom.{left-from, none-from}
+use Rattle.state.specs.declared.Sender as DD
 use Rattle.boards.specs.Calls.{Held}
-use Rattle.refusals.specs.Calls.{boardOf, refusalOf, SameFrom, Beyond, Plays}
-use Rattle.refusals.proofs.CallLaws.{beyond-same}
+use Rattle.refusals.specs.Calls.{boardOf, refusalOf, SameFrom, SameTo, Beyond, rowAt, Same-row, Plays}
+use Rattle.refusals.proofs.CallLaws.{beyond-same, row-same}
 use Rattle.plays.specs.Replays.{CallRows, callsLen, callAt, callsOf, rowsFit, answerNumber, answerNumbers}
-use Rattle.plays.specs.Replays.{refusalAfter, replayNumber, Fit, Plays-all, Replays}
+use Rattle.plays.specs.Replays.{Silent, refusalAfter, replayNumber, Fit, Plays-all, Replays}
 
--- Records past the counts
+-- What two calls leave
 
 same-on : {A : Type 0} (n m : ℕ) (xs ys : List A) → n ≤ m → SameFrom n xs ys → SameFrom m xs ys
 same-on n m xs ys l e =
     let z : n + (m - n) ≡ m = omega arith in
     ap (λ k. drop k xs) (sym z) ∙ sym (drop-drop (m - n) n xs) ∙ ap (drop (m - n)) e ∙ drop-drop (m - n) n ys
     ∙ ap (λ k. drop k ys) z
+
+same-up : {A : Type 0} (n m : ℕ) (xs ys : List A) → n ≤ m → SameTo m xs ys → SameTo n xs ys
+same-up n m xs ys l e = sym (take-take n m xs l) ∙ ap (take n) e ∙ take-take n m ys l
 
 pub beyond-then : (h g i : Held) → Beyond h g → Beyond g i → Beyond h i
 beyond-then h g i p q =
@@ -49,7 +53,20 @@ beyond-then h g i p q =
       chords = q .chords ∙ same-on _ (i .board .matches) _ _ m (p .chords);
       messages = q .messages
           ∙ same-on (8 * g .board .matches) (8 * i .board .matches) _ _ (omega (arith, m)) (p .messages);
+      recorded =
+          same-up (8 * h .board .matches) (8 * g .board .matches) _ _ (omega (arith, p .matches-grow)) (q .recorded)
+          ∙ p .recorded;
     }
+
+row-then : (d e f : DD.Sender) → Same-row d e → Same-row e f → Same-row d f
+row-then d e f p q = record {
+  state = p .state ∙ q .state;
+  own = p .own ∙ q .own;
+  waker = p .waker ∙ q .waker;
+  reply = p .reply ∙ q .reply;
+  matched = p .matched ∙ q .matched;
+  job = p .job ∙ q .job;
+}
 
 -- One call
 
@@ -73,6 +90,7 @@ pub record Played (s : List ℕ) (h : Held) (c : CallRows) (before : List ℕ) (
       ≡ answerNumbers (history (tableOf s) (boardOf s h) (callsOf c))
   pub others : drop k answers ≡ drop k before
   pub beyond : Beyond h g
+  pub rows : (j : ℕ) → Silent c k j → Same-row (rowAt h j) (rowAt g j)
 
 module _ (s : List ℕ) (h : Held) (c : CallRows) (before : List ℕ) where
   pub played-none : refusalOf s h ≡ 0 → Played s h c before 0 h before
@@ -86,6 +104,7 @@ module _ (s : List ℕ) (h : Held) (c : CallRows) (before : List ℕ) where
         says = rw z;
         others = refl;
         beyond = beyond-same s h;
+        rows = λ j _. row-same (rowAt h j);
       }
 
   module _ (k : ℕ) (g : Held) (answers : List ℕ) (p : Played s h c before k g answers) where
@@ -115,6 +134,9 @@ module _ (s : List ℕ) (h : Held) (c : CallRows) (before : List ℕ) where
               ∙ same-on k (suc k) answers before (omega arith) (p .others)
               ∙ ap (λ n. drop n before) (sym (add-one k)));
           beyond = beyond-then h g g′ (p .beyond) (q .beyond);
+          rows = λ i silent.
+              row-then (rowAt h i) (rowAt g i) (rowAt g′ i) (p .rows i (λ m lt. silent m (omega (arith, lt))))
+              (q .others i (silent k (omega arith)));
         }
       where
         next : (w : Said) (g′ : Held) (x : ℕ) → left c k ≡ callAt c k ∷ left c (k + 1)
@@ -137,6 +159,7 @@ module _ (s : List ℕ) (h : Held) (c : CallRows) (before : List ℕ) where
               (p .others ∙ ap (λ i. drop i before) n));
           accepted = p .accepted;
           beyond = p .beyond;
+          others = λ i silent. p .rows i (λ m lt. silent m (omega (arith, lt, n)));
         }
 
 -- One call by its row
@@ -197,6 +220,7 @@ module _ (s : List ℕ) (h : Held) (c : CallRows) (before : List ℕ) (f : ℕ)
     keeps = λ _. (refl, refl);
     plays = λ z. absurd (n z);
     beyond = beyond-same s h;
+    others = λ j _. row-same (rowAt h j);
   }
 
   pub replays-all : f ≡ 0 → (after : List ℕ) (g : Held) → Plays-all s h c before after g
@@ -206,4 +230,5 @@ module _ (s : List ℕ) (h : Held) (c : CallRows) (before : List ℕ) (f : ℕ)
     keeps = λ n. absurd (n refl);
     plays = λ _. p;
     beyond = p .beyond;
+    others = p .others;
   }

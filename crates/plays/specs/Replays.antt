@@ -3,7 +3,7 @@ use mathlib.Core.Path.{_≡_}
 use mathlib.Core.Logic.{_≢_}
 use mathlib.Core.Bool.{Bool}
 use mathlib.Core.List.{List, [], _∷_, _++_, map}
-use Prim.Native.Nat.{ℕ, _+_, _*_, _≤_}
+use Prim.Native.Nat.{ℕ, _+_, _*_, _<_, _≤_}
 use lib.Dec.{eqb, leb}
 use lib.IntN.{ℤ, pos}
 use lib.ListN.{length, getD, drop}
@@ -13,7 +13,7 @@ use Rattle.model.specs.Effects.{Said, wordOf, valueOf, numberOf}
 use Rattle.model.specs.Pools.{Call, adds, steps, Exchange, afterAll, history}
 use Rattle.columns.specs.Columns.{listFrom}
 use Rattle.boards.specs.Calls.{Held}
-use Rattle.refusals.specs.Calls.{boardOf, refusalOf, Beyond}
+use Rattle.refusals.specs.Calls.{boardOf, refusalOf, Beyond, callerOf, rowAt, Same-row}
 
 -- the lent calls, a row each: of `calls` the kind, the sender and the channel, of `numbers` the property number
 pub record CallRows : Type 0 where
@@ -40,6 +40,10 @@ callAt c k =
 
 abbrev pub callsOf : CallRows → List Call
 callsOf c = listFrom (callAt c) 0 (callsLen c)
+
+-- sender j makes none of the first n calls
+abbrev pub Silent : CallRows → ℕ → ℕ → Type 0
+Silent c n j = (k : ℕ) → k < n → j ≢ callerOf (callAt c k)
 
 -- the three lists have as many rows
 unfoldable pub rowsFit : CallRows → Bool
@@ -73,6 +77,7 @@ pub record Plays-all (s : List ℕ) (h : Held) (c : CallRows) (before after : Li
       ≡ answerNumbers (history (tableOf s) (boardOf s h) (callsOf c)) ++ drop (callsLen c) before
   pub accepted : refusalOf s h′ ≡ 0
   pub beyond : Beyond h h′
+  pub others : (j : ℕ) → Silent c (callsLen c) j → Same-row (rowAt h j) (rowAt h′ j)
 
 -- a replay of the calls c on h answers f, leaves h′, and turns the lent answers from before to after
 pub record Replays (s : List ℕ) (h : Held) (c : CallRows) (before after : List ℕ) (f : ℕ) (h′ : Held) : Type 0 where
@@ -81,3 +86,4 @@ pub record Replays (s : List ℕ) (h : Held) (c : CallRows) (before after : List
   pub keeps : f ≢ 0 → (h′ ≡ h) × (after ≡ before)
   pub plays : f ≡ 0 → Plays-all s h c before after h′
   pub beyond : Beyond h h′
+  pub others : (j : ℕ) → Silent c (callsLen c) j → Same-row (rowAt h j) (rowAt h′ j)

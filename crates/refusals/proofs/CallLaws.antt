@@ -17,9 +17,10 @@ use Rattle.model.proofs.Tests.{both, and}
 use Rattle.model.proofs.SoundKept.{call-sound}
 use Rattle.columns.specs.Columns.{Columns}
 use Rattle.columns.specs.MatchColumns.{MatchColumns}
+use Rattle.state.specs.declared.Sender as DD
 use Rattle.boards.specs.Calls.{Held}
 use Rattle.refusals.specs.Judged.{lentOk, statusesOk, boardRefusal, Lengths}
-use Rattle.refusals.specs.Calls.{boardOf, refusalOf, Beyond, Plays}
+use Rattle.refusals.specs.Calls.{boardOf, refusalOf, Beyond, callerOf, rowAt, Same-row, Records, Plays}
 use Rattle.refusals.proofs.Refusals.{table-accepted, board-sound}
 
 -- Statuses
@@ -74,6 +75,9 @@ pub accepts : (s : List ℕ) (h : Held) → tableRefusal s ≡ 0 → Lengths (h 
 unfolding boardRefusal
 accepts s h e l u v = rw (e, lengths-ok (h .columns) (h .matches) l, u, v)
 
+pub row-same : (d : DD.Sender) → Same-row d d
+row-same d = record { state = refl; own = refl; waker = refl; reply = refl; matched = refl; job = refl }
+
 -- The three ways
 
 module _ (s : List ℕ) (h : Held) where
@@ -89,6 +93,7 @@ module _ (s : List ℕ) (h : Held) where
     wakers = refl;
     chords = refl;
     messages = refl;
+    recorded = refl;
   }
 
   module _ (k : Call) where
@@ -101,6 +106,8 @@ module _ (s : List ℕ) (h : Held) where
       keeps = λ _. refl;
       accepted = λ z. z;
       beyond = beyond-same;
+      others = λ j _. row-same (rowAt h j);
+      records = λ x. absurd (omega (arith, x));
     }
 
     module _ (z : refusalOf s h ≡ 0) where
@@ -113,17 +120,23 @@ module _ (s : List ℕ) (h : Held) where
         keeps = λ _. refl;
         accepted = λ x. x;
         beyond = beyond-same;
+        others = λ j _. row-same (rowAt h j);
+        records = λ x. absurd (omega (arith, x));
       }
 
       -- the call is carried out
       pub plays-it : (w : Said) (h′ : Held) → w ≡ answerTo (tableOf s) (boardOf s h) k .said → numberOf w ≡ 0
           → boardOf s h′ ≡ answerTo (tableOf s) (boardOf s h) k .board → Lengths (h′ .columns) (h′ .matches)
-          → statusesOk (h′ .board .messages) (h′ .columns .statuses) ≡ true → Beyond h h′ → Plays s h k w h′
-      plays-it w h′ e n q l u y = record {
+          → statusesOk (h′ .board .messages) (h′ .columns .statuses) ≡ true → Beyond h h′
+          → ((j : ℕ) → j ≢ callerOf k → Same-row (rowAt h j) (rowAt h′ j)) → Records (callerOf k) h h′
+          → Plays s h k w h′
+      plays-it w h′ e n q l u y r v = record {
         says = rw z e;
         leaves = λ _. q;
         keeps = λ x. absurd (x n);
         accepted = λ _. accepts s h′ (table-accepted s _ _ _ z) l u
             (ap (sound (tableOf s)) q ∙ call-sound (tableOf s) (boardOf s h) k (board-sound s _ _ _ z));
         beyond = y;
+        others = r;
+        records = v;
       }

@@ -7,3 +7,4 @@ pub mod RowLaws
 pub mod RowWalks
 pub mod SoundNumbers
 pub mod HeldLaws
+pub mod HeldOnce

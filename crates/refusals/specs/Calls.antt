@@ -2,14 +2,16 @@
 use mathlib.Core.Path.{_≡_}
 use mathlib.Core.Logic.{_≢_}
 use mathlib.Core.List.{List}
-use Prim.Native.Nat.{ℕ, zero, suc, _*_, _≤_}
-use lib.ListN.{drop}
+use Prim.Native.Nat.{ℕ, zero, suc, _*_, _<_, _≤_}
+use lib.ListN.{getD, drop, take}
 use Rattle.model.specs.Layout.{tableOf}
 use Rattle.model.specs.Boards.{Board}
 use Rattle.model.specs.Effects.{Said, Refused, numberOf}
-use Rattle.model.specs.Pools.{Call, answerTo}
-use Rattle.boards.specs.Boards.{boardIn}
+use Rattle.model.specs.Pools.{Call, adds, steps, answerTo}
+use Rattle.state.specs.declared.Sender as DD
+use Rattle.boards.specs.Boards.{boardIn, zeroSender}
 use Rattle.boards.specs.Calls.{Held}
+use Rattle.boards.specs.Parts.{part}
 use Rattle.refusals.specs.Judged.{boardRefusal}
 
 -- the model's board, by the table's bytes
@@ -29,7 +31,11 @@ saidAfter (suc f) w = Refused (suc f)
 abbrev pub SameFrom : {A : Type 0} → ℕ → List A → List A → Type 0
 SameFrom n xs ys = drop n xs ≡ drop n ys
 
--- rule 1.11: records past the counts stay as they were
+-- two lists agree up to number n
+abbrev pub SameTo : {A : Type 0} → ℕ → List A → List A → Type 0
+SameTo n xs ys = take n xs ≡ take n ys
+
+-- rule 1.11: records past the counts stay as they were, and recorded matches whole, also past their chords' sizes
 pub record Beyond (h h′ : Held) : Type 0 where
   pub messages-grow : h .board .messages ≤ h′ .board .messages
   pub matches-grow : h .board .matches ≤ h′ .board .matches
@@ -41,6 +47,29 @@ pub record Beyond (h h′ : Held) : Type 0 where
   pub wakers : SameFrom (h′ .board .messages) (h′ .columns .wakers) (h .columns .wakers)
   pub chords : SameFrom (h′ .board .matches) (h′ .matches .chords) (h .matches .chords)
   pub messages : SameFrom (8 * h′ .board .matches) (h′ .matches .messages) (h .matches .messages)
+  pub recorded : SameTo (8 * h .board .matches) (h′ .matches .messages) (h .matches .messages)
+
+abbrev pub callerOf : Call → ℕ
+callerOf (adds i x) = i
+callerOf (steps i) = i
+
+abbrev pub rowAt : Held → ℕ → DD.Sender
+rowAt h j = getD (h .board .senders) j zeroSender
+
+-- two senders are equal but for their signals, with all of their jobs
+pub record Same-row (d e : DD.Sender) : Type 0 where
+  pub state : d .state ≡ e .state
+  pub own : d .own ≡ e .own
+  pub waker : d .waker ≡ e .waker
+  pub reply : d .reply ≡ e .reply
+  pub matched : d .matched ≡ e .matched
+  pub job : d .job ≡ e .job
+
+-- rule 4.6: a match that sender i has just recorded is its choice, all eight numbers
+abbrev pub Records : ℕ → Held → Held → Type 0
+Records i h h′ =
+    h .board .matches < h′ .board .matches
+    → part (8 * h .board .matches) 8 (h′ .matches .messages) ≡ rowAt h′ i .job .chosen
 
 -- call k on h says w and leaves h′
 pub record Plays (s : List ℕ) (h : Held) (k : Call) (w : Said) (h′ : Held) : Type 0 where
@@ -51,3 +80,6 @@ pub record Plays (s : List ℕ) (h : Held) (k : Call) (w : Said) (h′ : Held) :
   -- no later call is refused for its board
   pub accepted : refusalOf s h ≡ 0 → refusalOf s h′ ≡ 0
   pub beyond : Beyond h h′
+  -- rule 6.8: a call writes no sender but the caller, except a signal
+  pub others : (j : ℕ) → j ≢ callerOf k → Same-row (rowAt h j) (rowAt h′ j)
+  pub records : Records (callerOf k) h h′

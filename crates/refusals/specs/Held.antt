@@ -30,8 +30,12 @@ soundIn s l =
     encodes (l .board) && (statusesOk (boardFrom (l .board) .messages) (columnsIn l .statuses)
     && sound (tableOf s) (boardIn (tableOf s) (boardFrom (l .board)) (columnsIn l) (matchesIn l)))
 
--- lists that the first tests accept
+-- rule 6.2: lists that the first tests accept
 pub record Accepted (s : List ℕ) (l : Lists) : Type 0 where
   pub numbers : encodes (l .board) ≡ true
   pub sized : Sized l
   pub accepted : boardRefusal s (boardFrom (l .board)) (columnsIn l) (matchesIn l) ≡ 0
+
+-- accepted lists that hold the same are equal, number for number
+abbrev pub Held-once : Type 0
+Held-once = (s : List ℕ) (l m : Lists) → Accepted s l → Accepted s m → heldIn l ≡ heldIn m → l ≡ m

@@ -16,11 +16,11 @@ use Rattle.boards.specs.Layout.{lists}
 use Rattle.rows.specs.Decoded.{boardFrom}
 use Rattle.rows.proofs.WalkLaws.{all-numbers}
 use Rattle.refusals.specs.Held.{heldOf}
-use Rattle.refusals.specs.Calls.{Plays}
+use Rattle.refusals.specs.Calls.{callerOf, Plays}
 use Rattle.refusals.proofs.Refusals.{table-accepted}
 use Rattle.writes.specs.declared.Move as DM
 use Rattle.writes.specs.Moves.{movedHeld, Fits}
-use Rattle.moves.specs.Refused.{callerOf, callRefusal}
+use Rattle.moves.specs.Refused.{callRefusal}
 use Rattle.moves.proofs.RefusedLaws.{unrefused, may-step}
 use Rattle.moves.proofs.move_of.Statement.{statement}
 use Rattle.moves.proofs.move_of.Tie as tie

@@ -158,7 +158,7 @@ returns c =
     (by-effect q) in
     let sure = is-sure t (h .board) (h .columns) (h .matches) z (a .i) d (is-sender f) x (s .pre .1 .0 .0)
     (by-effect q) in (
-      step-move t h z (a .i) x none is sure (eight q),
+      step-move t h z (a .i) x none is sure (eight q) (s .pre .1 .0 .0),
       (
         record { room = λ e. never e; low = λ e. never e; sure = sure },
         effect-accepted (tableOf t) (boardOf t h) (a .i) _ is,

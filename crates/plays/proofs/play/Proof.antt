@@ -11,8 +11,9 @@ use Rattle.boards.specs.Layout.{Lists, lists, statusesIn}
 use Rattle.rows.specs.Decoded.{boardFrom}
 use Rattle.rows.proofs.WalkLaws.{all-numbers}
 use Rattle.refusals.specs.Held.{heldOf, Accepted}
+use Rattle.refusals.specs.Calls.{callerOf}
 use Rattle.refusals.proofs.Refusals.{table-accepted, messages-few, matches-few}
-use Rattle.moves.specs.Refused.{callerOf, callRefusal}
+use Rattle.moves.specs.Refused.{callRefusal}
 use Rattle.moves.proofs.RefusedLaws.{caller-in}
 use Rattle.plays.specs.Plays.{PlaysIn}
 use Rattle.plays.proofs.PlayLaws.{played, play-refused, accepted-after}
