@@ -20,9 +20,9 @@ use Rattle.model.specs.Pools.{answerTo, steps, adds, Call, quiet, afterA
 use Rattle.model.specs.Pools.{emptyPool, history, matchReads, ownOf, sentAt, noRead, timesHeld, meets}
 use Rattle.model.specs.Pools.{centsAdded, centsMatched, poolCents}
 
--- The frame: what a call leaves as it was, on every board (rules 6.1 and 6.8)
+-- The frame: what a call leaves as it was, on every board
 
--- the same sender, perhaps signalled
+-- rule 6.8: the same sender, perhaps signalled
 pub record Same-but-signal (d e : Sender) : Type 0 where
   pub state : e .state ≡ d .state
   pub own : e .own ≡ d .own
@@ -52,6 +52,7 @@ pub record Add-frame (b b′ : Board) (i : ℕ) : Type 0 where
   pub other-senders : (j : ℕ) → j ≢ i → senderAt b′ j ≡ senderAt b j
   pub backoffs : b′ .backoffs ≡ b .backoffs
 
+-- rules 6.1 and 6.8
 pub record Frame : Type 0 where
   pub step : (t : Table) (b : Board) (i : ℕ) → Step-frame b (answerTo t b (steps i) .board) i
   pub add : (t : Table) (b : Board) (i : ℕ) (x : Sent) → Add-frame b (answerTo t b (adds i x) .board) i
@@ -71,6 +72,7 @@ pub record Quiet-exactly : Type 0 where
 
 -- Demand 3
 
+-- rule 7.1
 abbrev pub boardAfter : Table → List ℕ → List Call → Board
 boardAfter t rests cs = afterAll t (emptyBoard rests) cs
 

@@ -25,13 +25,13 @@ Held-place t r signal c j = ⊥
 Held-place t r pass-end c j = ⊥
 Held-place t r (backoff rests) c j = ⊥
 
--- a job at chord r with these chosen holds message n
+-- rule 9.1: a job at chord r with these chosen holds message n
 pub record HoldsAt (t : Table) (r : ℕ) (chosen : List ℕ) (p : Phase) (n : ℕ) : Type 0 where
   pub place : ℕ
   pub held : Held-place t r p (length chosen) place
   pub is : getD chosen place 0 ≡ n
 
--- a sender in this state holds message n
+-- rule 9.1: a sender in this state holds message n
 abbrev pub Holds : Table → State → ℕ → Type 0
 Holds t idle n = ⊥
 Holds t (working w) n = HoldsAt t (w .chord) (w .chosen) (w .phase) n

@@ -19,7 +19,7 @@ fits r channel s x = eqb (x .sent .channel) channel && alike r s (x .sent)
 abbrev pub isFree : Chord → ℕ → Sent → List ℕ → ℕ → Message → Bool
 isFree r channel s chosen n x = allOf (fits r channel s x ∷ isPending (x .status) ∷ not (isIn n chosen) ∷ [])
 
--- the lowest number, plus 1, of those that pass; 0 for none
+-- rule 4.2: the lowest number, plus 1, of those that pass; 0 for none
 abbrev pub lowest : (ℕ → Message → Bool) → ℕ → List Message → ℕ
 lowest f n [] = 0
 lowest f n (x ∷ xs) = elim (f n x) [ true ↦ suc n | false ↦ lowest f (suc n) xs ]

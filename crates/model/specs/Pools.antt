@@ -15,6 +15,7 @@ use Rattle.model.specs.Adds.{added, addRefusal}
 
 -- Calls and their answers
 
+-- rules 6.4 and 6.5
 pub data Call : Type 0 where
   adds : ℕ → Sent → Call
   steps : ℕ → Call

@@ -155,6 +155,7 @@ saidRetrying rests = Item 0 ∷ Item 1 ∷ Looked 1 ∷ Looked 0 ∷ Claimed 1 �
 abbrev pub rising : List ℕ
 rising = 0 ∷ 1 ∷ 2 ∷ 3 ∷ 4 ∷ 5 ∷ 6 ∷ 7 ∷ 8 ∷ 9 ∷ 10 ∷ 11 ∷ 12 ∷ 13 ∷ 14 ∷ 15 ∷ []
 
+-- rule 4.10
 pub record Retries-rest : Type 0 where
   pub by-builtin : saidWith builtinBackoffs (tableOf tableP) (retrying 273)
       ≡ saidRetrying (0 ∷ 1 ∷ 1 ∷ 2 ∷ 2 ∷ 4 ∷ 4 ∷ 8 ∷ 8 ∷ 16 ∷ 16 ∷ 16 ∷ 32 ∷ 32 ∷ 32 ∷ 32 ∷ 32 ∷ [])

@@ -201,6 +201,7 @@ unfoldable pub backoff-step : Table → Board → Sender → Job → ℕ → Eff
 backoff-step t b d w rests =
     record { said = Rested; change = none; sender = inJob d (restsThen t b (w .subject) (w .retries) rests) }
 
+-- rules 4.2 to 4.10, by the phase
 abbrev pub job-step : Table → Board → Sender → Job → Phase → Effect
 job-step t b d w (look k) = look-step t b d w k
 job-step t b d w (claim k) = claim-step t b d w k
