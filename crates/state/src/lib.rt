@@ -10,7 +10,8 @@ ghost use Rattle.model.specs.Layout.{tableRefusal, tableOf};
 ghost use Rattle.model.specs.Effects.{wordOf, valueOf, numberOf};
 ghost use Rattle.model.specs.Steps as MS;
 ghost use Rattle.state.specs.Views.{jobIn, senderIn, saidIn, idleIs, senderSteps};
-ghost use Rattle.state.specs.Builders.{senderInJob, worksBy, jobInPhase, jobWithRetry, senderIdle, senderBlocked, jobAt};
+ghost use Rattle.state.specs.Builders.{senderInJob, worksBy, jobInPhase, jobWithRetry, senderIdle};
+ghost use Rattle.state.specs.Builders.{senderBlocked, jobAt};
 
 // Where a job is. The first number is the place: the member that the next step is about, or the rests after the next
 // one. Revert has the number of claims made beside it, Consume the match plus 1.
