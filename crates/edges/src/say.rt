@@ -75,10 +75,7 @@ pub fn said(said: Said) {
     answer(plays::answer_number(said));
 }
 
-// The number of a refusal; 0 for none.
-pub fn number_of(said: Said) -> u8 {
-    let Said::Refused(n) = said else {
-        return 0;
-    };
-    n
+// The number of a refusal; 0 for any other answer.
+pub fn refusal(said: Said) {
+    next(state::number_of(said));
 }
