@@ -66,6 +66,7 @@ fn say_said(kind: u8, said: Said) {
     match kind {
         b't' => say::refusal(said),
         b'u' => say::refusal(said),
+        b'o' => say::refusal(said),
         _ => say::said(said),
     }
 }
@@ -85,27 +86,11 @@ fn hear(table: &[u8], w: World, p: Part) -> World {
     v
 }
 
-fn open(table: &[u8], w: World) -> World {
-    let a = world::open(table, w);
-    let said = a.said;
-    let v = a.world;
-    say::refusal(said);
-    say::kept(world::is_same(w, v));
-    v
-}
-
-// A step of sender i, an add of the last sender after it, and the reads, as numbers.
-fn calls(table: &[u8], w: World, i: u16) -> World {
+// A step of sender i, an add of sender j after it, and the reads, as numbers; or the reads on the lists before both.
+fn calls(table: &[u8], w: World, i: u16, j: u16, each: bool) -> World {
     let a = hear(table, w, script::ask(b't', i));
-    let b = hear(table, a, script::ask(b'u', 31));
-    hear(table, b, script::ask(b'v', 31))
-}
-
-// The same by sender i, each on the same lists.
-fn each(table: &[u8], w: World, i: u16) -> World {
-    hear(table, w, script::ask(b't', i));
-    hear(table, w, script::ask(b'u', i));
-    hear(table, w, script::ask(b'v', i))
+    let b = hear(table, a, script::ask(b'u', j));
+    hear(table, pick(each, w, b), script::ask(b'v', j))
 }
 
 fn act(table: &[u8], w: World, p: Part) -> World {
@@ -113,10 +98,10 @@ fn act(table: &[u8], w: World, p: Part) -> World {
     if is_edit(kind) {
         return edit(w, p);
     }
+    let i = script::small(p, 0);
     match kind {
-        b'x' => calls(table, w, script::small(p, 0)),
-        b'o' => open(table, w),
-        b'y' => each(table, w, script::small(p, 0)),
+        b'x' => calls(table, w, i, 31, false),
+        b'y' => calls(table, w, i, i, true),
         _ => hear(table, w, p),
     }
 }

@@ -7,43 +7,41 @@ use crate::world;
 use crate::world::World;
 use state::Said;
 
-// The answers of an add of message n, and of a step that ends.
-fn is_taken(said: Said, n: u16) -> bool {
-    plays::answer_number(said) == n as u32
+fn is_said(said: Said, answer: u32) -> bool {
+    plays::answer_number(said) == answer
 }
 
-fn is_ended(said: Said) -> bool {
-    plays::answer_number(said) == 851968
+fn say_filled(n: u16) {
+    say::word(b"taken", n);
+    say::word(b", ended", n);
+    say::text(b"\n");
 }
 
-// 1,023 messages by the senders in turn, each ended by one step.
-fn fill(w: World) -> World {
-    let table = ONE;
+// 1,023 messages by the senders in turn, each ended by one step, whose answer is 851968.
+fn fill(table: &[u8], w: World) -> World {
     let mut v = w;
     let mut n: u16 = 0;
     while n < 1023 {
         let i = n % 32;
-        let added = world::asked(&table, v, script::ask(b'a', i));
+        let added = world::asked(table, v, script::ask(b'a', i));
         let w1 = added.world;
-        let stepped = world::asked(&table, w1, script::ask(b's', i));
+        let stepped = world::asked(table, w1, script::ask(b's', i));
         let first = added.said;
         let second = stepped.said;
-        if !is_taken(first, n) | !is_ended(second) {
+        if !is_said(first, n as u32) | !is_said(second, 851968) {
             break;
         }
         v = stepped.world;
         n += 1;
     }
-    say::word(b"taken", n);
-    say::word(b", ended", n);
-    say::text(b"\n");
+    say_filled(n);
     v
 }
 
 // The last message, then calls of a full board, whose last sender is at work.
 pub fn lines() {
     let table = ONE;
-    let w = fill(world::opened(&table, 0));
+    let w = fill(&table, world::opened(&table, 0));
     let full = acts::lines(&table, w, b"item 1,024|a 31 0 7 1\n", true);
     acts::lines(
         &table,

@@ -15,8 +15,58 @@ fn filled(table: &[u8], text: &[u8]) {
     acts::lines(table, world::filled(170), text, false);
 }
 
-// Each list at no numbers, one less than a board has, as many, and one more.
-fn lists() {
+// The first bytes of table P, with one byte another.
+fn damaged(len: usize, at: usize, b: u8, text: &[u8])
+    requires { ⌜ (len ≤ 20) × (at < 20) ⌝ }
+{
+    let mut table = P;
+    table[at] = b;
+    filled(&table[0..len], text);
+}
+
+// Tables refused by every call, also where a list is too short and the sender is past the last.
+fn tables() {
+    damaged(11, 0, 2, b"open, 11 bytes|L 0 673;o\n11 bytes|L 0 0;y 32\n");
+    damaged(
+        20,
+        0,
+        17,
+        b"open, 17 trays|L 0 673;o\n17 trays|L 0 0;y 32\n",
+    );
+    damaged(
+        19,
+        0,
+        2,
+        b"open, a byte less|L 0 673;o\na byte less|L 0 0;y 32\n",
+    );
+    damaged(
+        20,
+        12,
+        2,
+        b"open, tray byte 2|L 0 673;o\ntray byte 2|L 0 0;y 32\n",
+    );
+    damaged(
+        20,
+        16,
+        9,
+        b"open, a rule of 9|L 0 673;o\na rule of 9|L 0 0;y 32\n",
+    );
+    damaged(
+        20,
+        16,
+        1,
+        b"open, a sum of 1|L 0 673;o\na sum of 1|L 0 0;y 32\n",
+    );
+    damaged(
+        20,
+        18,
+        2,
+        b"open, member 2|L 0 673;o\nmember 2|L 0 0;y 32\n",
+    );
+}
+
+// Each list at no numbers, one less than a board has, as many, and one more; then the tables.
+pub fn lines() {
     opened(
         &ONE,
         b"board|L 0 0;y 0\n\
@@ -40,52 +90,8 @@ fn lists() {
         cents|L 4 1024;y 0\n\
         cents|L 4 1025;y 0\n",
     );
-}
-
-// Table P with one byte another.
-fn damaged(at: usize, b: u8, text: &[u8])
-    requires { ⌜ at < 20 ⌝ }
-{
-    let mut table = P;
-    table[at] = b;
-    filled(&table, text);
-}
-
-// The first bytes of table P.
-fn cut(len: usize, text: &[u8])
-    requires { ⌜ len ≤ 20 ⌝ }
-{
-    let table = P;
-    filled(&table[0..len], text);
-}
-
-// Tables refused by every call, also where a list is too short and the sender is past the last.
-fn tables() {
-    cut(11, b"open, 11 bytes|L 0 673;o\n11 bytes|L 0 0;y 32\n");
-    damaged(0, 17, b"open, 17 trays|L 0 673;o\n17 trays|L 0 0;y 32\n");
-    cut(19, b"open, a byte less|L 0 673;o\na byte less|L 0 0;y 32\n");
-    damaged(
-        12,
-        2,
-        b"open, tray byte 2|L 0 673;o\ntray byte 2|L 0 0;y 32\n",
-    );
-    damaged(
-        16,
-        9,
-        b"open, a rule of 9|L 0 673;o\na rule of 9|L 0 0;y 32\n",
-    );
-    damaged(
-        16,
-        1,
-        b"open, a sum of 1|L 0 673;o\na sum of 1|L 0 0;y 32\n",
-    );
-    damaged(18, 2, b"open, member 2|L 0 673;o\nmember 2|L 0 0;y 32\n");
-    cut(20, b"open, P|L 0 673;o\nP|L 0 0;y 32\n");
-}
-
-pub fn lines() {
-    lists();
     tables();
+    damaged(20, 0, 2, b"open, P|L 0 673;o\nP|L 0 0;y 32\n");
     filled(&P, b"open, 674 numbers|o\nopen, 675 numbers|L 0 675;o\n");
     opened(&ONE, b"30 before 8|L 1 3071;y 32\n");
 }

@@ -9,7 +9,7 @@
 //     a I C P x, A ..  an add by sender I, to channel C, of property P and x cents, or -1 - x
 //     s I              a step of sender I
 //     x I              a step of sender I, an add of the last sender, and the reads, as numbers
-//     y I              the same by sender I, each on the same lists
+//     y I              the same by sender I, with the reads on the lists before both
 //     o                an opening, as a number
 //     m N C P x, M ..  a read of message N, which is to have these
 //     k K, r I, q      reads of match K, of sender I's reply, and whether the board is quiet
@@ -137,9 +137,14 @@ pub fn sent(p: Part, k: usize) -> Sent
     }
 }
 
-// A step or an add, in words or as a number.
+// A step, an add, or an opening.
 pub fn is_call(kind: u8) -> bool {
-    (kind == b's') | (kind == b'a') | (kind == b'A') | (kind == b't') | (kind == b'u')
+    (kind == b's')
+        | (kind == b'a')
+        | (kind == b'A')
+        | (kind == b't')
+        | (kind == b'u')
+        | (kind == b'o')
 }
 
 pub fn is_step(p: Part) -> bool {

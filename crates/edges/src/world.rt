@@ -64,11 +64,11 @@ pub fn least(n: usize, most: usize) -> usize
     most
 }
 
-// An opening of the first numbers of a board.
-fn open_part(table: &[u8], mut board: [u16; 675], len: usize, w: World) -> After {
-    let n = least(len, 675);
-    let number = calls::open(table, &mut board[0..n]);
+// An opening; what is said is a refusal, of number 0 where there is none.
+fn open(table: &[u8], w: World, mut board: [u16; 675], len: usize) -> After {
     let mut v = w;
+    let n = len % 676;
+    let number = calls::open(table, &mut board[0..n]);
     v.board = board;
     After {
         said: Said::Refused(number),
@@ -76,14 +76,8 @@ fn open_part(table: &[u8], mut board: [u16; 675], len: usize, w: World) -> After
     }
 }
 
-// An opening; what is said is a refusal, of number 0 where there is none.
-pub fn open(table: &[u8], w: World) -> After {
-    let board = w.board;
-    open_part(table, board, w.lens[0], w)
-}
-
 pub fn opened(table: &[u8], x: u8) -> World {
-    let a = open(table, filled(x));
+    let a = asked(table, filled(x), script::ask(b'o', 0));
     a.world
 }
 
@@ -145,11 +139,11 @@ fn lend(
     lens: [usize; 5],
     p: Part,
 ) -> After {
-    let n0 = least(lens[0], 675);
-    let n1 = least(lens[1], 3073);
-    let n2 = least(lens[2], 10241);
-    let n3 = least(lens[3], 1025);
-    let n4 = least(lens[4], 1025);
+    let n0 = lens[0] % 676;
+    let n1 = lens[1] % 3074;
+    let n2 = lens[2] % 10242;
+    let n3 = lens[3] % 1026;
+    let n4 = lens[4] % 1026;
     let said = lent(
         table,
         &mut board[0..n0],
@@ -179,5 +173,8 @@ pub fn asked(table: &[u8], w: World, p: Part) -> After {
     let keys = w.keys;
     let cents = w.cents;
     let lens = w.lens;
+    if p.kind == b'o' {
+        return open(table, w, board, lens[0]);
+    }
     lend(table, board, bytes, links, keys, cents, lens, p)
 }

@@ -5,10 +5,10 @@ use Rattle.edges.proofs.full.fill.Statement.{statement}
 use Rattle.edges.proofs.full.fill.Tie as tie
 
 abbrev Inv-loop : tie.InvT-loop
-Inv-loop _ _ _ _ _ _ _ n = n ≤ 1023
+Inv-loop _ _ _ _ n = n ≤ 1023
 
 abbrev μ-loop : tie.MeasureT-loop
-μ-loop _ _ _ _ _ _ _ n = 1023 - n
+μ-loop _ _ _ _ n = 1023 - n
 
 pub fill-spec : {M : Type 1} → statement M
 fill-spec =
@@ -17,21 +17,15 @@ fill-spec =
     Inv-loop
     μ-loop
     (λ c. search needs)
-    (λ c. search needs)
-    (λ c κs. search needs)
-    (λ c κs. search needs)
-    (λ c. search needs)
     (λ c κs. search needs)
     (λ c κs. search needs)
     (λ c κs. search needs)
     (λ c κs. search needs)
     (λ c. search needs)
-    (λ c. search needs)
-    (λ c. search needs)
-    (λ c. search needs)
+    (λ c κs. search needs)
     (λ c κs. search needs)
     (λ c. search needs)
-    (λ c κs. search needs)
+    (λ c. search needs)
     (λ c. search needs)
     (λ c κs. search needs)
     (λ c. search needs))
