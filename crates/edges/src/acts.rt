@@ -1,108 +1,108 @@
 // Scripts, played on the lists of a board.
-use crate::lists::*;
-use crate::replays;
 use crate::say;
 use crate::script;
 use crate::script::Part;
-use crate::shown;
 use crate::world;
+use crate::world::World;
+use state::Said;
+
+// A number at its place in the list of a letter.
+fn set(w: World, kind: u8, at: usize, x: u16) -> World {
+    let mut v = w;
+    match kind {
+        b'n' => v.board[at % 675] = x,
+        b'b' => v.bytes[at % 3073] = (x % 256) as u8,
+        b'l' => v.links[at % 10241] = x,
+        b'L' => v.lens[at % 5] = x as usize,
+        _ => {}
+    }
+    v
+}
 
 // The numbers of a part, from one of them on, to a place and those after it.
-fn put(to: &mut [u16], at: usize, p: Part, from: usize) {
-    let mut k = at;
+fn put(w: World, kind: u8, at: u16, p: Part, from: usize) -> World {
+    let len = world::least(p.len, 24);
+    let mut v = w;
+    let mut k = at as usize;
     let mut i = from;
-    while i < p.len {
-        if to.len() <= k {
-            return;
-        }
-        to[k] = script::small(p, i);
+    while i < len {
+        v = set(v, kind, k, script::small(p, i));
         k += 1;
         i += 1;
     }
+    v
 }
 
-fn put_bytes(to: &mut [u8], at: usize, p: Part) {
-    let mut k = at;
-    let mut i: usize = 1;
-    while i < p.len {
-        if to.len() <= k {
-            return;
-        }
-        to[k] = (script::small(p, i) % 256) as u8;
-        k += 1;
-        i += 1;
-    }
-}
-
-fn put_amount(cents: &mut Cents, n: usize, x: i64) {
-    if n < 1024 {
-        cents[n] = x;
-    }
+fn put_amount(w: World, n: u16, x: i64) -> World {
+    let mut v = w;
+    v.cents[(n % 1024) as usize] = x;
+    v
 }
 
 // Where a sender's number stands on the board.
-fn sender_at(p: Part) -> usize {
-    let i = script::small(p, 0) as usize;
-    let k = script::small(p, 1) as usize;
-    2 + 21 * i + k
+fn sender_at(p: Part) -> u16 {
+    2 + 21 * (script::small(p, 0) % 32) + script::small(p, 1) % 32
 }
 
 // What a part alters by itself.
-fn edit(board: &mut Board, bytes: &mut Bytes, links: &mut Links, cents: &mut Cents, p: Part) {
-    let at = script::small(p, 0) as usize;
+fn edit(w: World, p: Part) -> World {
     let kind = p.kind;
+    let at = script::small(p, 0);
     match kind {
-        b'n' => put(board, at, p, 1),
-        b'd' => put(board, sender_at(p), p, 2),
-        b'b' => put_bytes(bytes, at, p),
-        b'l' => put(links, at, p, 1),
-        b'c' => put_amount(cents, at, script::amount(p, 1)),
-        b'C' => put_amount(cents, at, script::amount(p, 1)),
-        _ => {}
+        b'd' => put(w, b'n', sender_at(p), p, 2),
+        b'c' => put_amount(w, at, script::amount(p, 1)),
+        b'C' => put_amount(w, at, script::amount(p, 1)),
+        _ => put(w, kind, at, p, 1),
     }
 }
 
-fn is_call(kind: u8) -> bool {
-    (kind == b'a') | (kind == b'A') | (kind == b's')
+fn is_edit(kind: u8) -> bool {
+    let lists = (kind == b'n') | (kind == b'd') | (kind == b'b') | (kind == b'l');
+    lists | (kind == b'c') | (kind == b'C') | (kind == b'L')
 }
 
-fn is_read(kind: u8) -> bool {
-    (kind == b'm') | (kind == b'M') | (kind == b'k') | (kind == b'r') | (kind == b'q')
+// What was said: in words, or as the number of a refusal.
+fn say_said(kind: u8, said: Said) {
+    match kind {
+        b't' => say::refusal(said),
+        b'u' => say::refusal(said),
+        b'o' => say::refusal(said),
+        _ => say::said(said),
+    }
 }
 
-// The call of a part.
-fn act(
-    table: &[u8],
-    board: &mut Board,
-    bytes: &mut Bytes,
-    links: &mut Links,
-    keys: &mut Keys,
-    cents: &mut Cents,
-    p: Part,
-) {
+// A part's call: what was said, and whether all is as it was.
+fn hear(table: &[u8], w: World, p: Part) -> World {
     let kind = p.kind;
-    if is_call(kind) {
-        world::say_heard(world::played(
-            table,
-            board,
-            bytes,
-            links,
-            keys,
-            cents,
-            script::call_of(p),
-        ));
-        return;
+    let a = world::asked(table, w, p);
+    let said = a.said;
+    let v = a.world;
+    if script::is_call(kind) {
+        say_said(kind, said);
     }
-    if kind == b'x' {
-        world::say_calls(table, board, bytes, links, keys, cents, script::small(p, 0));
-        return;
+    if script::is_call(kind) | (kind == b'w') {
+        say::kept(world::is_same(w, v));
     }
-    if kind == b'w' {
-        replays::replay(table, board, bytes, links, keys, cents, p);
-        return;
+    v
+}
+
+// A step of sender i, an add of sender j after it, and the reads, as numbers; or the reads on the lists before both.
+fn calls(table: &[u8], w: World, i: u16, j: u16, each: bool) -> World {
+    let a = hear(table, w, script::ask(b't', i));
+    let b = hear(table, a, script::ask(b'u', j));
+    hear(table, pick(each, w, b), script::ask(b'v', j))
+}
+
+fn act(table: &[u8], w: World, p: Part) -> World {
+    let kind = p.kind;
+    if is_edit(kind) {
+        return edit(w, p);
     }
-    if is_read(kind) {
-        shown::reads(table, board, bytes, links, keys, cents, p);
+    let i = script::small(p, 0);
+    match kind {
+        b'x' => calls(table, w, i, 31, false),
+        b'y' => calls(table, w, i, i, true),
+        _ => hear(table, w, p),
     }
 }
 
@@ -120,17 +120,10 @@ fn say_end(label: usize) {
 }
 
 // A line of a script; nothing is printed of one without a label.
-fn line(
-    table: &[u8],
-    board: &mut Board,
-    bytes: &mut Bytes,
-    links: &mut Links,
-    keys: &mut Keys,
-    cents: &mut Cents,
-    text: &[u8],
-) {
+fn line(table: &[u8], w: World, text: &[u8]) -> World {
     let bar = script::find(text, 0, b'|');
     say_label(&text[0..bar]);
+    let mut v = w;
     let mut k = bar;
     while k < text.len() {
         let from = k + 1;
@@ -138,78 +131,34 @@ fn line(
             break;
         }
         let p = script::read(text, from);
-        edit(board, bytes, links, cents, p);
-        act(table, board, bytes, links, keys, cents, p);
+        v = act(table, v, p);
         k = p.next;
     }
     say_end(bar);
+    v
 }
 
-// The lines of a script, one after another.
-pub fn play(
-    table: &[u8],
-    board: &mut Board,
-    bytes: &mut Bytes,
-    links: &mut Links,
-    keys: &mut Keys,
-    cents: &mut Cents,
-    text: &[u8],
-) {
+fn pick(yes: bool, a: World, b: World) -> World {
+    if yes {
+        return a;
+    }
+    b
+}
+
+// The lines of a script, one after another, or each on the lists as they are.
+pub fn lines(table: &[u8], w: World, text: &[u8], after: bool) -> World {
+    let mut v = w;
     let mut start: usize = 0;
     while start < text.len() {
         let end = script::find(text, start, b'\n');
-        line(table, board, bytes, links, keys, cents, &text[start..end]);
+        v = pick(after, line(table, v, &text[start..end]), v);
         start = end + 1;
     }
-}
-
-// The lines of a script, each on copies.
-pub fn run(
-    table: &[u8],
-    board: &Board,
-    bytes: &Bytes,
-    links: &Links,
-    keys: &Keys,
-    cents: &Cents,
-    text: &[u8],
-) {
-    let mut start: usize = 0;
-    while start < text.len() {
-        let end = script::find(text, start, b'\n');
-        let mut b = *board;
-        let mut y = *bytes;
-        let mut l = *links;
-        let mut k = *keys;
-        let mut c = *cents;
-        line(
-            table,
-            &mut b,
-            &mut y,
-            &mut l,
-            &mut k,
-            &mut c,
-            &text[start..end],
-        );
-        start = end + 1;
-    }
+    v
 }
 
 // From an empty board: a script, and then lines, each on the board that the script leaves.
 pub fn section(table: &[u8], first: &[u8], text: &[u8]) {
-    let mut board = [0u16; 674];
-    let mut bytes = [0u8; 3072];
-    let mut links = [0u16; 10240];
-    let mut keys = [0u32; 1024];
-    let mut cents = [0i64; 1024];
-    calls::open(table, &mut board);
-    play(
-        table,
-        &mut board,
-        &mut bytes,
-        &mut links,
-        &mut keys,
-        &mut cents,
-        first,
-    );
-    run(table, &board, &bytes, &links, &keys, &cents, text);
+    let w = lines(table, world::opened(table, 0), first, true);
+    lines(table, w, text, false);
 }

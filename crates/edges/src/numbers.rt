@@ -1,7 +1,8 @@
 // Numbers that are no board's: a low byte that a board could have does not help.
 use crate::sound;
 
-fn ranges() {
+// Numbers out of their ranges; places and second numbers that a phase does not have.
+pub fn lines() {
     sound::lines(
         b"state 3|d 0 0 3;x 0\n\
         state 257|d 0 0 257;x 0\n\
@@ -14,14 +15,8 @@ fn ranges() {
         mark 2|d 0 11 2;x 0\n\
         again 255 times|d 0 12 255;x 0\n\
         again 256 times|d 0 12 256;x 0\n\
-        next chosen item 65,535|d 0 14 65535;x 0\n",
-    );
-}
-
-// Places and second numbers that a phase does not have.
-fn phases() {
-    sound::lines(
-        b"look 257|d 0 8 0 257 0;x 0\n\
+        next chosen item 65,535|d 0 14 65535;x 0\n\
+        look 257|d 0 8 0 257 0;x 0\n\
         claim 256|d 0 8 1 256 0;x 0\n\
         revert 256 of 1|d 0 8 2 256 1;x 0\n\
         free 256|d 0 8 6 256 0;x 0\n\
@@ -41,10 +36,11 @@ fn phases() {
         pass end with a second number|d 0 8 8 0 1;x 0\n\
         rest with a second number|d 0 8 9 0 1;x 0\n",
     );
+    idle();
 }
 
-// A job that is not read: sender 3 is idle.
-fn unread() {
+// A job that is not read: sender 3 is idle; then numbers that no job has, though it is not read.
+fn idle() {
     sound::lines(
         b"idle, flag of the signal 1|d 3 1 1;x 0\n\
         idle, item 65,535 in hand|d 3 6 65535;x 0\n\
@@ -54,14 +50,8 @@ fn unread() {
         idle, consume by match 65,534|d 3 8 3 255 65535;x 0\n\
         idle, mark 1, again 255 times|d 3 11 1 255;x 0\n\
         idle, chosen item 65,535|d 3 13 65535;x 0\n\
-        the last number 65,535|d 31 20 65535;x 0\n",
-    );
-}
-
-// Numbers that no job has, though it is not read.
-fn unreadable() {
-    sound::lines(
-        b"idle, flag of the signal 2|d 3 1 2;x 0\n\
+        the last number 65,535|d 31 20 65535;x 0\n\
+        idle, flag of the signal 2|d 3 1 2;x 0\n\
         idle, rule 256|d 3 7 256;x 0\n\
         idle, phase 10|d 3 8 10;x 0\n\
         idle, look 256|d 3 8 0 256 0;x 0\n\
@@ -73,11 +63,4 @@ fn unreadable() {
         blocked, phase 10|d 1 8 10;x 0\n\
         the last desk, state 3|d 31 0 3;x 0\n",
     );
-}
-
-pub fn lines() {
-    ranges();
-    phases();
-    unread();
-    unreadable();
 }

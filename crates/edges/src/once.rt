@@ -42,12 +42,18 @@ fn claim(label: &[u8], n: usize) {
     say::text(b": not claimed\n");
 }
 
-pub fn lines() {
-    members(b"rule 0", &P, 0);
-    members(b"rule 1", &P, 1);
-    members(b"rule 256", &P, 256);
-    members(b"rule 4,294,967,295", &P, 4294967295);
+fn rules() {
+    let table = P;
+    let p = &table[..];
+    members(b"rule 0", p, 0);
+    members(b"rule 1", p, 1);
+    members(b"rule 256", p, 256);
+    members(b"rule 4,294,967,295", p, 4294967295);
     members(b"rule 0 of no table", b"", 0);
+}
+
+pub fn lines() {
+    rules();
     claim(b"claim of a pending record", 0);
     claim(b"claim of a claimed record", 1);
     claim(b"claim past the records", 2);

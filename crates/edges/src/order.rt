@@ -1,8 +1,9 @@
-// Refusals in their order, on a board where sender 0 is blocked and on an empty one.
+// Refusals in their order.
 use crate::acts;
 use crate::tables::P;
 
-fn blocked() {
+// Where sender 0 is blocked; then on an empty board.
+pub fn lines() {
     acts::section(
         &P,
         b"desk 0 blocks|a 0 1 7 1;s 0;s 0\n",
@@ -19,8 +20,10 @@ fn blocked() {
         slip|r 0\n\
         quiet|q\n",
     );
+    empty();
 }
 
+// The last are adds, with a read of the message.
 fn empty() {
     acts::section(
         &P,
@@ -37,26 +40,12 @@ fn empty() {
         tray 1 of 2|a 0 1 7 1\n\
         tray 2 of 2|a 0 2 7 1\n\
         tray 256|a 0 256 7 1\n\
-        tray 65,535|a 0 65535 7 1\n",
-    );
-}
-
-// An add to an empty board, and a read of its message.
-fn amounts() {
-    acts::section(
-        &P,
-        b"",
-        b"property 0|a 0 0 0 1;m 0 0 0 1\n\
+        tray 65,535|a 0 65535 7 1\n\
+        property 0|a 0 0 0 1;m 0 0 0 1\n\
         property 4,294,967,295|a 0 0 4294967295 1;m 0 0 4294967295 1\n\
         cents 999,999,999,999|a 0 0 7 999999999999;m 0 0 7 999999999999\n\
         cents 1,000,000,000,000|a 0 0 7 1000000000000;m 0 0 7 1000000000000\n\
         cents -999,999,999,999|A 0 0 7 999999999998;M 0 0 7 999999999998\n\
         cents -1,000,000,000,000|A 0 0 7 999999999999;M 0 0 7 999999999999\n",
     );
-}
-
-pub fn lines() {
-    blocked();
-    empty();
-    amounts();
 }

@@ -1,25 +1,24 @@
 // Lists of calls (rule 6.7): rows that do not fit, too little room for the answers, and the run of table P.
-ghost use Prim.Native.Nat.{_≤_};
 use crate::acts;
-use crate::lists::*;
-use crate::same;
 use crate::say;
 use crate::script;
 use crate::script::Part;
 use crate::tables::P;
-use crate::world;
 
-// The 20 calls of the run, three digits each: 1 for an add, the sender, the channel.
-const RUN: [u8; 60] = *b"101000000000110010010010010010010010000000000000000000000000";
-
+// The 20 calls of the run, three numbers each: 1 for an add, the sender, the channel.
 fn run_calls() -> [u16; 60] {
-    let digits = RUN;
     let mut r = [0u16; 60];
-    let mut k: usize = 0;
-    while k < 60 {
-        r[k] = (digits[k] % 16) as u16;
-        k += 1;
-    }
+    r[0] = 1;
+    r[2] = 1;
+    r[12] = 1;
+    r[13] = 1;
+    r[16] = 1;
+    r[19] = 1;
+    r[22] = 1;
+    r[25] = 1;
+    r[28] = 1;
+    r[31] = 1;
+    r[34] = 1;
     r
 }
 
@@ -29,51 +28,41 @@ fn run_amounts() -> [i64; 20] {
     r
 }
 
-fn least(n: u16, most: usize) -> usize
-    ensures { λ r. ⌜ r ≤ most ⌝ }
-{
-    let k = n as usize;
-    if k <= most {
-        return k;
-    }
-    most
-}
+// No answer.
+const NONE: u32 = 4294967295;
 
-fn is_unanswered(answers: &[u32; 20]) -> bool {
-    same::keys(answers, &[4294967295; 20])
-}
-
-// The answers up to the first that was not written.
-fn say_answers(answers: &[u32; 20]) {
+// The answers that were written; a dash where the last was not, though the replay was taken.
+fn say_answers(answers: [u32; 20], number: u8) {
     let mut k: usize = 0;
     while k < 20 {
-        let a = answers[k];
-        say::answer(a);
-        if a == 4294967295 {
-            return;
+        if answers[k] != NONE {
+            say::answer(answers[k]);
         }
         k += 1;
+    }
+    if (number == 0) & (answers[19] == NONE) {
+        say::answer(NONE);
     }
 }
 
 // A replay of the first numbers of the run.
-fn replayed(
+pub fn replayed(
     table: &[u8],
-    board: &mut Board,
-    bytes: &mut Bytes,
-    links: &mut Links,
-    keys: &mut Keys,
-    cents: &mut Cents,
+    board: &mut [u16],
+    bytes: &mut [u8],
+    links: &mut [u16],
+    keys: &mut [u32],
+    cents: &mut [i64],
     p: Part,
-) -> bool {
+) -> u8 {
     let calls = run_calls();
     let numbers = [7u32; 20];
     let amounts = run_amounts();
-    let mut answers = [4294967295u32; 20];
-    let c = least(script::small(p, 0), 60);
-    let n = least(script::small(p, 1), 20);
-    let a = least(script::small(p, 2), 20);
-    let room = least(script::small(p, 3), 20);
+    let mut answers = [NONE; 20];
+    let c = (script::small(p, 0) % 61) as usize;
+    let n = (script::small(p, 1) % 21) as usize;
+    let a = (script::small(p, 2) % 21) as usize;
+    let room = (script::small(p, 3) % 21) as usize;
     let number = calls::replay(
         table,
         board,
@@ -87,33 +76,11 @@ fn replayed(
         &mut answers[0..room],
     );
     say::next(number);
-    if number == 0 {
-        say_answers(&answers);
-    }
-    is_unanswered(&answers)
+    say_answers(answers, number);
+    number
 }
 
-// The same, and whether all is as it was.
-pub fn replay(
-    table: &[u8],
-    board: &mut Board,
-    bytes: &mut Bytes,
-    links: &mut Links,
-    keys: &mut Keys,
-    cents: &mut Cents,
-    p: Part,
-) {
-    let b = *board;
-    let y = *bytes;
-    let l = *links;
-    let k = *keys;
-    let c = *cents;
-    let unanswered = replayed(table, board, bytes, links, keys, cents, p);
-    let kept = world::is_same(board, bytes, links, keys, cents, &b, &y, &l, &k, &c);
-    say::kept(kept & unanswered);
-}
-
-fn rows() {
+pub fn lines() {
     acts::section(
         &P,
         b"",
@@ -134,9 +101,5 @@ fn rows() {
         rows that fit, a board that is not sound|n 0 1025;w 6 2 2 2\n\
         the run of P|w 60 20 20 20;k 0;q;r 0\n",
     );
-}
-
-pub fn lines() {
-    rows();
     acts::section(b"", b"", b"1 before 30|w 5 2 2 0\n");
 }

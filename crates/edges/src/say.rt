@@ -3,25 +3,22 @@ ghost use Prim.Native.Nat.{_≤_};
 use libc::STDOUT_FILENO;
 use state::Said;
 
-// The words by their numbers, sixteen bytes each, a letter for the length first: b for 2, and so on.
+// The words by their numbers, sixteen bytes each, a letter for the length first: b for 2, and so on, a
+// capital where the word says no number.
 const WORDS: [u8; 288] =
-    *b"ditem           flooked         fmissed         gclaimed        dlost           \
+    *b"ditem           flooked         Fmissed         gclaimed        dlost           \
     hreverted       gmatched        hconsumed       dtold           dwoke           efreed          \
-    isignalled      eagain          eended          frested         hanswered       gresumed        \
+    isignalled      Eagain          Eended          Frested         hanswered       Gresumed        \
     grefused        ";
 
 pub fn text(t: &[u8]) {
     io::write_all(STDOUT_FILENO, t);
 }
 
-pub fn number(n: u64) {
-    io::print_decimal(STDOUT_FILENO, n);
-}
-
 pub fn word(word: &[u8], n: u16) {
     text(word);
     text(b" ");
-    number(n as u64);
+    io::print_decimal(STDOUT_FILENO, n as u64);
 }
 
 pub fn next(n: u8) {
@@ -35,8 +32,8 @@ pub fn kept(yes: bool) {
     }
 }
 
-// A word by its number.
-fn name(word: usize)
+// A word by its number; whether it says a number.
+fn name(word: usize) -> bool
     requires { ⌜ word ≤ 17 ⌝ }
 {
     let words = WORDS;
@@ -45,40 +42,27 @@ fn name(word: usize)
     let from = at + 1;
     let to = from + len;
     text(&words[from..to]);
-}
-
-// Words that say no number.
-fn is_bare(word: usize) -> bool {
-    (word == 2) | (word == 12) | (word == 13) | (word == 14) | (word == 16)
+    b'a' <= words[at]
 }
 
 // An answer by its number; a dash where there is none.
 pub fn answer(a: u32) {
-    let word = (a / 65536) as usize;
+    let number = (a / 65536) as usize;
     text(b" ");
-    if 17 < word {
+    if 17 < number {
         text(b"-");
         return;
     }
-    name(word);
-    if !is_bare(word) {
-        next_of(a % 65536);
+    if name(number) {
+        word(b"", (a % 65536) as u16);
     }
-}
-
-fn next_of(n: u32) {
-    text(b" ");
-    number(n as u64);
 }
 
 pub fn said(said: Said) {
     answer(plays::answer_number(said));
 }
 
-// The number of a refusal; 0 for none.
-pub fn number_of(said: Said) -> u8 {
-    let Said::Refused(n) = said else {
-        return 0;
-    };
-    n
+// The number of a refusal; 0 for any other answer.
+pub fn refusal(said: Said) {
+    next(state::number_of(said));
 }

@@ -5,15 +5,17 @@
 //     b AT x..         bytes from AT on
 //     l AT x..         links from AT on
 //     c N x, C N x     the cents of message N: x, or -1 - x
+//     L K n            list K is lent at n numbers
 //     a I C P x, A ..  an add by sender I, to channel C, of property P and x cents, or -1 - x
 //     s I              a step of sender I
 //     x I              a step of sender I, an add of the last sender, and the reads, as numbers
+//     y I              the same by sender I, with the reads on the lists before both
+//     o                an opening, as a number
 //     m N C P x, M ..  a read of message N, which is to have these
 //     k K, r I, q      reads of match K, of sender I's reply, and whether the board is quiet
 //     w C N A R        a replay of C numbers of calls, N properties and A amounts, with room for R answers
 ghost use Prim.Native.Nat.{_≤_, _<_};
 ghost use lib.ListN.{length};
-use boards::Call;
 use boards::Sent;
 
 struct Digits {
@@ -107,6 +109,14 @@ pub fn small(p: Part, k: usize) -> u16 {
     (at(p, k) % 65536) as u16
 }
 
+// The first number of a part, but 0 where it is a sender's.
+pub fn first(p: Part) -> u16 {
+    if p.kind == b'v' {
+        return 0;
+    }
+    small(p, 0)
+}
+
 // An amount; of a part with a capital letter it is as far below -1 as the number says.
 pub fn amount(p: Part, k: usize) -> i64 {
     let x = (at(p, k) % 10000000000000) as i64;
@@ -127,10 +137,30 @@ pub fn sent(p: Part, k: usize) -> Sent
     }
 }
 
-// The add or step of a part.
-pub fn call_of(p: Part) -> Call {
-    if p.kind == b's' {
-        return Call::Step(small(p, 0));
+// A step, an add, or an opening.
+pub fn is_call(kind: u8) -> bool {
+    (kind == b's')
+        | (kind == b'a')
+        | (kind == b'A')
+        | (kind == b't')
+        | (kind == b'u')
+        | (kind == b'o')
+}
+
+pub fn is_step(p: Part) -> bool {
+    (p.kind == b's') | (p.kind == b't')
+}
+
+// A part with one number; its message is of property 7, and of one cent.
+pub fn ask(kind: u8, i: u16) -> Part {
+    let mut numbers = [0u64; 24];
+    numbers[0] = i as u64;
+    numbers[2] = 7;
+    numbers[3] = 1;
+    Part {
+        kind: kind,
+        len: 4,
+        next: 0,
+        numbers: numbers,
     }
-    Call::Add(small(p, 0), sent(p, 1))
 }

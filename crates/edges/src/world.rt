@@ -1,147 +1,180 @@
-// Calls on the five lists of a board, and whether a call left all as found.
-use crate::lists::*;
-use crate::same;
-use crate::say;
-use boards::Call;
-use boards::Sent;
+// A board's five lists by value, and a part's call on them.
+ghost use Prim.Native.Nat.{_≤_};
+use crate::replays;
+use crate::script;
+use crate::script::Part;
+use crate::shown;
 use state::Said;
 
-// What was said to a call, and whether all is as it was.
-pub struct Heard {
-    pub said: Said,
-    pub kept: bool,
+// Each list has a number past it, and is lent at a length.
+pub struct World {
+    pub board: [u16; 675],
+    pub bytes: [u8; 3073],
+    pub links: [u16; 10241],
+    pub keys: [u32; 1025],
+    pub cents: [i64; 1025],
+    pub lens: [usize; 5],
 }
 
-pub fn made(
+// What was said, and the lists after it.
+pub struct After {
+    pub said: Said,
+    pub world: World,
+}
+
+// Lists of one number everywhere.
+pub fn filled(x: u8) -> World {
+    let number = x as u16;
+    let key = x as u32;
+    let amount = x as i64;
+    World {
+        board: [number; 675],
+        bytes: [x; 3073],
+        links: [number; 10241],
+        keys: [key; 1025],
+        cents: [amount; 1025],
+        lens: [674, 3072, 10240, 1024, 1024],
+    }
+}
+
+// Each list is read from its start again until the longest ends.
+pub fn is_same(a: World, b: World) -> bool {
+    let mut i: usize = 0;
+    while i < 10241 {
+        let n = i % 675;
+        let y = i % 3073;
+        let k = i % 1025;
+        let numbers = (a.board[n] == b.board[n])
+            & (a.bytes[y] == b.bytes[y])
+            & (a.links[i] == b.links[i]);
+        if !(numbers & (a.keys[k] == b.keys[k]) & (a.cents[k] == b.cents[k])) {
+            return false;
+        }
+        i += 1;
+    }
+    true
+}
+
+pub fn least(n: usize, most: usize) -> usize
+    ensures { λ r. ⌜ r ≤ most ⌝ }
+{
+    if n <= most {
+        return n;
+    }
+    most
+}
+
+// An opening; what is said is a refusal, of number 0 where there is none.
+fn open(table: &[u8], w: World, mut board: [u16; 675], len: usize) -> After {
+    let mut v = w;
+    let n = len % 676;
+    let number = calls::open(table, &mut board[0..n]);
+    v.board = board;
+    After {
+        said: Said::Refused(number),
+        world: v,
+    }
+}
+
+pub fn opened(table: &[u8], x: u8) -> World {
+    let a = asked(table, filled(x), script::ask(b'o', 0));
+    a.world
+}
+
+// A part's step or add on lent lists.
+fn called(
     table: &[u8],
     board: &mut [u16],
     bytes: &mut [u8],
     links: &mut [u16],
     keys: &mut [u32],
     cents: &mut [i64],
-    call: Call,
+    p: Part,
 ) -> Said {
-    match call {
-        Call::Add(i, x) => calls::add(table, board, bytes, links, keys, cents, i, x),
-        Call::Step(i) => calls::step(table, board, bytes, links, keys, cents, i),
+    let i = script::small(p, 0);
+    if script::is_step(p) {
+        return calls::step(table, board, bytes, links, keys, cents, i);
     }
-}
-
-// The same on lists of their lengths.
-pub fn make(
-    table: &[u8],
-    board: &mut Board,
-    bytes: &mut Bytes,
-    links: &mut Links,
-    keys: &mut Keys,
-    cents: &mut Cents,
-    call: Call,
-) -> Said {
-    made(table, board, bytes, links, keys, cents, call)
-}
-
-pub fn is_same(
-    board: &Board,
-    bytes: &Bytes,
-    links: &Links,
-    keys: &Keys,
-    cents: &Cents,
-    board_0: &Board,
-    bytes_0: &Bytes,
-    links_0: &Links,
-    keys_0: &Keys,
-    cents_0: &Cents,
-) -> bool {
-    same::lists(
+    calls::add(
+        table,
         board,
         bytes,
         links,
         keys,
         cents,
-        board_0,
-        bytes_0,
-        links_0,
-        keys_0,
-        cents_0,
+        i,
+        script::sent(p, 1),
     )
 }
 
-pub fn played(
+// A part's call on lent lists; a replay and a read are printed.
+fn lent(
     table: &[u8],
-    board: &mut Board,
-    bytes: &mut Bytes,
-    links: &mut Links,
-    keys: &mut Keys,
-    cents: &mut Cents,
-    call: Call,
-) -> Heard {
-    let b = *board;
-    let y = *bytes;
-    let l = *links;
-    let k = *keys;
-    let c = *cents;
-    let said = make(table, board, bytes, links, keys, cents, call);
-    Heard {
+    board: &mut [u16],
+    bytes: &mut [u8],
+    links: &mut [u16],
+    keys: &mut [u32],
+    cents: &mut [i64],
+    p: Part,
+) -> Said {
+    let kind = p.kind;
+    if script::is_call(kind) {
+        return called(table, board, bytes, links, keys, cents, p);
+    }
+    if kind == b'w' {
+        return Said::Refused(replays::replayed(table, board, bytes, links, keys, cents, p));
+    }
+    shown::reads(table, board, bytes, links, keys, cents, p);
+    Said::Refused(0)
+}
+
+// The same, with each list at its length.
+fn lend(
+    table: &[u8],
+    mut board: [u16; 675],
+    mut bytes: [u8; 3073],
+    mut links: [u16; 10241],
+    mut keys: [u32; 1025],
+    mut cents: [i64; 1025],
+    lens: [usize; 5],
+    p: Part,
+) -> After {
+    let n0 = lens[0] % 676;
+    let n1 = lens[1] % 3074;
+    let n2 = lens[2] % 10242;
+    let n3 = lens[3] % 1026;
+    let n4 = lens[4] % 1026;
+    let said = lent(
+        table,
+        &mut board[0..n0],
+        &mut bytes[0..n1],
+        &mut links[0..n2],
+        &mut keys[0..n3],
+        &mut cents[0..n4],
+        p,
+    );
+    After {
         said: said,
-        kept: is_same(board, bytes, links, keys, cents, &b, &y, &l, &k, &c),
+        world: World {
+            board: board,
+            bytes: bytes,
+            links: links,
+            keys: keys,
+            cents: cents,
+            lens: lens,
+        },
     }
 }
 
-// What was said, and whether all is as it was.
-pub fn say_heard(h: Heard) {
-    let said = h.said;
-    say::said(said);
-    say::kept(h.kept);
-}
-
-// The number of a call, and whether all is as it was.
-pub fn say_tried(h: Heard) {
-    let said = h.said;
-    say::next(say::number_of(said));
-    say::kept(h.kept);
-}
-
-// The numbers of the reads: quiet, sender i's reply, message 0 and match 0.
-pub fn say_reads(
-    table: &[u8],
-    board: &[u16],
-    bytes: &[u8],
-    links: &[u16],
-    keys: &[u32],
-    cents: &[i64],
-    i: u16,
-) {
-    let q = calls::read_quiet(table, board, bytes, links, keys, cents);
-    let r = calls::read_reply(table, board, bytes, links, keys, cents, i);
-    let m = calls::read_message(table, board, bytes, links, keys, cents, 0);
-    let k = calls::read_match(table, board, bytes, links, keys, cents, 0);
-    say::next(q.number);
-    say::next(r.number);
-    say::next(m.number);
-    say::next(k.number);
-}
-
-// A step of sender i, an add of the last sender after it, and the reads, as numbers.
-pub fn say_calls(
-    table: &[u8],
-    board: &mut Board,
-    bytes: &mut Bytes,
-    links: &mut Links,
-    keys: &mut Keys,
-    cents: &mut Cents,
-    i: u16,
-) {
-    say_tried(played(table, board, bytes, links, keys, cents, Call::Step(i)));
-    say_tried(played(table, board, bytes, links, keys, cents, add(31)));
-    say_reads(table, board, bytes, links, keys, cents, 31);
-}
-
-// An add of one cent to the first channel.
-pub fn add(i: u16) -> Call {
-    let x = Sent {
-        channel: 0,
-        property: 7,
-        cents: 1,
-    };
-    Call::Add(i, x)
+pub fn asked(table: &[u8], w: World, p: Part) -> After {
+    let board = w.board;
+    let bytes = w.bytes;
+    let links = w.links;
+    let keys = w.keys;
+    let cents = w.cents;
+    let lens = w.lens;
+    if p.kind == b'o' {
+        return open(table, w, board, lens[0]);
+    }
+    lend(table, board, bytes, links, keys, cents, lens, p)
 }

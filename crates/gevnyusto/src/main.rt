@@ -1,5 +1,6 @@
 // The matching board as a program: it reads `rules.bin`, plays the lines of its standard input, and prints what each
-// answers and, at the end, what is on the board. What it cannot read or write it says on standard error, and stops.
+// answers and, at the end, what is on the board. What it cannot read or write it says on standard error; without its
+// input or its output it stops.
 ghost use mathlib.Core.Path.{_≡_};
 ghost use Prim.Native.Nat.{_≤_};
 ghost use lib.ListN.{length, getD};
@@ -24,7 +25,17 @@ struct Fed {
     ended: bool,
 }
 
-// The bytes of `rules.bin`, at most 413 of them; none where it cannot be opened.
+// Whether a read past the bytes of `rules.bin` fails.
+fn is_failed(fd: i32) -> bool {
+    let mut past = [0u8; 1];
+    if 0 <= libc::read(fd, &mut past) {
+        return false;
+    }
+    os::fail(b"rules.bin");
+    true
+}
+
+// The bytes of `rules.bin`, at most 413 of them; none where it cannot be read.
 fn load(buf: &mut [u8; 413]) -> usize
     ensures { λ r. ⌜ Counts r (now (buf .exit)) ⌝ }
 {
@@ -36,11 +47,11 @@ fn load(buf: &mut [u8; 413]) -> usize
         return 0;
     }
     let n = io::read_full(fd, buf);
-    let mut past = [0u8; 1];
-    if libc::read(fd, &mut past) < 0 {
-        os::fail(b"rules.bin");
-    }
+    let failed = is_failed(fd);
     libc::close(fd);
+    if failed {
+        return 0;
+    }
     n
 }
 

@@ -6,31 +6,10 @@ use Rattle.edges.proofs.script.find.Statement.{statement}
 use Rattle.edges.proofs.script.find.Tie as tie
 
 abbrev Inv-loop : tie.InvT-loop
-Inv-loop text at x k₀ k = (at ≤ k) × (k ≤ length text)
+Inv-loop text at _ _ k = (at ≤ k) × (k ≤ length text)
 
 abbrev μ-loop : tie.MeasureT-loop
-μ-loop text at x k₀ k = length text - k
-
-loop-holds : tie.Need-loop-holds Inv-loop μ-loop
-loop-holds c = search needs
-
-shared-slice-read-if1 : tie.Need-shared-slice-read-if1 Inv-loop μ-loop
-shared-slice-read-if1 c = search needs
-
-returns : tie.Need-returns Inv-loop μ-loop
-returns c = search needs
-
-add-k : tie.Need-add-k Inv-loop μ-loop
-add-k c = search needs
-
-loop-less : tie.Need-loop-less Inv-loop μ-loop
-loop-less c = search needs
-
-loop-again : tie.Need-loop-again Inv-loop μ-loop
-loop-again c = search needs
-
-returns-2 : tie.Need-returns-2 Inv-loop μ-loop
-returns-2 c = search needs
+μ-loop text _ _ _ k = length text - k
 
 pub find-spec : {M : Type 1} → statement M
 find-spec =
@@ -38,10 +17,10 @@ find-spec =
     (tie.spec
     Inv-loop
     μ-loop
-    loop-holds
-    shared-slice-read-if1
-    returns
-    add-k
-    loop-less
-    loop-again
-    returns-2)
+    (λ c. search needs)
+    (λ c. search needs)
+    (λ c. search needs)
+    (λ c. search needs)
+    (λ c. search needs)
+    (λ c. search needs)
+    (λ c. search needs))
