@@ -1,9 +1,9 @@
 // Scripts, played on the lists of a board.
-use crate::say;
-use crate::script;
-use crate::script::Part;
-use crate::world;
-use crate::world::World;
+use scripts::say;
+use scripts::script;
+use scripts::script::Part;
+use scripts::world;
+use scripts::world::World;
 use state::Said;
 
 // A number at its place in the list of a letter.

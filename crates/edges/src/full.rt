@@ -1,10 +1,10 @@
 // A full board: the last message, and refusals in their order.
 use crate::acts;
-use crate::say;
-use crate::script;
 use crate::tables::ONE;
-use crate::world;
-use crate::world::World;
+use scripts::say;
+use scripts::script;
+use scripts::world;
+use scripts::world::World;
 use state::Said;
 
 fn is_said(said: Said, answer: u32) -> bool {

@@ -3,7 +3,7 @@ ghost use Prim.Native.Nat.{_≤_, _<_};
 use crate::acts;
 use crate::tables::ONE;
 use crate::tables::P;
-use crate::world;
+use scripts::world;
 
 // Lines, each on an empty board with other numbers past it.
 fn opened(table: &[u8], text: &[u8]) {

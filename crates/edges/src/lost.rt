@@ -1,7 +1,7 @@
 // Claims that are lost.
 use crate::acts;
-use crate::say;
 use crate::tables::TWO;
+use scripts::say;
 
 // A first claim lost to a sender that holds it: again, and ended only when that one is done.
 fn first() {

@@ -8,13 +8,9 @@ mod numbers;
 mod once;
 mod order;
 mod replays;
-mod say;
-mod script;
-mod shown;
 mod sound;
 mod tables;
 mod unsound;
-mod world;
 
 fn main() {
     full::lines();

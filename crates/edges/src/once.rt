@@ -1,7 +1,7 @@
 // A chord's members, and a claim on records.
-use crate::say;
 use crate::tables::P;
 use records::Message;
+use scripts::say;
 
 // Whether a chord is refused, and the bytes that name its channels.
 fn members(label: &[u8], table: &[u8], chord: u32) {

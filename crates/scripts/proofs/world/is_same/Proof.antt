@@ -1,8 +1,8 @@
--- `edges::world::is_same` is safe and ends: each list is read at places within it.
+-- `scripts::world::is_same` is safe and ends: each list is read at places within it.
 use Prim.Native.Nat.{_≤_, _-_}
 use borrow.Author.Needs.{needs}
-use Rattle.edges.proofs.world.is_same.Statement.{statement}
-use Rattle.edges.proofs.world.is_same.Tie as tie
+use Rattle.scripts.proofs.world.is_same.Statement.{statement}
+use Rattle.scripts.proofs.world.is_same.Tie as tie
 
 abbrev Inv-loop : tie.InvT-loop
 Inv-loop _ _ _ i = i ≤ 10241

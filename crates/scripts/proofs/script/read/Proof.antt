@@ -1,9 +1,9 @@
--- `edges::script::read` meets its contract: the part ends within the text, and past its letter.
+-- `scripts::script::read` meets its contract: the part ends within the text, and past its letter.
 use Prim.Native.Nat.{_+_, _≤_, _-_}
 use lib.ListN.{length}
 use borrow.Author.Needs.{needs}
-use Rattle.edges.proofs.script.read.Statement.{statement}
-use Rattle.edges.proofs.script.read.Tie as tie
+use Rattle.scripts.proofs.script.read.Statement.{statement}
+use Rattle.scripts.proofs.script.read.Tie as tie
 
 abbrev Inv-loop : tie.InvT-loop
 Inv-loop text at _ _ _ _ len k = (at + 1 ≤ k) × (k ≤ length text) × (len ≤ 24)

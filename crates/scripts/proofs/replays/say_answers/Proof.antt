@@ -1,8 +1,8 @@
--- `edges::replays::say_answers` is safe and ends: 20 answers are read.
+-- `scripts::replays::say_answers` is safe and ends: 20 answers are read.
 use Prim.Native.Nat.{_≤_, _-_}
 use borrow.Author.Needs.{needs}
-use Rattle.edges.proofs.replays.say_answers.Statement.{statement}
-use Rattle.edges.proofs.replays.say_answers.Tie as tie
+use Rattle.scripts.proofs.replays.say_answers.Statement.{statement}
+use Rattle.scripts.proofs.replays.say_answers.Tie as tie
 
 abbrev Inv-loop : tie.InvT-loop
 Inv-loop _ _ _ k = k ≤ 20

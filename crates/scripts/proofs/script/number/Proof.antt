@@ -1,9 +1,9 @@
--- `edges::script::number` meets its contract: the digits end within the text.
+-- `scripts::script::number` meets its contract: the digits end within the text.
 use Prim.Native.Nat.{_≤_, _-_}
 use lib.ListN.{length}
 use borrow.Author.Needs.{needs}
-use Rattle.edges.proofs.script.number.Statement.{statement}
-use Rattle.edges.proofs.script.number.Tie as tie
+use Rattle.scripts.proofs.script.number.Statement.{statement}
+use Rattle.scripts.proofs.script.number.Tie as tie
 
 abbrev Inv-loop : tie.InvT-loop
 Inv-loop text at _ _ _ k = (at ≤ k) × (k ≤ length text)

@@ -1,9 +1,9 @@
--- `edges::script::find` meets its contract: the place found is within the text.
+-- `scripts::script::find` meets its contract: the place found is within the text.
 use Prim.Native.Nat.{_≤_, _-_}
 use lib.ListN.{length}
 use borrow.Author.Needs.{needs}
-use Rattle.edges.proofs.script.find.Statement.{statement}
-use Rattle.edges.proofs.script.find.Tie as tie
+use Rattle.scripts.proofs.script.find.Statement.{statement}
+use Rattle.scripts.proofs.script.find.Tie as tie
 
 abbrev Inv-loop : tie.InvT-loop
 Inv-loop text at _ _ k = (at ≤ k) × (k ≤ length text)

@@ -1,0 +1,79 @@
+// A replay of the first calls of the run of table P (rule 6.7).
+use crate::say;
+use crate::script;
+use crate::script::Part;
+
+// The 20 calls of the run, three numbers each: 1 for an add, the sender, the channel.
+fn run_calls() -> [u16; 60] {
+    let mut r = [0u16; 60];
+    r[0] = 1;
+    r[2] = 1;
+    r[12] = 1;
+    r[13] = 1;
+    r[16] = 1;
+    r[19] = 1;
+    r[22] = 1;
+    r[25] = 1;
+    r[28] = 1;
+    r[31] = 1;
+    r[34] = 1;
+    r
+}
+
+fn run_amounts() -> [i64; 20] {
+    let mut r = [0i64; 20];
+    r[4] = 5000;
+    r
+}
+
+// No answer.
+const NONE: u32 = 4294967295;
+
+// The answers that were written; a dash where the last was not, though the replay was taken.
+fn say_answers(answers: [u32; 20], number: u8) {
+    let mut k: usize = 0;
+    while k < 20 {
+        if answers[k] != NONE {
+            say::answer(answers[k]);
+        }
+        k += 1;
+    }
+    if (number == 0) & (answers[19] == NONE) {
+        say::answer(NONE);
+    }
+}
+
+// A replay of the first numbers of the run.
+pub fn replayed(
+    table: &[u8],
+    board: &mut [u16],
+    bytes: &mut [u8],
+    links: &mut [u16],
+    keys: &mut [u32],
+    cents: &mut [i64],
+    p: Part,
+) -> u8 {
+    let calls = run_calls();
+    let numbers = [7u32; 20];
+    let amounts = run_amounts();
+    let mut answers = [NONE; 20];
+    let c = (script::small(p, 0) % 61) as usize;
+    let n = (script::small(p, 1) % 21) as usize;
+    let a = (script::small(p, 2) % 21) as usize;
+    let room = (script::small(p, 3) % 21) as usize;
+    let number = calls::replay(
+        table,
+        board,
+        bytes,
+        links,
+        keys,
+        cents,
+        &calls[0..c],
+        &numbers[0..n],
+        &amounts[0..a],
+        &mut answers[0..room],
+    );
+    say::next(number);
+    say_answers(answers, number);
+    number
+}
