@@ -54,12 +54,6 @@ returns-2 c =
     let a = c .before .before .before .args in
     rw (lt-ltb (a .i) 32 (omega arith), not-true (a .idle) (c .if2 .taken))
 
-channels-len-requires : tie.Need-channels-len-requires
-channels-len-requires c κs = search needs
-
-cast-if3 : tie.Need-cast-if3
-cast-if3 c = search needs
-
 returns-3 : tie.Need-returns-3
 returns-3 c =
     let p = c .before .before .before in
@@ -70,9 +64,6 @@ returns-3 c =
       le-ltb (a .x .channel) (length (tableOf (a .table .now) .kinds))
           (omega (arith, c .if3 .taken, c .before .before .channels-len .ensures)),
     )
-
-amount-ok-requires : tie.Need-amount-ok-requires
-amount-ok-requires c κs = search needs
 
 returns-4 : tie.Need-returns-4
 returns-4 c =
@@ -115,10 +106,10 @@ add-refusal-spec =
     (tie.spec
     returns
     returns-2
-    channels-len-requires
-    cast-if3
+    (λ c κs. search needs)
+    (λ c. search needs)
     returns-3
-    amount-ok-requires
+    (λ c κs. search needs)
     returns-4
     returns-5
     returns-6)

@@ -4,14 +4,8 @@ use borrow.Author.Needs.{needs}
 use Rattle.adds.proofs.new_sender.Statement.{statement}
 use Rattle.adds.proofs.new_sender.Tie as tie
 
-new-pass-requires : tie.Need-new-pass-requires
-new-pass-requires c κs = search needs
-
-add-t6 : tie.Need-add-t6
-add-t6 c = search needs
-
 returns : tie.Need-returns
 returns c = λ is e. rw (c .new-pass .ensures is e, add-one (c .before .before .args .n))
 
 pub new-sender-spec : {M : Type 1} → statement M
-new-sender-spec = tie.close (tie.spec new-pass-requires add-t6 returns)
+new-sender-spec = tie.close (tie.spec (λ c κs. search needs) (λ c. search needs) returns)

@@ -17,30 +17,6 @@ abbrev μ-loop : tie.MeasureT-loop
 loop-holds : tie.Need-loop-holds Inv-loop μ-loop
 loop-holds c = (omega arith, λ t. refl)
 
-mul-at : tie.Need-mul-at Inv-loop μ-loop
-mul-at c = search needs
-
-add-at : tie.Need-add-at Inv-loop μ-loop
-add-at c = search needs
-
-mul-steps-at : tie.Need-mul-steps-at Inv-loop μ-loop
-mul-steps-at c = search needs
-
-shared-slice-read-steps-at : tie.Need-shared-slice-read-steps-at Inv-loop μ-loop
-shared-slice-read-steps-at c = search needs
-
-add-steps-at : tie.Need-add-steps-at Inv-loop μ-loop
-add-steps-at c = search needs
-
-mul-steps-at-2 : tie.Need-mul-steps-at-2 Inv-loop μ-loop
-mul-steps-at-2 c = search needs
-
-shared-slice-read-steps-at-2 : tie.Need-shared-slice-read-steps-at-2 Inv-loop μ-loop
-shared-slice-read-steps-at-2 c = search needs
-
-steps-at-requires : tie.Need-steps-at-requires Inv-loop μ-loop
-steps-at-requires c κs = search needs
-
 returns : tie.Need-returns Inv-loop μ-loop
 returns c t cols pairs =
     let q = c .before in
@@ -48,12 +24,6 @@ returns c t cols pairs =
     let s = p .before .before .args .board .now in
     sym (quiet-all t s cols pairs ∙ p .loop .inv .1 t ∙ rest-no t s (p .loop .i) (omega arith)
     (sym (q .steps-at .ensures) ∙ c .if1 .taken))
-
-add-i : tie.Need-add-i Inv-loop μ-loop
-add-i c = search needs
-
-loop-less : tie.Need-loop-less Inv-loop μ-loop
-loop-less c = search needs
 
 loop-again : tie.Need-loop-again Inv-loop μ-loop
 loop-again c =
@@ -77,16 +47,16 @@ is-quiet-spec =
     Inv-loop
     μ-loop
     loop-holds
-    mul-at
-    add-at
-    mul-steps-at
-    shared-slice-read-steps-at
-    add-steps-at
-    mul-steps-at-2
-    shared-slice-read-steps-at-2
-    steps-at-requires
+    (λ c. search needs)
+    (λ c. search needs)
+    (λ c. search needs)
+    (λ c. search needs)
+    (λ c. search needs)
+    (λ c. search needs)
+    (λ c. search needs)
+    (λ c κs. search needs)
     returns
-    add-i
-    loop-less
+    (λ c. search needs)
+    (λ c. search needs)
     loop-again
     returns-2)

@@ -6,24 +6,6 @@ use borrow.Author.Needs.{needs}
 use Rattle.calls.proofs.message_in.Statement.{statement}
 use Rattle.calls.proofs.message_in.Tie as tie
 
-channels-requires : tie.Need-channels-requires
-channels-requires c κs = search needs
-
-properties-requires : tie.Need-properties-requires
-properties-requires c κs = search needs
-
-statuses-requires : tie.Need-statuses-requires
-statuses-requires c κs = search needs
-
-matched-requires : tie.Need-matched-requires
-matched-requires c κs = search needs
-
-wakers-requires : tie.Need-wakers-requires
-wakers-requires c κs = search needs
-
-message-read-requires : tie.Need-message-read-requires
-message-read-requires c κs = search needs
-
 returns : tie.Need-returns
 returns c =
     let w = c .before in
@@ -41,10 +23,10 @@ pub message-in-spec : {M : Type 1} → statement M
 message-in-spec =
     tie.close
     (tie.spec
-    channels-requires
-    properties-requires
-    statuses-requires
-    matched-requires
-    wakers-requires
-    message-read-requires
+    (λ c κs. search needs)
+    (λ c κs. search needs)
+    (λ c κs. search needs)
+    (λ c κs. search needs)
+    (λ c κs. search needs)
+    (λ c κs. search needs)
     returns)

@@ -25,32 +25,11 @@ start c = c .before .before .before .before .before .before .before .before .bef
 accepted : (c : tie.Else1) → Accepted (start (c .before) .args .table .now) (lent (start (c .before)))
 accepted c = accepted-lists _ _ (sym (c .before .board-refusal .ensures) ∙ c .if1 .left)
 
-board-refusal-requires : tie.Need-board-refusal-requires
-board-refusal-requires c κs = search needs
-
-same-length : tie.Need-same-length
-same-length c = search needs
-
-same-length-2 : tie.Need-same-length-2
-same-length-2 c = search needs
-
-same-length-3 : tie.Need-same-length-3
-same-length-3 c = search needs
-
-same-length-4 : tie.Need-same-length-4
-same-length-4 c = search needs
-
-same-length-5 : tie.Need-same-length-5
-same-length-5 c = search needs
-
 returns : tie.Need-returns
 returns c =
     let k = c .before in
     let s = start k in
     call-refused (s .args .table .now) (lent s) (callAt (given s) 0) _ (k .board-refusal .ensures) (c .if1 .taken)
-
-slice-aggregate-replay-core : tie.Need-slice-aggregate-replay-core
-slice-aggregate-replay-core c = search needs
 
 replay-core-requires : tie.Need-replay-core-requires
 replay-core-requires c κs =
@@ -64,21 +43,6 @@ replay-core-requires c κs =
       },
     )
 
-same-length-6 : tie.Need-same-length-6
-same-length-6 c = search needs
-
-same-length-7 : tie.Need-same-length-7
-same-length-7 c = search needs
-
-same-length-8 : tie.Need-same-length-8
-same-length-8 c = search needs
-
-same-length-9 : tie.Need-same-length-9
-same-length-9 c = search needs
-
-same-length-10 : tie.Need-same-length-10
-same-length-10 c = search needs
-
 returns-2 : tie.Need-returns-2
 returns-2 c =
     let p = c .before .before .before .before .before .before .before .before .before .before in
@@ -91,18 +55,18 @@ pub one-call-spec : {M : Type 1} → statement M
 one-call-spec =
     tie.close
     (tie.spec
-    board-refusal-requires
-    same-length
-    same-length-2
-    same-length-3
-    same-length-4
-    same-length-5
+    (λ c κs. search needs)
+    (λ c. search needs)
+    (λ c. search needs)
+    (λ c. search needs)
+    (λ c. search needs)
+    (λ c. search needs)
     returns
-    slice-aggregate-replay-core
+    (λ c. search needs)
     replay-core-requires
-    same-length-6
-    same-length-7
-    same-length-8
-    same-length-9
-    same-length-10
+    (λ c. search needs)
+    (λ c. search needs)
+    (λ c. search needs)
+    (λ c. search needs)
+    (λ c. search needs)
     returns-2)

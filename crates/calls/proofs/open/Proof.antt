@@ -10,9 +10,6 @@ use Rattle.calls.proofs.open.Tie as tie
 accepted : (c : tie.Else1) → tableRefusal (c .before .before .before .before .args .table .now) ≡ 0
 accepted c = sym (c .before .table-refusal .ensures) ∙ c .if1 .left
 
-table-refusal-requires : tie.Need-table-refusal-requires
-table-refusal-requires c κs = search needs
-
 returns : tie.Need-returns
 returns c =
     let q = c .before in
@@ -25,12 +22,6 @@ returns-2 c =
     let a = d .before .before .before .before .args in
     opens-none (a .table .now) (a .board .now) (accepted d) (c .if2 .taken)
 
-put-fresh-requires : tie.Need-put-fresh-requires
-put-fresh-requires c κs = search needs
-
-same-length : tie.Need-same-length
-same-length c = search needs
-
 returns-3 : tie.Need-returns-3
 returns-3 c =
     let p = c .before .before in
@@ -42,4 +33,4 @@ returns-3 c =
 pub open-spec : {M : Type 1} → statement M
 open-spec =
     tie.close
-    (tie.spec table-refusal-requires returns returns-2 put-fresh-requires same-length returns-3)
+    (tie.spec (λ c κs. search needs) returns returns-2 (λ c κs. search needs) (λ c. search needs) returns-3)

@@ -27,12 +27,6 @@ accepted : (c : tie.Else1) → let s = start (c .before) in
     refusalOf (s .args .table .now) (heldIn (lent s)) ≡ 0
 accepted c = sym (c .before .board-refusal .ensures) ∙ c .if1 .left
 
-board-refusal-requires : tie.Need-board-refusal-requires
-board-refusal-requires c κs = search needs
-
-no-match-requires : tie.Need-no-match-requires
-no-match-requires c κs = search needs
-
 returns : tie.Need-returns
 returns c =
     let q = c .before .before in
@@ -47,9 +41,6 @@ shared-slice-read-if2 c =
     let d = c .before in
     let s = start (d .before) in
     omega (arith, numbers-len (s .args .table .now) (lent s) (accepted d))
-
-no-match-requires-2 : tie.Need-no-match-requires-2
-no-match-requires-2 c κs = search needs
 
 returns-2 : tie.Need-returns-2
 returns-2 c =
@@ -106,11 +97,11 @@ pub read-match-spec : {M : Type 1} → statement M
 read-match-spec =
     tie.close
     (tie.spec
-    board-refusal-requires
-    no-match-requires
+    (λ c κs. search needs)
+    (λ c κs. search needs)
     returns
     shared-slice-read-if2
-    no-match-requires-2
+    (λ c κs. search needs)
     returns-2
     chords-requires
     members-requires

@@ -24,12 +24,6 @@ accepted : (c : tie.Else1) → let s = start (c .before) in
     refusalOf (s .args .table .now) (heldIn (lent s)) ≡ 0
 accepted c = sym (c .before .board-refusal .ensures) ∙ c .if1 .left
 
-board-refusal-requires : tie.Need-board-refusal-requires
-board-refusal-requires c κs = search needs
-
-no-message-requires : tie.Need-no-message-requires
-no-message-requires c κs = search needs
-
 returns : tie.Need-returns
 returns c =
     let q = c .before .before in
@@ -44,9 +38,6 @@ shared-slice-read-if2 c =
     let d = c .before in
     let s = start (d .before) in
     omega (arith, numbers-len (s .args .table .now) (lent s) (accepted d))
-
-no-message-requires-2 : tie.Need-no-message-requires-2
-no-message-requires-2 c κs = search needs
 
 returns-2 : tie.Need-returns-2
 returns-2 c =
@@ -80,11 +71,11 @@ pub read-message-spec : {M : Type 1} → statement M
 read-message-spec =
     tie.close
     (tie.spec
-    board-refusal-requires
-    no-message-requires
+    (λ c κs. search needs)
+    (λ c κs. search needs)
     returns
     shared-slice-read-if2
-    no-message-requires-2
+    (λ c κs. search needs)
     returns-2
     message-in-requires
     returns-3)

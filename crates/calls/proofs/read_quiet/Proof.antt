@@ -24,9 +24,6 @@ accepted : (c : tie.Else1) → let s = start (c .before) in
     refusalOf (s .args .table .now) (heldIn (lent s)) ≡ 0
 accepted c = sym (c .before .board-refusal .ensures) ∙ c .if1 .left
 
-board-refusal-requires : tie.Need-board-refusal-requires
-board-refusal-requires c κs = search needs
-
 returns : tie.Need-returns
 returns c =
     let q = c .before in
@@ -48,4 +45,4 @@ returns-2 c =
     (sym (accepted d), w ∙ quiet-is t (lent s) (accepted d))
 
 pub read-quiet-spec : {M : Type 1} → statement M
-read-quiet-spec = tie.close (tie.spec board-refusal-requires returns is-quiet-requires returns-2)
+read-quiet-spec = tie.close (tie.spec (λ c κs. search needs) returns is-quiet-requires returns-2)

@@ -24,9 +24,6 @@ accepted : (c : tie.Else1) → let s = start (c .before) in
     refusalOf (s .args .table .now) (heldIn (lent s)) ≡ 0
 accepted c = sym (c .before .board-refusal .ensures) ∙ c .if1 .left
 
-board-refusal-requires : tie.Need-board-refusal-requires
-board-refusal-requires c κs = search needs
-
 returns : tie.Need-returns
 returns c =
     let q = c .before in
@@ -39,18 +36,6 @@ returns-2 c =
     let d = c .before in
     let s = start (d .before) in
     reply-none (s .args .table .now) (heldIn (lent s)) (accepted d) (s .args .i) (omega (arith, c .if2 .taken))
-
-mul-at : tie.Need-mul-at
-mul-at c = search needs
-
-add-at : tie.Need-add-at
-add-at c = search needs
-
-add-t11 : tie.Need-add-t11
-add-t11 c = search needs
-
-mul-t12 : tie.Need-mul-t12
-mul-t12 c = search needs
 
 shared-slice-read-t14 : tie.Need-shared-slice-read-t14
 shared-slice-read-t14 c =
@@ -68,12 +53,12 @@ pub read-reply-spec : {M : Type 1} → statement M
 read-reply-spec =
     tie.close
     (tie.spec
-    board-refusal-requires
+    (λ c κs. search needs)
     returns
     returns-2
-    mul-at
-    add-at
-    add-t11
-    mul-t12
+    (λ c. search needs)
+    (λ c. search needs)
+    (λ c. search needs)
+    (λ c. search needs)
     shared-slice-read-t14
     returns-3)

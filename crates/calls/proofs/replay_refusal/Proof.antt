@@ -23,9 +23,6 @@ returns c =
     let s = c .before .before .before in
     refused-board (s .args .number) (given s) (s .args .room) (s .args .number) (c .if1 .taken) refl
 
-rows-fit-requires : tie.Need-rows-fit-requires
-rows-fit-requires c κs = search needs
-
 returns-2 : tie.Need-returns-2
 returns-2 c =
     let k = c .before in
@@ -48,4 +45,4 @@ returns-4 c =
     (omega (arith, c .if3 .left))
 
 pub replay-refusal-spec : {M : Type 1} → statement M
-replay-refusal-spec = tie.close (tie.spec returns rows-fit-requires returns-2 returns-3 returns-4)
+replay-refusal-spec = tie.close (tie.spec returns (λ c κs. search needs) returns-2 returns-3 returns-4)

@@ -3,9 +3,6 @@ use borrow.Author.Needs.{needs}
 use Rattle.chords.proofs.channel_at.Statement.{statement}
 use Rattle.chords.proofs.channel_at.Tie as tie
 
-members-requires : tie.Need-members-requires
-members-requires c κs = search needs
-
 shared-slice-read-result : tie.Need-shared-slice-read-result
 shared-slice-read-result c = rw (c .before .members .ensures) (c .before .before .before .pre .1)
 
@@ -13,4 +10,4 @@ returns : tie.Need-returns
 returns c = rw (c .before .members .ensures)
 
 pub channel-at-spec : {M : Type 1} → statement M
-channel-at-spec = tie.close (tie.spec members-requires shared-slice-read-result returns)
+channel-at-spec = tie.close (tie.spec (λ c κs. search needs) shared-slice-read-result returns)

@@ -26,20 +26,11 @@ few c =
     let s = c .before .before in
     rw (c .members .ensures) (table-ok _ (s .pre .0) .chord-few (s .args .chord) (s .pre .1))
 
-members-requires : tie.Need-members-requires Inv-loop μ-loop
-members-requires c κs = search needs
-
 cast-n : tie.Need-cast-n Inv-loop μ-loop
 cast-n c = omega (arith, few c)
 
 loop-holds : tie.Need-loop-holds Inv-loop μ-loop
 loop-holds c = (search needs, search needs, omega arith)
-
-cast-k : tie.Need-cast-k Inv-loop μ-loop
-cast-k c = search needs
-
-shared-slice-read-is-sync : tie.Need-shared-slice-read-is-sync Inv-loop μ-loop
-shared-slice-read-is-sync c = search needs
 
 is-sync-requires : tie.Need-is-sync-requires Inv-loop μ-loop
 is-sync-requires c κs =
@@ -61,9 +52,6 @@ returns c =
 
 add-i : tie.Need-add-i Inv-loop μ-loop
 add-i c = omega (arith, few (c .before .before .before .before .before))
-
-loop-less : tie.Need-loop-less Inv-loop μ-loop
-loop-less c = search needs
 
 loop-again : tie.Need-loop-again Inv-loop μ-loop
 loop-again c =
@@ -89,14 +77,14 @@ first-sync-spec =
     (tie.spec
     Inv-loop
     μ-loop
-    members-requires
+    (λ c κs. search needs)
     cast-n
     loop-holds
-    cast-k
-    shared-slice-read-is-sync
+    (λ c. search needs)
+    (λ c. search needs)
     is-sync-requires
     returns
     add-i
-    loop-less
+    (λ c. search needs)
     loop-again
     returns-2)

@@ -13,9 +13,6 @@ use Rattle.chords.proofs.is_sync.Tie as tie
 below : (s : tie.Start) → s .args .channel < countT (s .args .table .now)
 below s = let n = length-kinds _ (accepted _ (s .pre .0)) in omega (arith, s .pre .1)
 
-add-result : tie.Need-add-result
-add-result c = search needs
-
 shared-slice-read-result : tie.Need-shared-slice-read-result
 shared-slice-read-result c =
     let s = c .before in
@@ -29,4 +26,4 @@ returns c =
     rw (kind-at (s .args .table .now) (s .args .channel) (below s))
 
 pub is-sync-spec : {M : Type 1} → statement M
-is-sync-spec = tie.close (tie.spec add-result shared-slice-read-result returns)
+is-sync-spec = tie.close (tie.spec (λ c. search needs) shared-slice-read-result returns)

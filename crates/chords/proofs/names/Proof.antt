@@ -3,14 +3,8 @@ use borrow.Author.Needs.{needs}
 use Rattle.chords.proofs.names.Statement.{statement}
 use Rattle.chords.proofs.names.Tie as tie
 
-members-requires : tie.Need-members-requires
-members-requires c κs = search needs
-
-is-in-requires : tie.Need-is-in-requires
-is-in-requires c κs = search needs
-
 returns : tie.Need-returns
 returns c = rw (← c .before .members .ensures) (c .is-in .ensures)
 
 pub names-spec : {M : Type 1} → statement M
-names-spec = tie.close (tie.spec members-requires is-in-requires returns)
+names-spec = tie.close (tie.spec (λ c κs. search needs) (λ c κs. search needs) returns)

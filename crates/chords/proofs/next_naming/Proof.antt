@@ -16,12 +16,6 @@ Inv-loop table channel from n i₀ i = nextNaming (tableOf table) channel from �
 abbrev μ-loop : tie.MeasureT-loop
 μ-loop table channel from n i₀ i = n - i
 
-chords-len-requires : tie.Need-chords-len-requires Inv-loop μ-loop
-chords-len-requires c κs = search needs
-
-loop-holds : tie.Need-loop-holds Inv-loop μ-loop
-loop-holds c = search needs
-
 names-requires : tie.Need-names-requires Inv-loop μ-loop
 names-requires c κs = (c .before .before .before .before .pre, omega (arith, c .before .before .chords-len .ensures))
 
@@ -31,12 +25,6 @@ returns c =
     let l = p .before .chords-len .ensures in
     let e = sym (c .before .names .ensures) ∙ c .if1 .taken in
     sym (p .loop .inv ∙ next-here (tableOf _) _ (p .loop .i) (omega arith) e)
-
-add-i : tie.Need-add-i Inv-loop μ-loop
-add-i c = search needs
-
-loop-less : tie.Need-loop-less Inv-loop μ-loop
-loop-less c = search needs
 
 loop-again : tie.Need-loop-again Inv-loop μ-loop
 loop-again c =
@@ -57,11 +45,11 @@ next-naming-spec =
     (tie.spec
     Inv-loop
     μ-loop
-    chords-len-requires
-    loop-holds
+    (λ c κs. search needs)
+    (λ c. search needs)
     names-requires
     returns
-    add-i
-    loop-less
+    (λ c. search needs)
+    (λ c. search needs)
     loop-again
     returns-2)

@@ -15,20 +15,8 @@ few s =
     let l = table-ok (a .table .now) (s .pre .0 .0) .chord-few (a .d .job .chord) (s .pre .0 .1) in
     omega (arith, s .pre .1 .0 .1)
 
-mul-m : tie.Need-mul-m
-mul-m c = search needs
-
 element-copy-out-m : tie.Need-element-copy-out-m
 element-copy-out-m c = let l = few (c .before .before) in search needs
-
-chord-len-requires : tie.Need-chord-len-requires
-chord-len-requires c κs = search needs
-
-wakes-requires : tie.Need-wakes-requires
-wakes-requires c κs = search needs
-
-add-claimed-by : tie.Need-add-claimed-by
-add-claimed-by c = search needs
 
 claimed-by-requires : tie.Need-claimed-by-requires
 claimed-by-requires c κs = let l = few (c .before .before .before .before .before) in search needs
@@ -47,10 +35,10 @@ pub claim-step-spec : {M : Type 1} → statement M
 claim-step-spec =
     tie.close
     (tie.spec
-    mul-m
+    (λ c. search needs)
     element-copy-out-m
-    chord-len-requires
-    wakes-requires
-    add-claimed-by
+    (λ c κs. search needs)
+    (λ c κs. search needs)
+    (λ c. search needs)
     claimed-by-requires
     returns)

@@ -6,20 +6,11 @@ use borrow.Author.Needs.{needs}
 use Rattle.claims.proofs.claimed_by.Statement.{statement}
 use Rattle.claims.proofs.claimed_by.Tie as tie
 
-loses-requires : tie.Need-loses-requires
-loses-requires c κs = search needs
-
 returns : tie.Need-returns
 returns c =
     let i = c .before in
     let a = i .before .before .args in
     λ b e l. rw (not-true (a .pending) (i .if1 .taken)) (c .loses .ensures b e)
-
-add-t14 : tie.Need-add-t14
-add-t14 c = search needs
-
-claims-to-requires : tie.Need-claims-to-requires
-claims-to-requires c κs = search needs
 
 returns-2 : tie.Need-returns-2
 returns-2 c =
@@ -29,9 +20,6 @@ returns-2 c =
     let a = s .args in
     λ b e l. rw (c .claims-to .ensures, not-false (a .pending) (i1 .if1 .left), not-true (a .last) (i2 .if2 .taken))
     (claimed-more (tableOf (a .table .now)) b (a .d) (a .k) (a .m) (s .pre .1 .0) (a .wakes) (a .full))
-
-claims-to-requires-2 : tie.Need-claims-to-requires-2
-claims-to-requires-2 c κs = search needs
 
 returns-3 : tie.Need-returns-3
 returns-3 c =
@@ -48,9 +36,6 @@ returns-3 c =
     )
     (claimed-last (tableOf (a .table .now)) b (a .d) (a .k) (a .m) (s .pre .1 .0) (a .wakes) (a .full))
 
-loses-requires-2 : tie.Need-loses-requires-2
-loses-requires-2 c κs = search needs
-
 returns-4 : tie.Need-returns-4
 returns-4 c =
     let i4 = c .before in
@@ -65,15 +50,6 @@ returns-4 c =
       i4 .if4 .taken,
     )
     (c .loses2 .ensures b e)
-
-add-t17 : tie.Need-add-t17
-add-t17 c = search needs
-
-in-phase-requires : tie.Need-in-phase-requires
-in-phase-requires c κs = search needs
-
-works-requires : tie.Need-works-requires
-works-requires c κs = search needs
 
 returns-5 : tie.Need-returns-5
 returns-5 c =
@@ -98,16 +74,16 @@ pub claimed-by-spec : {M : Type 1} → statement M
 claimed-by-spec =
     tie.close
     (tie.spec
-    loses-requires
+    (λ c κs. search needs)
     returns
-    add-t14
-    claims-to-requires
+    (λ c. search needs)
+    (λ c κs. search needs)
     returns-2
-    claims-to-requires-2
+    (λ c κs. search needs)
     returns-3
-    loses-requires-2
+    (λ c κs. search needs)
     returns-4
-    add-t17
-    in-phase-requires
-    works-requires
+    (λ c. search needs)
+    (λ c κs. search needs)
+    (λ c κs. search needs)
     returns-5)

@@ -5,12 +5,6 @@ use borrow.Author.Needs.{needs}
 use Rattle.claims.proofs.loses.Statement.{statement}
 use Rattle.claims.proofs.loses.Tie as tie
 
-next-chord-requires : tie.Need-next-chord-requires
-next-chord-requires c κs = search needs
-
-works-requires : tie.Need-works-requires
-works-requires c κs = search needs
-
 returns : tie.Need-returns
 returns c =
     let q = c .before in
@@ -19,12 +13,6 @@ returns c =
     λ b e. rw (c .works .ensures)
     (lost-first (tableOf (a .table .now)) b (a .d) (a .k) (a .m) (q .next-chord .result) (i .if1 .taken)
     (q .next-chord .ensures b e))
-
-with-retry-requires : tie.Need-with-retry-requires
-with-retry-requires c κs = search needs
-
-works-requires-2 : tie.Need-works-requires-2
-works-requires-2 c κs = search needs
 
 returns-2 : tie.Need-returns-2
 returns-2 c =
@@ -39,9 +27,9 @@ pub loses-spec : {M : Type 1} → statement M
 loses-spec =
     tie.close
     (tie.spec
-    next-chord-requires
-    works-requires
+    (λ c κs. search needs)
+    (λ c κs. search needs)
     returns
-    with-retry-requires
-    works-requires-2
+    (λ c κs. search needs)
+    (λ c κs. search needs)
     returns-2)

@@ -24,23 +24,8 @@ few c =
     let s = c .before .before in
     rw (c .members .ensures) (table-ok _ (s .pre .0) .chord-few (s .args .chord) (s .pre .1))
 
-members-requires : tie.Need-members-requires Inv-loop μ-loop
-members-requires c κs = search needs
-
-loop-holds : tie.Need-loop-holds Inv-loop μ-loop
-loop-holds c = search needs
-
-shared-slice-read-channels : tie.Need-shared-slice-read-channels Inv-loop μ-loop
-shared-slice-read-channels c = search needs
-
 array-write-channels : tie.Need-array-write-channels Inv-loop μ-loop
 array-write-channels c = omega (arith, few (c .before .before .before))
-
-add-k : tie.Need-add-k Inv-loop μ-loop
-add-k c = search needs
-
-loop-less : tie.Need-loop-less Inv-loop μ-loop
-loop-less c = search needs
 
 loop-again : tie.Need-loop-again Inv-loop μ-loop
 loop-again c =
@@ -48,12 +33,6 @@ loop-again c =
     let k = p .loop .k in
     let f = fill-next (p .loop .channels) (p .before .members .result .now) k k 0 (omega arith) in
     (search needs, sym f ∙ p .loop .inv .1)
-
-chord-len-requires : tie.Need-chord-len-requires Inv-loop μ-loop
-chord-len-requires c κs = search needs
-
-is-equal-requires : tie.Need-is-equal-requires Inv-loop μ-loop
-is-equal-requires c κs = search needs
 
 returns : tie.Need-returns Inv-loop μ-loop
 unfolding chordFor
@@ -70,13 +49,13 @@ chord-read-spec =
     (tie.spec
     Inv-loop
     μ-loop
-    members-requires
-    loop-holds
-    shared-slice-read-channels
+    (λ c κs. search needs)
+    (λ c. search needs)
+    (λ c. search needs)
     array-write-channels
-    add-k
-    loop-less
+    (λ c. search needs)
+    (λ c. search needs)
     loop-again
-    chord-len-requires
-    is-equal-requires
+    (λ c κs. search needs)
+    (λ c κs. search needs)
     returns)

@@ -23,34 +23,16 @@ Inv-loop table r chords₀ i₀ chords i =
 abbrev μ-loop : tie.MeasureT-loop
 μ-loop table r chords₀ i₀ chords i = r - i
 
-chords-len-requires : tie.Need-chords-len-requires Inv-loop μ-loop
-chords-len-requires c κs = search needs
-
-loop-holds : tie.Need-loop-holds Inv-loop μ-loop
-loop-holds c = search needs
-
 chord-read-requires : tie.Need-chord-read-requires Inv-loop μ-loop
 chord-read-requires c κs =
     let l = c .before .before in
     (l .before .before .pre, omega (arith, l .chords-len .ensures))
-
-cast-k : tie.Need-cast-k Inv-loop μ-loop
-cast-k c = search needs
-
-mul-chords : tie.Need-mul-chords Inv-loop μ-loop
-mul-chords c = search needs
 
 array-set-from-chords : tie.Need-array-set-from-chords Inv-loop μ-loop
 array-set-from-chords c =
     let l = c .before .before .before in
     let k = table-ok _ (l .before .before .pre) in
     omega (arith, l .chords-len .ensures)
-
-add-i : tie.Need-add-i Inv-loop μ-loop
-add-i c = search needs
-
-loop-less : tie.Need-loop-less Inv-loop μ-loop
-loop-less c = search needs
 
 loop-again : tie.Need-loop-again Inv-loop μ-loop
 loop-again c =
@@ -78,13 +60,13 @@ chords-read-spec =
     (tie.spec
     Inv-loop
     μ-loop
-    chords-len-requires
-    loop-holds
+    (λ c κs. search needs)
+    (λ c. search needs)
     chord-read-requires
-    cast-k
-    mul-chords
+    (λ c. search needs)
+    (λ c. search needs)
     array-set-from-chords
-    add-i
-    loop-less
+    (λ c. search needs)
+    (λ c. search needs)
     loop-again
     returns)

@@ -28,18 +28,6 @@ below c =
     let n = length-kinds _ (accepted _ (l .before .before .pre)) in
     omega (arith, l .channels-len .ensures)
 
-channels-len-requires : tie.Need-channels-len-requires Inv-loop μ-loop
-channels-len-requires c κs = search needs
-
-cast-t : tie.Need-cast-t Inv-loop μ-loop
-cast-t c = search needs
-
-loop-holds : tie.Need-loop-holds Inv-loop μ-loop
-loop-holds c = search needs
-
-add-kinds : tie.Need-add-kinds Inv-loop μ-loop
-add-kinds c = search needs
-
 shared-slice-read-kinds : tie.Need-shared-slice-read-kinds Inv-loop μ-loop
 shared-slice-read-kinds c =
     let a = accepted _ (c .before .before .before .before .before .pre) in
@@ -49,12 +37,6 @@ array-write-kinds : tie.Need-array-write-kinds Inv-loop μ-loop
 array-write-kinds c =
     let a = accepted _ (c .before .before .before .before .before .pre) in
     omega (arith, below (c .before))
-
-add-i : tie.Need-add-i Inv-loop μ-loop
-add-i c = search needs
-
-loop-less : tie.Need-loop-less Inv-loop μ-loop
-loop-less c = search needs
 
 loop-again : tie.Need-loop-again Inv-loop μ-loop
 loop-again c =
@@ -79,13 +61,13 @@ kinds-read-spec =
     (tie.spec
     Inv-loop
     μ-loop
-    channels-len-requires
-    cast-t
-    loop-holds
-    add-kinds
+    (λ c κs. search needs)
+    (λ c. search needs)
+    (λ c. search needs)
+    (λ c. search needs)
     shared-slice-read-kinds
     array-write-kinds
-    add-i
-    loop-less
+    (λ c. search needs)
+    (λ c. search needs)
     loop-again
     returns)

@@ -19,12 +19,6 @@ seen : (s : List ℕ) (r : DR.Read) → r ≡ tableRead s
     → (r ≡ tableRead s) × (tableRefusal s ≡ 0 → tableIn (r .table) ≡ tableOf s)
 seen s r e = (e, λ z. rw e (read-seen s z))
 
-table-refusal-requires : tie.Need-table-refusal-requires
-table-refusal-requires c κs = search needs
-
-empty-table-requires : tie.Need-empty-table-requires
-empty-table-requires c κs = search needs
-
 returns : tie.Need-returns
 unfolding tableRead
 returns c =
@@ -45,4 +39,4 @@ returns-2 c =
 pub read-table-spec : {M : Type 1} → statement M
 read-table-spec =
     tie.close
-    (tie.spec table-refusal-requires empty-table-requires returns table-read-requires returns-2)
+    (tie.spec (λ c κs. search needs) (λ c κs. search needs) returns table-read-requires returns-2)

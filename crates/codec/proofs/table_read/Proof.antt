@@ -4,18 +4,6 @@ use borrow.Author.Needs.{needs}
 use Rattle.codec.proofs.table_read.Statement.{statement}
 use Rattle.codec.proofs.table_read.Tie as tie
 
-kinds-read-requires : tie.Need-kinds-read-requires
-kinds-read-requires c κs = search needs
-
-chords-read-requires : tie.Need-chords-read-requires
-chords-read-requires c κs = search needs
-
-channels-len-requires : tie.Need-channels-len-requires
-channels-len-requires c κs = search needs
-
-chords-len-requires : tie.Need-chords-len-requires
-chords-len-requires c κs = search needs
-
 returns : tie.Need-returns
 unfolding tableFor
 returns c =
@@ -27,8 +15,8 @@ pub table-read-spec : {M : Type 1} → statement M
 table-read-spec =
     tie.close
     (tie.spec
-    kinds-read-requires
-    chords-read-requires
-    channels-len-requires
-    chords-len-requires
+    (λ c κs. search needs)
+    (λ c κs. search needs)
+    (λ c κs. search needs)
+    (λ c κs. search needs)
     returns)

@@ -44,12 +44,6 @@ loop-holds c =
           (a .property) (a .chosen .now) (a .start) (a .n) (p .0) (p .1),
     )
 
-next-block-requires : tie.Need-next-block-requires Inv-loop μ-loop
-next-block-requires c κs = search needs
-
-block-end-requires : tie.Need-block-end-requires Inv-loop μ-loop
-block-end-requires c κs = search needs
-
 in-block-requires : tie.Need-in-block-requires Inv-loop μ-loop
 in-block-requires c κs =
     let s = c .before .before .before .before .before .before .before .before in
@@ -90,8 +84,8 @@ first-spec =
     Inv-loop
     μ-loop
     loop-holds
-    next-block-requires
-    block-end-requires
+    (λ c κs. search needs)
+    (λ c κs. search needs)
     in-block-requires
     returns
     loop-less

@@ -40,30 +40,12 @@ looked p h t u e f =
 loop-holds : tie.Need-loop-holds Inv-loop μ-loop
 loop-holds c = (search needs, refl)
 
-cast-k : tie.Need-cast-k Inv-loop μ-loop
-cast-k c = search needs
-
-suits-requires : tie.Need-suits-requires Inv-loop μ-loop
-suits-requires c κs = search needs
-
-is-in-requires : tie.Need-is-in-requires Inv-loop μ-loop
-is-in-requires c κs = search needs
-
-add-result : tie.Need-add-result Inv-loop μ-loop
-add-result c = search needs
-
 returns : tie.Need-returns Inv-loop μ-loop
 returns c =
     let p = c .before .before .before .before .before in
     let suits = sym (c .before .before .before .suits .ensures) ∙ c .before .before .if1 .taken in
     let free = sym (c .before .is-in .ensures) ∙ not-true _ (c .if2 .taken) in
     sym (looked p (omega arith) true false suits free)
-
-add-i : tie.Need-add-i Inv-loop μ-loop
-add-i c = search needs
-
-loop-less : tie.Need-loop-less Inv-loop μ-loop
-loop-less c = search needs
 
 loop-again : tie.Need-loop-again Inv-loop μ-loop
 loop-again c =
@@ -88,12 +70,12 @@ first-in-spec =
     Inv-loop
     μ-loop
     loop-holds
-    cast-k
-    suits-requires
-    is-in-requires
-    add-result
+    (λ c. search needs)
+    (λ c κs. search needs)
+    (λ c κs. search needs)
+    (λ c. search needs)
     returns
-    add-i
-    loop-less
+    (λ c. search needs)
+    (λ c. search needs)
     loop-again
     returns-2)

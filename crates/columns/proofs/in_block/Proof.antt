@@ -8,15 +8,6 @@ use Rattle.columns.proofs.Words.{bit-first}
 use Rattle.columns.proofs.in_block.Statement.{statement}
 use Rattle.columns.proofs.in_block.Tie as tie
 
-sub-if1 : tie.Need-sub-if1
-sub-if1 c = search needs
-
-word-at-requires : tie.Need-word-at-requires
-word-at-requires c κs = search needs
-
-first-of-requires : tie.Need-first-of-requires
-first-of-requires c κs = search needs
-
 returns : tie.Need-returns
 returns c =
     let a = c .before .before .before .before .before .before .before .args in
@@ -26,13 +17,13 @@ returns c =
     (kind-taking (a .channels .now) (a .properties .now) (a .statuses .now) (a .wanted) (a .status) (a .equal)
     (a .property) (a .chosen .now)) (a .from) 64)
 
-first-in-requires : tie.Need-first-in-requires
-first-in-requires c κs = search needs
-
-returns-2 : tie.Need-returns-2
-returns-2 c = search needs
-
 pub in-block-spec : {M : Type 1} → statement M
 in-block-spec =
     tie.close
-    (tie.spec sub-if1 word-at-requires first-of-requires returns first-in-requires returns-2)
+    (tie.spec
+    (λ c. search needs)
+    (λ c κs. search needs)
+    (λ c κs. search needs)
+    returns
+    (λ c κs. search needs)
+    (λ c. search needs))

@@ -18,33 +18,6 @@ Inv-loop channels statuses at wanted status y₀ i₀ y i =
 abbrev μ-loop : tie.MeasureT-loop
 μ-loop channels statuses at wanted status y₀ i₀ y i = 64 - i
 
-loop-holds : tie.Need-loop-holds Inv-loop μ-loop
-loop-holds c = search needs
-
-add-y : tie.Need-add-y Inv-loop μ-loop
-add-y c = search needs
-
-shared-slice-read-y : tie.Need-shared-slice-read-y Inv-loop μ-loop
-shared-slice-read-y c = search needs
-
-add-y-2 : tie.Need-add-y-2 Inv-loop μ-loop
-add-y-2 c = search needs
-
-shared-slice-read-y-2 : tie.Need-shared-slice-read-y-2 Inv-loop μ-loop
-shared-slice-read-y-2 c = search needs
-
-cast-y : tie.Need-cast-y Inv-loop μ-loop
-cast-y c = search needs
-
-array-write-y : tie.Need-array-write-y Inv-loop μ-loop
-array-write-y c = search needs
-
-add-i : tie.Need-add-i Inv-loop μ-loop
-add-i c = search needs
-
-loop-less : tie.Need-loop-less Inv-loop μ-loop
-loop-less c = search needs
-
 loop-again : tie.Need-loop-again Inv-loop μ-loop
 unfolding bit ofKind
 loop-again c =
@@ -65,14 +38,14 @@ kinds-spec =
     (tie.spec
     Inv-loop
     μ-loop
-    loop-holds
-    add-y
-    shared-slice-read-y
-    add-y-2
-    shared-slice-read-y-2
-    cast-y
-    array-write-y
-    add-i
-    loop-less
+    (λ c. search needs)
+    (λ c. search needs)
+    (λ c. search needs)
+    (λ c. search needs)
+    (λ c. search needs)
+    (λ c. search needs)
+    (λ c. search needs)
+    (λ c. search needs)
+    (λ c. search needs)
     loop-again
     returns)

@@ -7,9 +7,6 @@ use Rattle.columns.proofs.Walks.{lowest-is}
 use Rattle.columns.proofs.lowest.Statement.{statement}
 use Rattle.columns.proofs.lowest.Tie as tie
 
-first-requires : tie.Need-first-requires
-first-requires c κs = search needs
-
 returns : tie.Need-returns
 returns c =
     let a = c .before .before .before .before .before .args in
@@ -21,4 +18,4 @@ returns c =
     )
 
 pub lowest-spec : {M : Type 1} → statement M
-lowest-spec = tie.close (tie.spec first-requires returns)
+lowest-spec = tie.close (tie.spec (λ c κs. search needs) returns)

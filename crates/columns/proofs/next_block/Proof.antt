@@ -18,26 +18,8 @@ abbrev μ-loop : tie.MeasureT-loop
 loop-holds : tie.Need-loop-holds Inv-loop μ-loop
 loop-holds c = (search needs, search needs, first-end _ _ _ (omega arith))
 
-sub-loop : tie.Need-sub-loop Inv-loop μ-loop
-sub-loop c = search needs
-
-cast-k : tie.Need-cast-k Inv-loop μ-loop
-cast-k c = search needs
-
-add-any-in : tie.Need-add-any-in Inv-loop μ-loop
-add-any-in c = search needs
-
-any-in-requires : tie.Need-any-in-requires Inv-loop μ-loop
-any-in-requires c κs = search needs
-
 returns : tie.Need-returns Inv-loop μ-loop
 returns c = c .before .before .before .loop .inv
-
-add-at : tie.Need-add-at Inv-loop μ-loop
-add-at c = search needs
-
-loop-less : tie.Need-loop-less Inv-loop μ-loop
-loop-less c = search needs
 
 loop-again : tie.Need-loop-again Inv-loop μ-loop
 loop-again c =
@@ -61,12 +43,12 @@ next-block-spec =
     Inv-loop
     μ-loop
     loop-holds
-    sub-loop
-    cast-k
-    add-any-in
-    any-in-requires
+    (λ c. search needs)
+    (λ c. search needs)
+    (λ c. search needs)
+    (λ c κs. search needs)
     returns
-    add-at
-    loop-less
+    (λ c. search needs)
+    (λ c. search needs)
     loop-again
     returns-2)

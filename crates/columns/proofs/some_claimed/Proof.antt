@@ -6,15 +6,6 @@ use Rattle.columns.proofs.Walks.{some-claimed-is}
 use Rattle.columns.proofs.some_claimed.Statement.{statement}
 use Rattle.columns.proofs.some_claimed.Tie as tie
 
-array-share-prefix-chosen : tie.Need-array-share-prefix-chosen
-array-share-prefix-chosen c = search needs
-
-slice-aggregate-first : tie.Need-slice-aggregate-first
-slice-aggregate-first c = search needs
-
-first-requires : tie.Need-first-requires
-first-requires c κs = search needs
-
 returns : tie.Need-returns
 returns c =
     let a = c .before .before .before .before .before .args in
@@ -24,4 +15,4 @@ returns c =
 
 pub some-claimed-spec : {M : Type 1} → statement M
 some-claimed-spec =
-    tie.close (tie.spec array-share-prefix-chosen slice-aggregate-first first-requires returns)
+    tie.close (tie.spec (λ c. search needs) (λ c. search needs) (λ c κs. search needs) returns)

@@ -6,9 +6,6 @@ use Rattle.columns.proofs.Words.{bit-le, word-same}
 use Rattle.columns.proofs.word_at.Statement.{statement}
 use Rattle.columns.proofs.word_at.Tie as tie
 
-kinds-requires : tie.Need-kinds-requires
-kinds-requires c κs = search needs
-
 word-of-requires : tie.Need-word-of-requires
 word-of-requires c κs = λ k h. rw (c .before .kinds .ensures k h) (bit-le _)
 
@@ -20,4 +17,4 @@ returns c =
     ∙ word-same _ _ (a .at) 0 (a .at) 64 (λ k h. m .kinds .ensures k (omega arith)) (omega arith)
 
 pub word-at-spec : {M : Type 1} → statement M
-word-at-spec = tie.close (tie.spec kinds-requires word-of-requires returns)
+word-at-spec = tie.close (tie.spec (λ c κs. search needs) word-of-requires returns)

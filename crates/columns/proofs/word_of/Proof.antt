@@ -28,25 +28,10 @@ loop-holds : tie.Need-loop-holds Inv-loop μ-loop
 unfolding wordFrom
 loop-holds c = search needs
 
-element-copy-out-wide : tie.Need-element-copy-out-wide Inv-loop μ-loop
-element-copy-out-wide c = search needs
-
-wide-requires : tie.Need-wide-requires Inv-loop μ-loop
-wide-requires c κs = search needs
-
-shl-w : tie.Need-shl-w Inv-loop μ-loop
-shl-w c = search needs
-
 add-w : tie.Need-add-w Inv-loop μ-loop
 add-w c =
     let p = c .before .before .before in
     record { fits = rw (turn c) (word-fits _ (p .loop .j + 1) (omega arith) (p .before .pre)) }
-
-add-j : tie.Need-add-j Inv-loop μ-loop
-add-j c = search needs
-
-loop-less : tie.Need-loop-less Inv-loop μ-loop
-loop-less c = search needs
 
 loop-again : tie.Need-loop-again Inv-loop μ-loop
 loop-again c = (search needs, turn c)
@@ -64,11 +49,11 @@ word-of-spec =
     Inv-loop
     μ-loop
     loop-holds
-    element-copy-out-wide
-    wide-requires
-    shl-w
+    (λ c. search needs)
+    (λ c κs. search needs)
+    (λ c. search needs)
     add-w
-    add-j
-    loop-less
+    (λ c. search needs)
+    (λ c. search needs)
     loop-again
     returns)

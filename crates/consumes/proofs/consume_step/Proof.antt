@@ -17,9 +17,6 @@ use Rattle.consumes.proofs.consume_step.Tie as tie
 held : (s : tie.Start) → getD (s .args .d .job .chosen) (s .args .k) 0 < s .args .n
 held s = s .pre .1 .2 .below (s .args .k) (s .pre .1 .1)
 
-mul-x : tie.Need-mul-x
-mul-x c = search needs
-
 element-copy-out-x : tie.Need-element-copy-out-x
 element-copy-out-x c =
     let s = c .before .before .before in
@@ -29,9 +26,6 @@ element-copy-out-x c =
 
 noted-requires : tie.Need-noted-requires
 noted-requires c κs = let s = c .before .before .before .before in omega (arith, held s)
-
-less-requires : tie.Need-less-requires
-less-requires c κs = search needs
 
 consumed-to-requires : tie.Need-consumed-to-requires
 consumed-to-requires c κs =
@@ -63,4 +57,4 @@ returns c =
 pub consume-step-spec : {M : Type 1} → statement M
 consume-step-spec =
     tie.close
-    (tie.spec mul-x element-copy-out-x noted-requires less-requires consumed-to-requires returns)
+    (tie.spec (λ c. search needs) element-copy-out-x noted-requires (λ c κs. search needs) consumed-to-requires returns)

@@ -8,12 +8,6 @@ use borrow.Author.Needs.{needs}
 use Rattle.consumes.proofs.consumed_end.Statement.{statement}
 use Rattle.consumes.proofs.consumed_end.Tie as tie
 
-in-phase-requires : tie.Need-in-phase-requires
-in-phase-requires c κs = search needs
-
-in-job-requires : tie.Need-in-job-requires
-in-job-requires c κs = search needs
-
 returns : tie.Need-returns
 returns c =
     let q = c .before in
@@ -25,9 +19,6 @@ returns c =
     (goes-on t d (P.Tell 0) (sym (s .pre .1))
     ∙ end-some t is (senderIn t d) (jobIn t (d .job)) xs (λ z. i .if1 .taken (sym el ∙ z)))
 
-job-end-requires : tie.Need-job-end-requires
-job-end-requires c κs = search needs
-
 returns-2 : tie.Need-returns-2
 returns-2 c =
     let i = c .before in
@@ -38,4 +29,4 @@ returns-2 c =
 
 pub consumed-end-spec : {M : Type 1} → statement M
 consumed-end-spec =
-    tie.close (tie.spec in-phase-requires in-job-requires returns job-end-requires returns-2)
+    tie.close (tie.spec (λ c κs. search needs) (λ c κs. search needs) returns (λ c κs. search needs) returns-2)

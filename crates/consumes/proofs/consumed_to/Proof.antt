@@ -29,20 +29,11 @@ all : (s : tie.Start) → let t = tableOf (s .args .table .now) in let j = s .ar
     chosenBy (j .phase) (size t (j .chord)) ≡ size t (j .chord)
 all s = rw (s .pre .1 .0)
 
-chord-len-requires : tie.Need-chord-len-requires
-chord-len-requires c κs = search needs
-
 add-if1 : tie.Need-add-if1
 add-if1 c = let l = few (c .before .before .before .before) in search needs
 
 add-t17 : tie.Need-add-t17
 add-t17 c = let l = few (c .before .before .before .before .before) in search needs
-
-in-phase-requires : tie.Need-in-phase-requires
-in-phase-requires c κs = search needs
-
-in-job-requires : tie.Need-in-job-requires
-in-job-requires c κs = search needs
 
 returns : tie.Need-returns
 returns c =
@@ -99,11 +90,11 @@ pub consumed-to-spec : {M : Type 1} → statement M
 consumed-to-spec =
     tie.close
     (tie.spec
-    chord-len-requires
+    (λ c κs. search needs)
     add-if1
     add-t17
-    in-phase-requires
-    in-job-requires
+    (λ c κs. search needs)
+    (λ c κs. search needs)
     returns
     to-tell-requires
     consumed-end-requires

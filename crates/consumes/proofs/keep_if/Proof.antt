@@ -6,18 +6,6 @@ use borrow.Author.Needs.{needs}
 use Rattle.consumes.proofs.keep_if.Statement.{statement}
 use Rattle.consumes.proofs.keep_if.Tie as tie
 
-cast-q : tie.Need-cast-q
-cast-q c = search needs
-
-mul-q : tie.Need-mul-q
-mul-q c = search needs
-
-element-write-q : tie.Need-element-write-q
-element-write-q c = search needs
-
-add-q : tie.Need-add-q
-add-q c = search needs
-
 returns : tie.Need-returns
 returns c =
     let s = c .before in
@@ -33,4 +21,12 @@ returns-2 c =
     (keep-no (take (a .r .len) (a .r .messages)) (a .x) (a .keep) (c .if1 .left), search needs, search needs)
 
 pub keep-if-spec : {M : Type 1} → statement M
-keep-if-spec = tie.close (tie.spec cast-q mul-q element-write-q add-q returns returns-2)
+keep-if-spec =
+    tie.close
+    (tie.spec
+    (λ c. search needs)
+    (λ c. search needs)
+    (λ c. search needs)
+    (λ c. search needs)
+    returns
+    returns-2)

@@ -5,9 +5,6 @@ use borrow.Author.Needs.{needs}
 use Rattle.consumes.proofs.noted.Statement.{statement}
 use Rattle.consumes.proofs.noted.Tie as tie
 
-add-if1 : tie.Need-add-if1
-add-if1 c = search needs
-
 returns : tie.Need-returns
 returns c = let a = c .before .before .args in rw (eq-eqb (a .x + 1) (a .d .own) (c .if1 .taken))
 
@@ -15,4 +12,4 @@ returns-2 : tie.Need-returns-2
 returns-2 c = let a = c .before .before .args in rw (ne-eqb (a .x + 1) (a .d .own) (c .if1 .left))
 
 pub noted-spec : {M : Type 1} → statement M
-noted-spec = tie.close (tie.spec add-if1 returns returns-2)
+noted-spec = tie.close (tie.spec (λ c. search needs) returns returns-2)

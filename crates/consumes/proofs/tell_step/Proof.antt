@@ -31,9 +31,6 @@ under w =
     (rw (g .chord-len .ensures) at (w .to-tell .ensures .2 (left .messages) (left .same)))
     (omega (arith, w .to-tell .ensures .0, w .to-tell .ensures .1))
 
-chord-len-requires : tie.Need-chord-len-requires
-chord-len-requires c κs = search needs
-
 to-tell-requires : tie.Need-to-tell-requires
 to-tell-requires c κs =
     let g = c .before in
@@ -41,9 +38,6 @@ to-tell-requires c κs =
     let e = g .chord-len .ensures in
     let l = few s in
     ((s .pre .0 .0, omega (arith, e), eight s), rw e (s .pre .1 .1))
-
-mul-x : tie.Need-mul-x
-mul-x c = search needs
 
 element-copy-out-x : tie.Need-element-copy-out-x
 element-copy-out-x c = omega (arith, under c, c .to-tell .ensures .0)
@@ -74,9 +68,9 @@ pub tell-step-spec : {M : Type 1} → statement M
 tell-step-spec =
     tie.close
     (tie.spec
-    chord-len-requires
+    (λ c κs. search needs)
     to-tell-requires
-    mul-x
+    (λ c. search needs)
     element-copy-out-x
     told-to-requires
     returns)

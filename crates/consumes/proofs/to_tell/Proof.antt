@@ -29,18 +29,6 @@ abbrev μ-loop : tie.MeasureT-loop
 loop-holds : tie.Need-loop-holds Inv-loop μ-loop
 loop-holds c = (search needs, search needs, refl, λ is tr. refl)
 
-cast-x : tie.Need-cast-x Inv-loop μ-loop
-cast-x c = search needs
-
-mul-x : tie.Need-mul-x Inv-loop μ-loop
-mul-x c = search needs
-
-array-read-x : tie.Need-array-read-x Inv-loop μ-loop
-array-read-x c = search needs
-
-cast-is-sync : tie.Need-cast-is-sync Inv-loop μ-loop
-cast-is-sync c = search needs
-
 shared-slice-read-is-sync : tie.Need-shared-slice-read-is-sync Inv-loop μ-loop
 shared-slice-read-is-sync c =
     let p = c .before .before in
@@ -53,15 +41,6 @@ is-sync-requires c κs =
     let p = c .before .before in
     let s = p .before .before .before in
     (s .pre .0 .0, s .pre .1 .known _ (s .pre .1 .below (p .loop .i) (omega arith)))
-
-keep-if-requires : tie.Need-keep-if-requires Inv-loop μ-loop
-keep-if-requires c κs = search needs
-
-add-i : tie.Need-add-i Inv-loop μ-loop
-add-i c = search needs
-
-loop-less : tie.Need-loop-less Inv-loop μ-loop
-loop-less c = search needs
 
 loop-again : tie.Need-loop-again Inv-loop μ-loop
 loop-again c =
@@ -102,14 +81,14 @@ to-tell-spec =
     Inv-loop
     μ-loop
     loop-holds
-    cast-x
-    mul-x
-    array-read-x
-    cast-is-sync
+    (λ c. search needs)
+    (λ c. search needs)
+    (λ c. search needs)
+    (λ c. search needs)
     shared-slice-read-is-sync
     is-sync-requires
-    keep-if-requires
-    add-i
-    loop-less
+    (λ c κs. search needs)
+    (λ c. search needs)
+    (λ c. search needs)
     loop-again
     returns)

@@ -10,18 +10,6 @@ use borrow.Author.Needs.{needs}
 use Rattle.consumes.proofs.told_to.Statement.{statement}
 use Rattle.consumes.proofs.told_to.Tie as tie
 
-add-if1 : tie.Need-add-if1
-add-if1 c = search needs
-
-add-t12 : tie.Need-add-t12
-add-t12 c = search needs
-
-in-phase-requires : tie.Need-in-phase-requires
-in-phase-requires c κs = search needs
-
-in-job-requires : tie.Need-in-job-requires
-in-job-requires c κs = search needs
-
 returns : tie.Need-returns
 returns c =
     let q = c .before in
@@ -38,9 +26,6 @@ returns c =
     )
     (goes-on (tableOf (a .table .now)) (a .d) (P.Tell (suc k)) (rw (s .pre .1)))
 
-job-end-requires : tie.Need-job-end-requires
-job-end-requires c κs = search needs
-
 returns-2 : tie.Need-returns-2
 returns-2 c =
     let i = c .before in
@@ -51,4 +36,11 @@ returns-2 c =
 pub told-to-spec : {M : Type 1} → statement M
 told-to-spec =
     tie.close
-    (tie.spec add-if1 add-t12 in-phase-requires in-job-requires returns job-end-requires returns-2)
+    (tie.spec
+    (λ c. search needs)
+    (λ c. search needs)
+    (λ c κs. search needs)
+    (λ c κs. search needs)
+    returns
+    (λ c κs. search needs)
+    returns-2)

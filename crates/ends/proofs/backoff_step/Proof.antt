@@ -4,15 +4,9 @@ use borrow.Author.Needs.{needs}
 use Rattle.ends.proofs.backoff_step.Statement.{statement}
 use Rattle.ends.proofs.backoff_step.Tie as tie
 
-rests-then-requires : tie.Need-rests-then-requires
-rests-then-requires c κs = search needs
-
-works-requires : tie.Need-works-requires
-works-requires c κs = search needs
-
 returns : tie.Need-returns
 unfolding backoff-step
 returns c = λ b e. rw (c .works .ensures, c .before .rests-then .ensures b e)
 
 pub backoff-step-spec : {M : Type 1} → statement M
-backoff-step-spec = tie.close (tie.spec rests-then-requires works-requires returns)
+backoff-step-spec = tie.close (tie.spec (λ c κs. search needs) (λ c κs. search needs) returns)

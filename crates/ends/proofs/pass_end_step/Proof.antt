@@ -7,18 +7,6 @@ use borrow.Author.Needs.{needs}
 use Rattle.ends.proofs.pass_end_step.Statement.{statement}
 use Rattle.ends.proofs.pass_end_step.Tie as tie
 
-more-requires : tie.Need-more-requires
-more-requires c κs = search needs
-
-rests-at-requires : tie.Need-rests-at-requires
-rests-at-requires c κs = search needs
-
-rests-then-requires : tie.Need-rests-then-requires
-rests-then-requires c κs = search needs
-
-works-requires : tie.Need-works-requires
-works-requires c κs = search needs
-
 returns : tie.Need-returns
 returns c =
     let q = c .before in
@@ -33,9 +21,6 @@ returns c =
     (q .rests-then .ensures b ec)
     ∙ pass-by t b (senderIn t d) (jobIn t (d .job)) (a .opened) _ eo (i .if1 .taken))
 
-job-end-requires : tie.Need-job-end-requires
-job-end-requires c κs = search needs
-
 returns-2 : tie.Need-returns-2
 returns-2 c =
     let i = c .before in
@@ -49,10 +34,10 @@ pub pass-end-step-spec : {M : Type 1} → statement M
 pass-end-step-spec =
     tie.close
     (tie.spec
-    more-requires
-    rests-at-requires
-    rests-then-requires
-    works-requires
+    (λ c κs. search needs)
+    (λ c κs. search needs)
+    (λ c κs. search needs)
+    (λ c κs. search needs)
     returns
-    job-end-requires
+    (λ c κs. search needs)
     returns-2)

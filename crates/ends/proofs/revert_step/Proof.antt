@@ -17,20 +17,11 @@ few s =
     let l = table-ok (a .table .now) (s .pre .0 .0) .chord-few (a .d .job .chord) (s .pre .0 .1) in
     omega (arith, s .pre .1 .1)
 
-mul-n : tie.Need-mul-n
-mul-n c = search needs
-
 element-copy-out-n : tie.Need-element-copy-out-n
 element-copy-out-n c = let l = few (c .before .before) in search needs
 
 add-if1 : tie.Need-add-if1
 add-if1 c = let l = few (c .before .before .before) in search needs
-
-next-chord-requires : tie.Need-next-chord-requires
-next-chord-requires c κs = search needs
-
-works-requires : tie.Need-works-requires
-works-requires c κs = search needs
 
 returns : tie.Need-returns
 returns c =
@@ -44,12 +35,6 @@ returns c =
 
 add-t15 : tie.Need-add-t15
 add-t15 c = let l = few (c .before .before .before .before) in search needs
-
-in-phase-requires : tie.Need-in-phase-requires
-in-phase-requires c κs = search needs
-
-works-requires-2 : tie.Need-works-requires-2
-works-requires-2 c κs = search needs
 
 returns-2 : tie.Need-returns-2
 returns-2 c =
@@ -67,13 +52,13 @@ pub revert-step-spec : {M : Type 1} → statement M
 revert-step-spec =
     tie.close
     (tie.spec
-    mul-n
+    (λ c. search needs)
     element-copy-out-n
     add-if1
-    next-chord-requires
-    works-requires
+    (λ c κs. search needs)
+    (λ c κs. search needs)
     returns
     add-t15
-    in-phase-requires
-    works-requires-2
+    (λ c κs. search needs)
+    (λ c κs. search needs)
     returns-2)

@@ -28,12 +28,6 @@ serve-requires c κs =
       cents-len = sym (slice-aggregate-serve-4 c);
     })
 
-same-length : tie.Need-same-length
-same-length c = search needs
-
-returns : tie.Need-returns
-returns c = search needs
-
 pub run-spec : {M : Type 1} → statement M
 run-spec =
     tie.close
@@ -43,5 +37,5 @@ run-spec =
     slice-aggregate-serve-3
     slice-aggregate-serve-4
     serve-requires
-    same-length
-    returns)
+    (λ c. search needs)
+    (λ c. search needs))

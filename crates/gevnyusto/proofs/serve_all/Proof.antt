@@ -34,9 +34,6 @@ returned c = c .before .before .before .before .before .before .before .before .
 abbrev served : tie.Else1 Inv-loop μ-loop → tie.After-serve-some Inv-loop μ-loop
 served c = c .before .before .before .before .before .before .before .before .before .before .before
 
-no-bytes-requires : tie.Need-no-bytes-requires Inv-loop μ-loop
-no-bytes-requires c κs = search needs
-
 loop-holds : tie.Need-loop-holds Inv-loop μ-loop
 loop-holds c =
     let s = c .before .before .before .before .before .before in
@@ -111,7 +108,7 @@ serve-all-spec =
     (tie.spec
     Inv-loop
     μ-loop
-    no-bytes-requires
+    (λ c κs. search needs)
     loop-holds
     serve-some-requires
     same-length

@@ -20,27 +20,6 @@ cents-as : {s : List ℕ} {l l′ : Lists} {w : Said} (i channel property : ℕ)
 cents-as {s} {l} {l′} {w} i channel property x y e p =
     subst (λ (z : ℤ). Calls s l (adds i (sent channel property z)) w l′) e p
 
-add-requires : tie.Need-add-requires
-add-requires c κs = search needs
-
-answer-number-requires : tie.Need-answer-number-requires
-answer-number-requires c κs = search needs
-
-same-length : tie.Need-same-length
-same-length c = search needs
-
-same-length-2 : tie.Need-same-length-2
-same-length-2 c = search needs
-
-same-length-3 : tie.Need-same-length-3
-same-length-3 c = search needs
-
-same-length-4 : tie.Need-same-length-4
-same-length-4 c = search needs
-
-same-length-5 : tie.Need-same-length-5
-same-length-5 c = search needs
-
 returns : tie.Need-returns
 returns c =
     let p = c .before .before .before .before .before .before .before .before .before .before in
@@ -57,11 +36,11 @@ pub gv-add-spec : {M : Type 1} → statement M
 gv-add-spec =
     tie.close
     (tie.spec
-    add-requires
-    answer-number-requires
-    same-length
-    same-length-2
-    same-length-3
-    same-length-4
-    same-length-5
+    (λ c κs. search needs)
+    (λ c κs. search needs)
+    (λ c. search needs)
+    (λ c. search needs)
+    (λ c. search needs)
+    (λ c. search needs)
+    (λ c. search needs)
     returns)

@@ -24,9 +24,6 @@ given s =
     let a = s .args in
     heldIn (lists (a .board .now) (a .bytes .now) (a .links .now) (a .keys .now) (a .cents .now))
 
-read-quiet-requires : tie.Need-read-quiet-requires
-read-quiet-requires c κs = search needs
-
 returns : tie.Need-returns
 returns c =
     let q = c .before in
@@ -41,15 +38,6 @@ returns-2 c =
     let s = start q in
     read-short (s .args .table .now) (given s) ofQuiet (s .args .out .now)
     (sym (i .if1 .left) ∙ q .read-quiet .ensures .0) (c .if2 .taken)
-
-cast-put-one : tie.Need-cast-put-one
-cast-put-one c = search needs
-
-put-one-requires : tie.Need-put-one-requires
-put-one-requires c κs = search needs
-
-same-length : tie.Need-same-length
-same-length c = search needs
 
 returns-3 : tie.Need-returns-3
 returns-3 c =
@@ -67,4 +55,11 @@ returns-3 c =
 pub gv-quiet-spec : {M : Type 1} → statement M
 gv-quiet-spec =
     tie.close
-    (tie.spec read-quiet-requires returns returns-2 cast-put-one put-one-requires same-length returns-3)
+    (tie.spec
+    (λ c κs. search needs)
+    returns
+    returns-2
+    (λ c. search needs)
+    (λ c κs. search needs)
+    (λ c. search needs)
+    returns-3)

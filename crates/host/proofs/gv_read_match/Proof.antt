@@ -20,9 +20,6 @@ given s =
     let a = s .args in
     heldIn (lists (a .board .now) (a .bytes .now) (a .links .now) (a .keys .now) (a .cents .now))
 
-read-match-requires : tie.Need-read-match-requires
-read-match-requires c κs = search needs
-
 returns : tie.Need-returns
 returns c =
     let q = c .before in
@@ -37,12 +34,6 @@ returns-2 c =
     let s = start q in
     read-short (s .args .table .now) (given s) (ofMatch (s .args .k)) (s .args .out .now)
     (sym (i .if1 .left) ∙ q .read-match .ensures .0) (c .if2 .taken)
-
-put-match-requires : tie.Need-put-match-requires
-put-match-requires c κs = search needs
-
-same-length : tie.Need-same-length
-same-length c = search needs
 
 returns-3 : tie.Need-returns-3
 returns-3 c =
@@ -59,4 +50,4 @@ returns-3 c =
 pub gv-read-match-spec : {M : Type 1} → statement M
 gv-read-match-spec =
     tie.close
-    (tie.spec read-match-requires returns returns-2 put-match-requires same-length returns-3)
+    (tie.spec (λ c κs. search needs) returns returns-2 (λ c κs. search needs) (λ c. search needs) returns-3)

@@ -20,9 +20,6 @@ given s =
     let a = s .args in
     heldIn (lists (a .board .now) (a .bytes .now) (a .links .now) (a .keys .now) (a .cents .now))
 
-read-message-requires : tie.Need-read-message-requires
-read-message-requires c κs = search needs
-
 returns : tie.Need-returns
 returns c =
     let q = c .before in
@@ -37,12 +34,6 @@ returns-2 c =
     let s = start q in
     read-short (s .args .table .now) (given s) (ofMessage (s .args .n)) (s .args .out .now)
     (sym (i .if1 .left) ∙ q .read-message .ensures .0) (c .if2 .taken)
-
-put-message-requires : tie.Need-put-message-requires
-put-message-requires c κs = search needs
-
-same-length : tie.Need-same-length
-same-length c = search needs
 
 returns-3 : tie.Need-returns-3
 returns-3 c =
@@ -59,4 +50,4 @@ returns-3 c =
 pub gv-read-message-spec : {M : Type 1} → statement M
 gv-read-message-spec =
     tie.close
-    (tie.spec read-message-requires returns returns-2 put-message-requires same-length returns-3)
+    (tie.spec (λ c κs. search needs) returns returns-2 (λ c κs. search needs) (λ c. search needs) returns-3)

@@ -22,9 +22,6 @@ given s =
     let a = s .args in
     heldIn (lists (a .board .now) (a .bytes .now) (a .links .now) (a .keys .now) (a .cents .now))
 
-read-reply-requires : tie.Need-read-reply-requires
-read-reply-requires c κs = search needs
-
 returns : tie.Need-returns
 returns c =
     let q = c .before in
@@ -40,12 +37,6 @@ returns-2 c =
     read-short (s .args .table .now) (given s) (ofReply (s .args .sender)) (s .args .out .now)
     (sym (i .if1 .left) ∙ q .read-reply .ensures .0) (c .if2 .taken)
 
-put-one-requires : tie.Need-put-one-requires
-put-one-requires c κs = search needs
-
-same-length : tie.Need-same-length
-same-length c = search needs
-
 returns-3 : tie.Need-returns-3
 returns-3 c =
     let p = c .before in
@@ -60,4 +51,4 @@ returns-3 c =
 pub gv-read-reply-spec : {M : Type 1} → statement M
 gv-read-reply-spec =
     tie.close
-    (tie.spec read-reply-requires returns returns-2 put-one-requires same-length returns-3)
+    (tie.spec (λ c κs. search needs) returns returns-2 (λ c κs. search needs) (λ c. search needs) returns-3)

@@ -11,29 +11,11 @@ use Rattle.host.proofs.ReadLaws.{match-put}
 use Rattle.host.proofs.put_match.Statement.{statement}
 use Rattle.host.proofs.put_match.Tie as tie
 
-slice-aggregate-put-eight : tie.Need-slice-aggregate-put-eight
-slice-aggregate-put-eight c = search needs
-
-put-eight-requires : tie.Need-put-eight-requires
-put-eight-requires c κs = search needs
-
-cast-out : tie.Need-cast-out
-cast-out c = search needs
-
-slice-set-from-out : tie.Need-slice-set-from-out
-slice-set-from-out c = search needs
-
-cast-out-2 : tie.Need-cast-out-2
-cast-out-2 c = search needs
-
 slice-set-from-out-2 : tie.Need-slice-set-from-out-2
 slice-set-from-out-2 c = simp length-set (omega arith)
 
 slice-set-from-cents : tie.Need-slice-set-from-cents
 slice-set-from-cents c = simp length-set (omega arith)
-
-same-length : tie.Need-same-length
-same-length c = search needs
 
 returns : tie.Need-returns
 returns c =
@@ -52,12 +34,12 @@ pub put-match-spec : {M : Type 1} → statement M
 put-match-spec =
     tie.close
     (tie.spec
-    slice-aggregate-put-eight
-    put-eight-requires
-    cast-out
-    slice-set-from-out
-    cast-out-2
+    (λ c. search needs)
+    (λ c κs. search needs)
+    (λ c. search needs)
+    (λ c. search needs)
+    (λ c. search needs)
     slice-set-from-out-2
     slice-set-from-cents
-    same-length
+    (λ c. search needs)
     returns)

@@ -7,38 +7,17 @@ use Rattle.host.proofs.ReadLaws.{message-put}
 use Rattle.host.proofs.put_message.Statement.{statement}
 use Rattle.host.proofs.put_message.Tie as tie
 
-cast-out : tie.Need-cast-out
-cast-out c = search needs
-
-slice-set-from-out : tie.Need-slice-set-from-out
-slice-set-from-out c = search needs
-
-cast-out-2 : tie.Need-cast-out-2
-cast-out-2 c = search needs
-
 slice-set-from-out-2 : tie.Need-slice-set-from-out-2
 slice-set-from-out-2 c = simp length-set (omega arith)
 
 slice-set-from-cents : tie.Need-slice-set-from-cents
 slice-set-from-cents c = simp length-set (omega arith)
 
-cast-out-3 : tie.Need-cast-out-3
-cast-out-3 c = search needs
-
 slice-set-from-out-3 : tie.Need-slice-set-from-out-3
 slice-set-from-out-3 c = simp length-set (omega arith)
 
-cast-out-4 : tie.Need-cast-out-4
-cast-out-4 c = search needs
-
 slice-set-from-out-4 : tie.Need-slice-set-from-out-4
 slice-set-from-out-4 c = simp length-set (omega arith)
-
-cast-out-5 : tie.Need-cast-out-5
-cast-out-5 c = search needs
-
-slice-set-from-out-5 : tie.Need-slice-set-from-out-5
-slice-set-from-out-5 c = search needs
 
 same-length : tie.Need-same-length
 same-length c = simp length-set refl
@@ -55,16 +34,16 @@ pub put-message-spec : {M : Type 1} → statement M
 put-message-spec =
     tie.close
     (tie.spec
-    cast-out
-    slice-set-from-out
-    cast-out-2
+    (λ c. search needs)
+    (λ c. search needs)
+    (λ c. search needs)
     slice-set-from-out-2
     slice-set-from-cents
-    cast-out-3
+    (λ c. search needs)
     slice-set-from-out-3
-    cast-out-4
+    (λ c. search needs)
     slice-set-from-out-4
-    cast-out-5
-    slice-set-from-out-5
+    (λ c. search needs)
+    (λ c. search needs)
     same-length
     returns)

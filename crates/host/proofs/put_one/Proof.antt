@@ -6,17 +6,8 @@ use Rattle.host.proofs.ReadLaws.{number-back, one-put}
 use Rattle.host.proofs.put_one.Statement.{statement}
 use Rattle.host.proofs.put_one.Tie as tie
 
-cast-out : tie.Need-cast-out
-cast-out c = search needs
-
-slice-set-from-out : tie.Need-slice-set-from-out
-slice-set-from-out c = search needs
-
-same-length : tie.Need-same-length
-same-length c = search needs
-
 returns : tie.Need-returns
 returns c = rw (number-back (c .args .n) (omega arith)) (one-put (c .args .out .now) (pos (c .args .n)) (c .pre))
 
 pub put-one-spec : {M : Type 1} → statement M
-put-one-spec = tie.close (tie.spec cast-out slice-set-from-out same-length returns)
+put-one-spec = tie.close (tie.spec (λ c. search needs) (λ c. search needs) (λ c. search needs) returns)

@@ -19,17 +19,11 @@ two c = c .before .before
 abbrev three : tie.After-unsigned-cents → tie.After-number3
 three c = c .before .before
 
-number-requires : tie.Need-number-requires
-number-requires c κs = search needs
-
 returns : tie.Need-returns
 returns c =
     let a = start (c .before) .args in
     let e = c .before .number .ensures .0 in
     no-sender (a .sender .now) (a .channel .now) (a .property .now) (a .cents .now) _ e (c .if1 .taken)
-
-number-requires-2 : tie.Need-number-requires-2
-number-requires-2 c κs = search needs
 
 returns-2 : tie.Need-returns-2
 returns-2 c =
@@ -37,50 +31,17 @@ returns-2 c =
     let e = c .before .number2 .ensures .0 in
     no-channel (a .sender .now) (a .channel .now) (a .property .now) (a .cents .now) _ e (c .if2 .taken)
 
-number-requires-3 : tie.Need-number-requires-3
-number-requires-3 c κs = search needs
-
 returns-3 : tie.Need-returns-3
 returns-3 c =
     let a = start (one (two (c .before))) .args in
     let e = c .before .number3 .ensures .0 in
     no-property (a .sender .now) (a .channel .now) (a .property .now) (a .cents .now) _ e (c .if3 .taken)
 
-unsigned-cents-requires : tie.Need-unsigned-cents-requires
-unsigned-cents-requires c κs = search needs
-
 returns-4 : tie.Need-returns-4
 returns-4 c =
     let a = start (one (two (three (c .before)))) .args in
     let e = c .before .unsigned-cents .ensures .0 in
     no-cents (a .sender .now) (a .channel .now) (a .property .now) (a .cents .now) _ e (c .if4 .taken)
-
-is-minus-requires : tie.Need-is-minus-requires
-is-minus-requires c κs = search needs
-
-sub-signed : tie.Need-sub-signed
-sub-signed c = search needs
-
-signed-requires : tie.Need-signed-requires
-signed-requires c κs = search needs
-
-sub-t12 : tie.Need-sub-t12
-sub-t12 c = search needs
-
-cast-t13 : tie.Need-cast-t13
-cast-t13 c = search needs
-
-sub-t14 : tie.Need-sub-t14
-sub-t14 c = search needs
-
-cast-t15 : tie.Need-cast-t15
-cast-t15 c = search needs
-
-sub-t12-2 : tie.Need-sub-t12-2
-sub-t12-2 c = search needs
-
-cast-t13-2 : tie.Need-cast-t13-2
-cast-t13-2 c = search needs
 
 returns-5 : tie.Need-returns-5
 returns-5 c =
@@ -111,21 +72,21 @@ pub add-of-spec : {M : Type 1} → statement M
 add-of-spec =
     tie.close
     (tie.spec
-    number-requires
+    (λ c κs. search needs)
     returns
-    number-requires-2
+    (λ c κs. search needs)
     returns-2
-    number-requires-3
+    (λ c κs. search needs)
     returns-3
-    unsigned-cents-requires
+    (λ c κs. search needs)
     returns-4
-    is-minus-requires
-    sub-signed
-    signed-requires
-    sub-t12
-    cast-t13
-    sub-t14
-    cast-t15
-    sub-t12-2
-    cast-t13-2
+    (λ c κs. search needs)
+    (λ c. search needs)
+    (λ c κs. search needs)
+    (λ c. search needs)
+    (λ c. search needs)
+    (λ c. search needs)
+    (λ c. search needs)
+    (λ c. search needs)
+    (λ c. search needs)
     returns-5)

@@ -7,11 +7,5 @@ use Rattle.lines.proofs.is_minus.Tie as tie
 returns : tie.Need-returns
 returns c = minus-none (c .before .args .s .now) (c .if1 .taken)
 
-shared-slice-read-result : tie.Need-shared-slice-read-result
-shared-slice-read-result c = search needs
-
-returns-2 : tie.Need-returns-2
-returns-2 c = search needs
-
 pub is-minus-spec : {M : Type 1} → statement M
-is-minus-spec = tie.close (tie.spec returns shared-slice-read-result returns-2)
+is-minus-spec = tie.close (tie.spec returns (λ c. search needs) (λ c. search needs))

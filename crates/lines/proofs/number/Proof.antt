@@ -33,12 +33,6 @@ returns c =
 loop-holds : tie.Need-loop-holds Inv-loop μ-loop
 loop-holds c = (search needs, search needs, search needs, refl, refl)
 
-shared-slice-read-x : tie.Need-shared-slice-read-x Inv-loop μ-loop
-shared-slice-read-x c = search needs
-
-is-digit-requires : tie.Need-is-digit-requires Inv-loop μ-loop
-is-digit-requires c κs = search needs
-
 returns-2 : tie.Need-returns-2 Inv-loop μ-loop
 returns-2 c =
     let p = c .before .before .before .before in
@@ -64,12 +58,6 @@ returns-3 c =
     let o = value-over (a .most) _ (drop (p .loop .i + 1) s) (rw (c .before .with-digit .ensures) at (c .if3 .taken)) in
     (none-over (a .most) s (rw v o), search needs)
 
-add-i : tie.Need-add-i Inv-loop μ-loop
-add-i c = search needs
-
-loop-less : tie.Need-loop-less Inv-loop μ-loop
-loop-less c = search needs
-
 loop-again : tie.Need-loop-again Inv-loop μ-loop
 loop-again c =
     let p = c .before .before .before .before .before .before in
@@ -81,9 +69,6 @@ loop-again c =
       p .loop .inv .3 ∙ digits-next s (p .loop .i) (omega arith) yes,
       rw (c .before .with-digit .ensures) (p .loop .inv .4 ∙ value-next s (p .loop .i) (omega arith) (p .loop .n)),
     )
-
-add-result : tie.Need-add-result Inv-loop μ-loop
-add-result c = search needs
 
 returns-4 : tie.Need-returns-4 Inv-loop μ-loop
 returns-4 c =
@@ -104,13 +89,13 @@ number-spec =
     μ-loop
     returns
     loop-holds
-    shared-slice-read-x
-    is-digit-requires
+    (λ c. search needs)
+    (λ c κs. search needs)
     returns-2
     with-digit-requires
     returns-3
-    add-i
-    loop-less
+    (λ c. search needs)
+    (λ c. search needs)
     loop-again
-    add-result
+    (λ c. search needs)
     returns-4)

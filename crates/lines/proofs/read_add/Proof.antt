@@ -51,32 +51,17 @@ third c =
     let e = c .before .byte-from3 .ensures .0 in
     field-more (bytes (p .before .before)) (place2 p + 1) _ (within2 p) e (omega (arith, within3 c))
 
-byte-from-requires : tie.Need-byte-from-requires
-byte-from-requires c κs = search needs
-
 returns : tie.Need-returns
 returns c =
     let s = c .before .before .before in
     let a = s .args in
     rw (field-last (a .s .now) (a .at) _ (s .pre) (c .before .byte-from .ensures .0) (omega (arith, c .if1 .taken)))
 
-add-channel : tie.Need-add-channel
-add-channel c = search needs
-
-byte-from-requires-2 : tie.Need-byte-from-requires-2
-byte-from-requires-2 c κs = search needs
-
 returns-2 : tie.Need-returns-2
 returns-2 c =
     let c1 = c .before .before in
     let q = c .before .byte-from2 in
     rw (first c1, field-last (bytes c1) (place c1 + 1) _ (within c1) (q .ensures .0) (omega (arith, c .if2 .taken)))
-
-add-property : tie.Need-add-property
-add-property c = search needs
-
-byte-from-requires-3 : tie.Need-byte-from-requires-3
-byte-from-requires-3 c κs = search needs
 
 returns-3 : tie.Need-returns-3
 returns-3 c =
@@ -88,12 +73,6 @@ returns-3 c =
       second c2,
       field-last (bytes c1) (place2 c2 + 1) _ (within2 c2) (q .ensures .0) (omega (arith, c .if3 .taken)),
     )
-
-add-cents : tie.Need-add-cents
-add-cents c = search needs
-
-byte-from-requires-4 : tie.Need-byte-from-requires-4
-byte-from-requires-4 c κs = search needs
 
 returns-4 : tie.Need-returns-4
 returns-4 c =
@@ -108,45 +87,6 @@ returns-4 c =
       field-more (bytes c1) (place3 c3 + 1) _ (within3 c3) (q .ensures .0) (c .if4 .taken),
     )
     (sym (add-more _ _ _ _ _))
-
-sub-add-of : tie.Need-sub-add-of
-sub-add-of c = search needs
-
-part-add-of-start : tie.Need-part-add-of-start
-part-add-of-start c = search needs
-
-part-add-of-end : tie.Need-part-add-of-end
-part-add-of-end c = search needs
-
-sub-add-of-2 : tie.Need-sub-add-of-2
-sub-add-of-2 c = search needs
-
-part-add-of-start-2 : tie.Need-part-add-of-start-2
-part-add-of-start-2 c = search needs
-
-part-add-of-end-2 : tie.Need-part-add-of-end-2
-part-add-of-end-2 c = search needs
-
-sub-add-of-3 : tie.Need-sub-add-of-3
-sub-add-of-3 c = search needs
-
-part-add-of-start-3 : tie.Need-part-add-of-start-3
-part-add-of-start-3 c = search needs
-
-part-add-of-end-3 : tie.Need-part-add-of-end-3
-part-add-of-end-3 c = search needs
-
-sub-add-of-4 : tie.Need-sub-add-of-4
-sub-add-of-4 c = search needs
-
-part-add-of-start-4 : tie.Need-part-add-of-start-4
-part-add-of-start-4 c = search needs
-
-part-add-of-end-4 : tie.Need-part-add-of-end-4
-part-add-of-end-4 c = search needs
-
-add-of-requires : tie.Need-add-of-requires
-add-of-requires c κs = search needs
 
 returns-5 : tie.Need-returns-5
 returns-5 c =
@@ -167,28 +107,28 @@ pub read-add-spec : {M : Type 1} → statement M
 read-add-spec =
     tie.close
     (tie.spec
-    byte-from-requires
+    (λ c κs. search needs)
     returns
-    add-channel
-    byte-from-requires-2
+    (λ c. search needs)
+    (λ c κs. search needs)
     returns-2
-    add-property
-    byte-from-requires-3
+    (λ c. search needs)
+    (λ c κs. search needs)
     returns-3
-    add-cents
-    byte-from-requires-4
+    (λ c. search needs)
+    (λ c κs. search needs)
     returns-4
-    sub-add-of
-    part-add-of-start
-    part-add-of-end
-    sub-add-of-2
-    part-add-of-start-2
-    part-add-of-end-2
-    sub-add-of-3
-    part-add-of-start-3
-    part-add-of-end-3
-    sub-add-of-4
-    part-add-of-start-4
-    part-add-of-end-4
-    add-of-requires
+    (λ c. search needs)
+    (λ c. search needs)
+    (λ c. search needs)
+    (λ c. search needs)
+    (λ c. search needs)
+    (λ c. search needs)
+    (λ c. search needs)
+    (λ c. search needs)
+    (λ c. search needs)
+    (λ c. search needs)
+    (λ c. search needs)
+    (λ c. search needs)
+    (λ c κs. search needs)
     returns-5)

@@ -13,20 +13,11 @@ returns-2 c =
     let s = c .before .before .before .args .line .now in
     line-short s (c .if2 .taken) ∙ line-within s (c .before .if1 .left)
 
-shared-slice-read-if3 : tie.Need-shared-slice-read-if3
-shared-slice-read-if3 c = search needs
-
 returns-3 : tie.Need-returns-3
 returns-3 c =
     let c2 = c .before .before in
     let s = c2 .before .before .before .args .line .now in
     line-wide s (c2 .if2 .left) (c .if3 .taken) ∙ line-within s (c2 .before .if1 .left)
-
-shared-slice-read-if4 : tie.Need-shared-slice-read-if4
-shared-slice-read-if4 c = search needs
-
-read-add-requires : tie.Need-read-add-requires
-read-add-requires c κs = search needs
 
 returns-4 : tie.Need-returns-4
 returns-4 c =
@@ -35,12 +26,6 @@ returns-4 c =
     let s = c2 .before .before .before .args .line .now in
     c .read-add .ensures
     ∙ (line-add s (c2 .if2 .left) (c3 .if3 .left) (c .before .if4 .taken) ∙ line-within s (c2 .before .if1 .left))
-
-shared-slice-read-if5 : tie.Need-shared-slice-read-if5
-shared-slice-read-if5 c = search needs
-
-read-step-requires : tie.Need-read-step-requires
-read-step-requires c κs = search needs
 
 returns-5 : tie.Need-returns-5
 returns-5 c =
@@ -64,12 +49,12 @@ read-line-spec =
     (tie.spec
     returns
     returns-2
-    shared-slice-read-if3
+    (λ c. search needs)
     returns-3
-    shared-slice-read-if4
-    read-add-requires
+    (λ c. search needs)
+    (λ c κs. search needs)
     returns-4
-    shared-slice-read-if5
-    read-step-requires
+    (λ c. search needs)
+    (λ c κs. search needs)
     returns-5
     returns-6)

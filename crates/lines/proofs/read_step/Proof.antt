@@ -20,9 +20,6 @@ whole c =
     let a = start c .args in
     field-last (a .s .now) (a .at) _ (start c .pre) (c .before .byte-from .ensures .0) (c .if1 .left)
 
-byte-from-requires : tie.Need-byte-from-requires
-byte-from-requires c κs = search needs
-
 returns : tie.Need-returns
 returns c =
     let s = c .before .before .before in
@@ -30,30 +27,12 @@ returns c =
     let e = c .before .byte-from .ensures in
     rw (field-more (a .s .now) (a .at) _ (s .pre) (e .0) (c .if1 .taken)) (sym (step-more _ _))
 
-sub-number : tie.Need-sub-number
-sub-number c = search needs
-
-part-number-start : tie.Need-part-number-start
-part-number-start c = search needs
-
-part-number-end : tie.Need-part-number-end
-part-number-end c = search needs
-
-number-requires : tie.Need-number-requires
-number-requires c κs = search needs
-
 returns-2 : tie.Need-returns-2
 returns-2 c =
     let c1 = c .before .before .before in
     let a = start c1 .args in
     let e = rw (to-end (a .s .now) (a .at)) at (c .before .number .ensures .0) in
     rw (whole c1) (step-none (drop (a .at) (a .s .now)) _ e (c .if2 .taken))
-
-sub-t10 : tie.Need-sub-t10
-sub-t10 c = search needs
-
-cast-t11 : tie.Need-cast-t11
-cast-t11 c = search needs
 
 returns-3 : tie.Need-returns-3
 returns-3 c =
@@ -66,13 +45,13 @@ pub read-step-spec : {M : Type 1} → statement M
 read-step-spec =
     tie.close
     (tie.spec
-    byte-from-requires
+    (λ c κs. search needs)
     returns
-    sub-number
-    part-number-start
-    part-number-end
-    number-requires
+    (λ c. search needs)
+    (λ c. search needs)
+    (λ c. search needs)
+    (λ c κs. search needs)
     returns-2
-    sub-t10
-    cast-t11
+    (λ c. search needs)
+    (λ c. search needs)
     returns-3)

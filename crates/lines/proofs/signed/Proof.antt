@@ -7,9 +7,6 @@ use borrow.Author.Needs.{needs}
 use Rattle.lines.proofs.signed.Statement.{statement}
 use Rattle.lines.proofs.signed.Tie as tie
 
-cast-v : tie.Need-cast-v
-cast-v c = search needs
-
 sub-result : tie.Need-sub-result
 sub-result c =
     let a = c .before .args in
@@ -25,4 +22,4 @@ returns-2 : tie.Need-returns-2
 returns-2 c = let a = c .before .args in rw (to-pos (a .n) (c .before .pre), c .if1 .left)
 
 pub signed-spec : {M : Type 1} → statement M
-signed-spec = tie.close (tie.spec cast-v sub-result returns returns-2)
+signed-spec = tie.close (tie.spec (λ c. search needs) sub-result returns returns-2)

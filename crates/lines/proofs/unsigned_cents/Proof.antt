@@ -14,29 +14,17 @@ start c = c .before .before .before
 yes : (c : tie.Then1) → isMinus (start c .args .s .now) ≡ true
 yes c = sym (c .before .is-minus .ensures) ∙ c .if1 .taken
 
-is-minus-requires : tie.Need-is-minus-requires
-is-minus-requires c κs = search needs
-
 sub-magnitude : tie.Need-sub-magnitude
 sub-magnitude c = minus-some (start c .args .s .now) (yes c)
 
 part-magnitude-start : tie.Need-part-magnitude-start
 part-magnitude-start c = let m = minus-some (start c .args .s .now) (yes c) in search needs
 
-part-magnitude-end : tie.Need-part-magnitude-end
-part-magnitude-end c = search needs
-
-magnitude-requires : tie.Need-magnitude-requires
-magnitude-requires c κs = search needs
-
 returns : tie.Need-returns
 returns c =
     let t = c .before .before in
     let s = start t .args .s .now in
     (rw (← cents-minus s (yes t)) (rw (to-end s 1) at (c .magnitude .ensures .0)), search needs)
-
-magnitude-requires-2 : tie.Need-magnitude-requires-2
-magnitude-requires-2 c κs = search needs
 
 returns-2 : tie.Need-returns-2
 returns-2 c =
@@ -48,11 +36,11 @@ pub unsigned-cents-spec : {M : Type 1} → statement M
 unsigned-cents-spec =
     tie.close
     (tie.spec
-    is-minus-requires
+    (λ c κs. search needs)
     sub-magnitude
     part-magnitude-start
-    part-magnitude-end
-    magnitude-requires
+    (λ c. search needs)
+    (λ c κs. search needs)
     returns
-    magnitude-requires-2
+    (λ c κs. search needs)
     returns-2)

@@ -10,21 +10,6 @@ use borrow.Author.Needs.{needs}
 use Rattle.looks.proofs.choice.Statement.{statement}
 use Rattle.looks.proofs.choice.Tie as tie
 
-shared-slice-read-channel : tie.Need-shared-slice-read-channel
-shared-slice-read-channel c = search needs
-
-mul-property : tie.Need-mul-property
-mul-property c = search needs
-
-shared-slice-read-property : tie.Need-shared-slice-read-property
-shared-slice-read-property c = search needs
-
-first-of-requires : tie.Need-first-of-requires
-first-of-requires c κs = search needs
-
-add-result : tie.Need-add-result
-add-result c = search needs
-
 returns : tie.Need-returns
 returns c =
     let f = c .before in
@@ -33,15 +18,6 @@ returns c =
     λ o w ws wc wk. choice-own (tableOf (a .table .now)) (a .channels .now) (a .properties .now) (a .statuses .now)
     (a .n) o w (a .k) (f .first-of .result) (a .subject) (a .chord) (s .pre .1 .0 .1) (f .first-of .ensures) ws wc
     (c .if1 .taken)
-
-channel-at-requires : tie.Need-channel-at-requires
-channel-at-requires c κs = search needs
-
-is-equal-requires : tie.Need-is-equal-requires
-is-equal-requires c κs = search needs
-
-lowest-requires : tie.Need-lowest-requires
-lowest-requires c κs = search needs
 
 returns-2 : tie.Need-returns-2
 returns-2 c =
@@ -64,13 +40,13 @@ pub choice-spec : {M : Type 1} → statement M
 choice-spec =
     tie.close
     (tie.spec
-    shared-slice-read-channel
-    mul-property
-    shared-slice-read-property
-    first-of-requires
-    add-result
+    (λ c. search needs)
+    (λ c. search needs)
+    (λ c. search needs)
+    (λ c κs. search needs)
+    (λ c. search needs)
     returns
-    channel-at-requires
-    is-equal-requires
-    lowest-requires
+    (λ c κs. search needs)
+    (λ c κs. search needs)
+    (λ c κs. search needs)
     returns-2)

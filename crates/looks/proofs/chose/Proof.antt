@@ -7,9 +7,6 @@ use borrow.Author.Needs.{needs}
 use Rattle.looks.proofs.chose.Statement.{statement}
 use Rattle.looks.proofs.chose.Tie as tie
 
-with-at-requires : tie.Need-with-at-requires
-with-at-requires c κs = search needs
-
 returns : tie.Need-returns
 returns c =
     let s = c .before .before in
@@ -18,4 +15,4 @@ returns c =
     λ t e. rw (c .with-at .ensures, e, s .pre .1, take-suc-set (a .j .chosen) (a .k) (a .m) (omega (arith, s .pre .0)))
 
 pub chose-spec : {M : Type 1} → statement M
-chose-spec = tie.close (tie.spec with-at-requires returns)
+chose-spec = tie.close (tie.spec (λ c κs. search needs) returns)

@@ -9,15 +9,6 @@ use borrow.Author.Needs.{needs}
 use Rattle.looks.proofs.found.Statement.{statement}
 use Rattle.looks.proofs.found.Tie as tie
 
-add-if1 : tie.Need-add-if1
-add-if1 c = search needs
-
-chose-requires : tie.Need-chose-requires
-chose-requires c κs = search needs
-
-works-requires : tie.Need-works-requires
-works-requires c κs = search needs
-
 returns : tie.Need-returns
 returns c =
     let q = c .before in
@@ -27,15 +18,6 @@ returns c =
     let l = e ∙ sym (i .if1 .taken) ∙ add-one (a .k) in
     rw (c .works .ensures)
     (found-is t b (a .d) (a .k) (q .chose .result) (a .m) true (eq-eqb (suc (a .k)) _ (sym l)) (q .chose .ensures t l))
-
-add-t8 : tie.Need-add-t8
-add-t8 c = search needs
-
-chose-requires-2 : tie.Need-chose-requires-2
-chose-requires-2 c κs = search needs
-
-works-requires-2 : tie.Need-works-requires-2
-works-requires-2 c κs = search needs
 
 returns-2 : tie.Need-returns-2
 returns-2 c =
@@ -51,11 +33,11 @@ pub found-spec : {M : Type 1} → statement M
 found-spec =
     tie.close
     (tie.spec
-    add-if1
-    chose-requires
-    works-requires
+    (λ c. search needs)
+    (λ c κs. search needs)
+    (λ c κs. search needs)
     returns
-    add-t8
-    chose-requires-2
-    works-requires-2
+    (λ c. search needs)
+    (λ c κs. search needs)
+    (λ c κs. search needs)
     returns-2)

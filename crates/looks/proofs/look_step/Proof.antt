@@ -63,20 +63,11 @@ choice-requires c κs =
     let p = s .pre .1 in
     (s .pre .0, ((p .0 .1, p .1 .0 .0), (p .1 .0 .1, p .1 .1)))
 
-missed-requires : tie.Need-missed-requires
-missed-requires c κs = search needs
-
 returns : tie.Need-returns
 returns c =
     let i = c .before in
     let f = i .before in
     λ o. c .missed .ensures o ∙ looked f o 0 (sym (i .if1 .taken))
-
-chord-len-requires : tie.Need-chord-len-requires
-chord-len-requires c κs = search needs
-
-sub-found : tie.Need-sub-found
-sub-found c = search needs
 
 found-requires : tie.Need-found-requires
 found-requires c κs =
@@ -103,9 +94,9 @@ look-step-spec =
     array-share-prefix-chosen
     slice-aggregate-choice
     choice-requires
-    missed-requires
+    (λ c κs. search needs)
     returns
-    chord-len-requires
-    sub-found
+    (λ c κs. search needs)
+    (λ c. search needs)
     found-requires
     returns-2)

@@ -10,33 +10,6 @@ use borrow.Author.Needs.{needs}
 use Rattle.looks.proofs.missed.Statement.{statement}
 use Rattle.looks.proofs.missed.Tie as tie
 
-cast-at : tie.Need-cast-at
-cast-at c = search needs
-
-shared-slice-read-channel : tie.Need-shared-slice-read-channel
-shared-slice-read-channel c = search needs
-
-mul-property : tie.Need-mul-property
-mul-property c = search needs
-
-shared-slice-read-property : tie.Need-shared-slice-read-property
-shared-slice-read-property c = search needs
-
-channel-at-requires : tie.Need-channel-at-requires
-channel-at-requires c κs = search needs
-
-is-equal-requires : tie.Need-is-equal-requires
-is-equal-requires c κs = search needs
-
-some-claimed-requires : tie.Need-some-claimed-requires
-some-claimed-requires c κs = search needs
-
-next-chord-requires : tie.Need-next-chord-requires
-next-chord-requires c κs = search needs
-
-works-requires : tie.Need-works-requires
-works-requires c κs = search needs
-
 returns : tie.Need-returns
 returns c =
     let q = c .before in
@@ -61,13 +34,13 @@ pub missed-spec : {M : Type 1} → statement M
 missed-spec =
     tie.close
     (tie.spec
-    cast-at
-    shared-slice-read-channel
-    mul-property
-    shared-slice-read-property
-    channel-at-requires
-    is-equal-requires
-    some-claimed-requires
-    next-chord-requires
-    works-requires
+    (λ c. search needs)
+    (λ c. search needs)
+    (λ c. search needs)
+    (λ c. search needs)
+    (λ c κs. search needs)
+    (λ c κs. search needs)
+    (λ c κs. search needs)
+    (λ c κs. search needs)
+    (λ c κs. search needs)
     returns)

@@ -14,36 +14,6 @@ Inv-loop k m c r₀ i₀ r i = (i ≤ 8) × (length r ≡ 8) × (take i r ≡ ta
 abbrev μ-loop : tie.MeasureT-loop
 μ-loop k m c r₀ i₀ r i = 8 - i
 
-loop-holds : tie.Need-loop-holds Inv-loop μ-loop
-loop-holds c = search needs
-
-cast-pick-at : tie.Need-cast-pick-at Inv-loop μ-loop
-cast-pick-at c = search needs
-
-mul-pick-at : tie.Need-mul-pick-at Inv-loop μ-loop
-mul-pick-at c = search needs
-
-array-read-pick-at : tie.Need-array-read-pick-at Inv-loop μ-loop
-array-read-pick-at c = search needs
-
-pick-at-requires : tie.Need-pick-at-requires Inv-loop μ-loop
-pick-at-requires c κs = search needs
-
-cast-r : tie.Need-cast-r Inv-loop μ-loop
-cast-r c = search needs
-
-mul-r : tie.Need-mul-r Inv-loop μ-loop
-mul-r c = search needs
-
-array-write-r : tie.Need-array-write-r Inv-loop μ-loop
-array-write-r c = search needs
-
-add-i : tie.Need-add-i Inv-loop μ-loop
-add-i c = search needs
-
-loop-less : tie.Need-loop-less Inv-loop μ-loop
-loop-less c = search needs
-
 loop-again : tie.Need-loop-again Inv-loop μ-loop
 loop-again c =
     let p = c .before .before in
@@ -72,15 +42,15 @@ with-at-spec =
     (tie.spec
     Inv-loop
     μ-loop
-    loop-holds
-    cast-pick-at
-    mul-pick-at
-    array-read-pick-at
-    pick-at-requires
-    cast-r
-    mul-r
-    array-write-r
-    add-i
-    loop-less
+    (λ c. search needs)
+    (λ c. search needs)
+    (λ c. search needs)
+    (λ c. search needs)
+    (λ c κs. search needs)
+    (λ c. search needs)
+    (λ c. search needs)
+    (λ c. search needs)
+    (λ c. search needs)
+    (λ c. search needs)
     loop-again
     returns)

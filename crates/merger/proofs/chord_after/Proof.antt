@@ -38,26 +38,11 @@ below c k l =
     rw (c .members .ensures)
     (omega (arith, t .kinds-few, t .channel-in (s .args .chord) k (s .pre .chord-in) j))
 
-members-requires : tie.Need-members-requires Inv-loop μ-loop
-members-requires c κs = search needs
-
-loop-holds : tie.Need-loop-holds Inv-loop μ-loop
-loop-holds c = search needs
-
-shared-slice-read-becomes : tie.Need-shared-slice-read-becomes Inv-loop μ-loop
-shared-slice-read-becomes c = search needs
-
 becomes-requires : tie.Need-becomes-requires Inv-loop μ-loop
 becomes-requires c κs = let p = c .before .before in below (p .before) (p .loop .k) (omega arith)
 
 array-write-channels : tie.Need-array-write-channels Inv-loop μ-loop
 array-write-channels c = omega (arith, few (c .before .before .before .before))
-
-add-k : tie.Need-add-k Inv-loop μ-loop
-add-k c = search needs
-
-loop-less : tie.Need-loop-less Inv-loop μ-loop
-loop-less c = search needs
 
 loop-again : tie.Need-loop-again Inv-loop μ-loop
 loop-again c =
@@ -69,12 +54,6 @@ loop-again c =
     let l = length-map part f in
     let g = fill-next (p .loop .channels) (map f part) k k 0 (omega arith) in
     (omega arith, rw (c .becomes .ensures, ← nth-map f part k 0 0 (omega arith)) (sym g ∙ p .loop .inv .1))
-
-chord-len-requires : tie.Need-chord-len-requires Inv-loop μ-loop
-chord-len-requires c κs = search needs
-
-is-equal-requires : tie.Need-is-equal-requires Inv-loop μ-loop
-is-equal-requires c κs = search needs
 
 returns : tie.Need-returns Inv-loop μ-loop
 unfolding chordFor
@@ -98,14 +77,14 @@ chord-after-spec =
     (tie.spec
     Inv-loop
     μ-loop
-    members-requires
-    loop-holds
-    shared-slice-read-becomes
+    (λ c κs. search needs)
+    (λ c. search needs)
+    (λ c. search needs)
     becomes-requires
     array-write-channels
-    add-k
-    loop-less
+    (λ c. search needs)
+    (λ c. search needs)
     loop-again
-    chord-len-requires
-    is-equal-requires
+    (λ c κs. search needs)
+    (λ c κs. search needs)
     returns)

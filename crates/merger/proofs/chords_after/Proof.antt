@@ -41,26 +41,11 @@ chord-after-requires c κs =
       chord-in = omega (arith, l .chords-len .ensures);
     }
 
-cast-k : tie.Need-cast-k Inv-loop μ-loop
-cast-k c = search needs
-
-add-k : tie.Need-add-k Inv-loop μ-loop
-add-k c = search needs
-
-mul-out : tie.Need-mul-out Inv-loop μ-loop
-mul-out c = search needs
-
 array-set-from-out : tie.Need-array-set-from-out Inv-loop μ-loop
 array-set-from-out c =
     let l = c .before .before .before in
     let s = l .before .before in
     omega (arith, s .pre .room, l .chords-len .ensures)
-
-add-i : tie.Need-add-i Inv-loop μ-loop
-add-i c = search needs
-
-loop-less : tie.Need-loop-less Inv-loop μ-loop
-loop-less c = search needs
 
 loop-again : tie.Need-loop-again Inv-loop μ-loop
 loop-again c =
@@ -101,11 +86,11 @@ chords-after-spec =
     chords-len-requires
     loop-holds
     chord-after-requires
-    cast-k
-    add-k
-    mul-out
+    (λ c. search needs)
+    (λ c. search needs)
+    (λ c. search needs)
     array-set-from-out
-    add-i
-    loop-less
+    (λ c. search needs)
+    (λ c. search needs)
     loop-again
     returns)

@@ -17,9 +17,6 @@ start c = c .before .before .before .before
 few : (s : tie.Start) → length (s .args .map .now) ≤ 16
 few s = omega (arith, s .pre .whole, table-ok _ (s .pre .second-ok) .kinds-few)
 
-channels-len-requires : tie.Need-channels-len-requires
-channels-len-requires c κs = search needs
-
 count-new-requires : tie.Need-count-new-requires
 count-new-requires c κs = few (start c)
 
@@ -34,12 +31,6 @@ add-t c =
       c .before .channels-len .ensures,
       count-le (s .args .map .now),
     )
-
-chords-len-requires : tie.Need-chords-len-requires
-chords-len-requires c κs = search needs
-
-chords-len-requires-2 : tie.Need-chords-len-requires-2
-chords-len-requires-2 c κs = search needs
 
 add-r : tie.Need-add-r
 add-r c =
@@ -71,10 +62,10 @@ pub fits-spec : {M : Type 1} → statement M
 fits-spec =
     tie.close
     (tie.spec
-    channels-len-requires
+    (λ c κs. search needs)
     count-new-requires
     add-t
-    chords-len-requires
-    chords-len-requires-2
+    (λ c κs. search needs)
+    (λ c κs. search needs)
     add-r
     returns)

@@ -9,21 +9,6 @@ use borrow.Author.Needs.{needs}
 use Rattle.merger.proofs.kinds.Statement.{statement}
 use Rattle.merger.proofs.kinds.Tie as tie
 
-channels-len-requires : tie.Need-channels-len-requires
-channels-len-requires c κs = search needs
-
-cast-t : tie.Need-cast-t
-cast-t c = search needs
-
-add-end : tie.Need-add-end
-add-end c = search needs
-
-sub-result : tie.Need-sub-result
-sub-result c = search needs
-
-part-result-start : tie.Need-part-result-start
-part-result-start c = search needs
-
 part-result-end : tie.Need-part-result-end
 part-result-end c =
     let s = c .before .before in
@@ -42,10 +27,10 @@ pub kinds-spec : {M : Type 1} → statement M
 kinds-spec =
     tie.close
     (tie.spec
-    channels-len-requires
-    cast-t
-    add-end
-    sub-result
-    part-result-start
+    (λ c κs. search needs)
+    (λ c. search needs)
+    (λ c. search needs)
+    (λ c. search needs)
+    (λ c. search needs)
     part-result-end
     returns)

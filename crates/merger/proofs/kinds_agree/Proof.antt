@@ -23,12 +23,6 @@ abbrev μ-loop : tie.MeasureT-loop
 abbrev start : tie.At-loop Inv-loop μ-loop → tie.Start Inv-loop μ-loop
 start p = p .before .before .before .before
 
-loop-holds : tie.Need-loop-holds Inv-loop μ-loop
-loop-holds c = search needs
-
-shared-slice-read-joins : tie.Need-shared-slice-read-joins Inv-loop μ-loop
-shared-slice-read-joins c = search needs
-
 shared-slice-read-joins-2 : tie.Need-shared-slice-read-joins-2 Inv-loop μ-loop
 shared-slice-read-joins-2 c =
     omega (arith, start (c .before .before .before) .pre .whole)
@@ -49,12 +43,6 @@ returns c =
     let j = agree-at (a .first .now) (a .map .now) (a .second .now) (p .loop .i) (omega arith)
     (omega (arith, s .pre .whole)) in
     sym (p .loop .inv .1 ∙ j ∙ rw e)
-
-add-i : tie.Need-add-i Inv-loop μ-loop
-add-i c = search needs
-
-loop-less : tie.Need-loop-less Inv-loop μ-loop
-loop-less c = search needs
 
 loop-again : tie.Need-loop-again Inv-loop μ-loop
 loop-again c =
@@ -78,12 +66,12 @@ kinds-agree-spec =
     (tie.spec
     Inv-loop
     μ-loop
-    loop-holds
-    shared-slice-read-joins
+    (λ c. search needs)
+    (λ c. search needs)
     shared-slice-read-joins-2
     joins-requires
     returns
-    add-i
-    loop-less
+    (λ c. search needs)
+    (λ c. search needs)
     loop-again
     returns-2)

@@ -41,15 +41,6 @@ names : (c : tie.Else2) →
     every (λ m. isNew m || ltb m (length (first l .kinds))) (bytes l) ≡ true
 names c = named (c .before) true (not-false _ (c .if2 .left))
 
-channels-len-requires : tie.Need-channels-len-requires
-channels-len-requires c κs = search needs
-
-channels-len-requires-2 : tie.Need-channels-len-requires-2
-channels-len-requires-2 c κs = search needs
-
-cast-m : tie.Need-cast-m
-cast-m c = search needs
-
 returns : tie.Need-returns
 unfolding mapOk
 returns c =
@@ -57,17 +48,11 @@ returns c =
     rw (ne-eqb (length (bytes l)) (length (second l .kinds))
     (λ z. c .if1 .taken (z ∙ sym (l .channels-len2 .ensures))))
 
-names-ok-requires : tie.Need-names-ok-requires
-names-ok-requires c κs = search needs
-
 returns-2 : tie.Need-returns-2
 unfolding mapOk
 returns-2 c =
     let one = c .before .before in
     rw (eq-eqb _ _ (whole one), named (c .before) false (not-true _ (c .if2 .taken)))
-
-none-twice-requires : tie.Need-none-twice-requires
-none-twice-requires c κs = search needs
 
 returns-3 : tie.Need-returns-3
 unfolding mapOk
@@ -75,12 +60,6 @@ returns-3 c =
     let two = c .before .before in
     let twice = sym (c .before .none-twice .ensures) ∙ not-true _ (c .if3 .taken) in
     rw (eq-eqb _ _ (whole (two .before .before)), names two, twice)
-
-kinds-requires : tie.Need-kinds-requires
-kinds-requires c κs = search needs
-
-kinds-requires-2 : tie.Need-kinds-requires-2
-kinds-requires-2 c κs = search needs
 
 kinds-agree-requires : tie.Need-kinds-agree-requires
 kinds-agree-requires c κs =
@@ -110,15 +89,15 @@ pub map-ok-spec : {M : Type 1} → statement M
 map-ok-spec =
     tie.close
     (tie.spec
-    channels-len-requires
-    channels-len-requires-2
-    cast-m
+    (λ c κs. search needs)
+    (λ c κs. search needs)
+    (λ c. search needs)
     returns
-    names-ok-requires
+    (λ c κs. search needs)
     returns-2
-    none-twice-requires
+    (λ c κs. search needs)
     returns-3
-    kinds-requires
-    kinds-requires-2
+    (λ c κs. search needs)
+    (λ c κs. search needs)
     kinds-agree-requires
     returns-4)

@@ -63,18 +63,12 @@ map-is c = sym (c .before .map-ok .ensures) ∙ not-false _ (c .if3 .left)
 fits-are : (c : tie.Else4) → countsFit (mergedOf (first (read4 c)) (second (read4 c)) (bytes (read4 c))) ≡ true
 fits-are c = sym (c .before .fits2 .ensures) ∙ not-false _ (c .if4 .left)
 
-read-table-requires : tie.Need-read-table-requires
-read-table-requires c κs = search needs
-
 returns : tie.Need-returns
 returns c =
     let r = c .before in
     let e = number-is r in
     let f = first-refused (first r) (second r) (bytes r) (buffer r) (λ z. c .if1 .taken (e ∙ z)) in
     rw e (f .number, f .kept)
-
-table-refusal-requires : tie.Need-table-refusal-requires
-table-refusal-requires c κs = search needs
 
 returns-2 : tie.Need-returns-2
 returns-2 c =
@@ -130,12 +124,6 @@ merged-requires c κs =
       kinds = omega (arith, f .0, k, new-count (bytes r) (tableOf (second r) .kinds) w);
     }
 
-write-table-requires : tie.Need-write-table-requires
-write-table-requires c κs = search needs
-
-same-length : tie.Need-same-length
-same-length c = search needs
-
 returns-5 : tie.Need-returns-5
 returns-5 c =
     let w = c .before .before in
@@ -158,15 +146,15 @@ pub merge-tables-spec : {M : Type 1} → statement M
 merge-tables-spec =
     tie.close
     (tie.spec
-    read-table-requires
+    (λ c κs. search needs)
     returns
-    table-refusal-requires
+    (λ c κs. search needs)
     returns-2
     map-ok-requires
     returns-3
     fits-requires
     returns-4
     merged-requires
-    write-table-requires
-    same-length
+    (λ c κs. search needs)
+    (λ c. search needs)
     returns-5)

@@ -15,9 +15,6 @@ start c = c .before .before .before .before .before
 few : (s : tie.Start) → length (s .args .map .now) ≤ 16
 few s = omega (arith, s .pre .whole, table-ok _ (s .pre .chords .accepted) .kinds-few)
 
-kinds-requires : tie.Need-kinds-requires
-kinds-requires c κs = search needs
-
 kinds-after-requires : tie.Need-kinds-after-requires
 kinds-after-requires c κs =
     let s = start c in
@@ -26,20 +23,8 @@ kinds-after-requires c κs =
 targets-requires : tie.Need-targets-requires
 targets-requires c κs = let s = start (c .before) in (few s, omega (arith, s .pre .kinds))
 
-chords-after-requires : tie.Need-chords-after-requires
-chords-after-requires c κs = search needs
-
 count-new-requires : tie.Need-count-new-requires
 count-new-requires c κs = few (start (c .before .before .before))
-
-add-t13 : tie.Need-add-t13
-add-t13 c = search needs
-
-chords-len-requires : tie.Need-chords-len-requires
-chords-len-requires c κs = search needs
-
-add-t15 : tie.Need-add-t15
-add-t15 c = search needs
 
 returns : tie.Need-returns
 returns c =
@@ -65,12 +50,12 @@ pub merged-spec : {M : Type 1} → statement M
 merged-spec =
     tie.close
     (tie.spec
-    kinds-requires
+    (λ c κs. search needs)
     kinds-after-requires
     targets-requires
-    chords-after-requires
+    (λ c κs. search needs)
     count-new-requires
-    add-t13
-    chords-len-requires
-    add-t15
+    (λ c. search needs)
+    (λ c κs. search needs)
+    (λ c. search needs)
     returns)

@@ -29,12 +29,6 @@ loop-holds c =
     let z : drop (length s) s ≡ [] = drop-of-length-le s {i = length s} (omega arith) in
     (omega arith, rw z, refl, λ x l. rw (z, getD-replicate 256 x false false l))
 
-sub-i : tie.Need-sub-i Inv-loop μ-loop
-sub-i c = search needs
-
-shared-slice-read-m : tie.Need-shared-slice-read-m Inv-loop μ-loop
-shared-slice-read-m c = search needs
-
 cast-k : tie.Need-cast-k Inv-loop μ-loop
 cast-k c = omega (arith, byte c)
 
@@ -52,9 +46,6 @@ returns c =
 
 array-write-seen : tie.Need-array-write-seen Inv-loop μ-loop
 array-write-seen c = omega (arith, byte (c .before))
-
-loop-less : tie.Need-loop-less Inv-loop μ-loop
-loop-less c = search needs
 
 loop-again : tie.Need-loop-again Inv-loop μ-loop
 loop-again c =
@@ -84,12 +75,12 @@ none-twice-spec =
     Inv-loop
     μ-loop
     loop-holds
-    sub-i
-    shared-slice-read-m
+    (λ c. search needs)
+    (λ c. search needs)
     cast-k
     array-read-again
     returns
     array-write-seen
-    loop-less
+    (λ c. search needs)
     loop-again
     returns-2)

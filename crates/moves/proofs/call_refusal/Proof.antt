@@ -27,28 +27,10 @@ idle-is c =
     let b = boardFrom (start c .args .board .now) in
     c .is-idle .ensures ∙ ap (λ j. idleIs (getD (b .senders) j zeroSender .state)) (c .before .place-of .ensures .0)
 
-enum-known-call : tie.Need-enum-known-call
-enum-known-call c = search needs
-
-place-of-requires : tie.Need-place-of-requires
-place-of-requires c κs = search needs
-
-is-idle-requires : tie.Need-is-idle-requires
-is-idle-requires c κs = search needs
-
 shared-slice-read-add-refusal : tie.Need-shared-slice-read-add-refusal
 shared-slice-read-add-refusal c =
     let s = start (c .before) in
     omega (arith, all-numbers (s .args .board .now) (s .pre .1) .0)
-
-add-refusal-requires : tie.Need-add-refusal-requires
-add-refusal-requires c κs = search needs
-
-enum-known-call-2 : tie.Need-enum-known-call-2
-enum-known-call-2 c = search needs
-
-step-refusal-requires : tie.Need-step-refusal-requires
-step-refusal-requires c κs = search needs
 
 returns : tie.Need-returns
 unfolding boardFrom
@@ -76,12 +58,12 @@ pub call-refusal-spec : {M : Type 1} → statement M
 call-refusal-spec =
     tie.close
     (tie.spec
-    enum-known-call
-    place-of-requires
-    is-idle-requires
+    (λ c. search needs)
+    (λ c κs. search needs)
+    (λ c κs. search needs)
     shared-slice-read-add-refusal
-    add-refusal-requires
-    enum-known-call-2
-    step-refusal-requires
+    (λ c κs. search needs)
+    (λ c. search needs)
+    (λ c κs. search needs)
     returns
     returns-2)

@@ -58,9 +58,6 @@ step-free k =
     (subst (λ (x : DC.Call). callRefusal (tableOf (s .args .table .now)) (view s .board) (callIn x) ≡ 0)
     (k .call2 .given .1) (s .pre .1 .0))
 
-enum-known-call : tie.Need-enum-known-call
-enum-known-call c = search needs
-
 shared-slice-read-add-move : tie.Need-shared-slice-read-add-move
 shared-slice-read-add-move c =
     let s = added (c .before .before) in
@@ -77,9 +74,6 @@ add-move-requires c κs =
     (idleIs (getD (view s .board .senders) (g .0) zeroSender .state)) (x .channel) (x .cents) (view s .board .messages)
     (add-free k) in
     (table-accepted _ _ _ _ (s .pre .0 .accepted), u .1, u .2)
-
-enum-known-call-2 : tie.Need-enum-known-call-2
-enum-known-call-2 c = search needs
 
 cast-step-move : tie.Need-cast-step-move
 cast-step-move c = omega (arith, step-free (c .before) .0)
@@ -115,10 +109,10 @@ pub move-of-spec : {M : Type 1} → statement M
 move-of-spec =
     tie.close
     (tie.spec
-    enum-known-call
+    (λ c. search needs)
     shared-slice-read-add-move
     add-move-requires
-    enum-known-call-2
+    (λ c. search needs)
     cast-step-move
     step-move-requires
     returns

@@ -7,9 +7,6 @@ use Rattle.moves.proofs.RefusedLaws.{place-in}
 use Rattle.moves.proofs.place_of.Statement.{statement}
 use Rattle.moves.proofs.place_of.Tie as tie
 
-cast-result : tie.Need-cast-result
-cast-result c = search needs
-
 returns : tie.Need-returns
 returns c = (sym (place-in _ (c .if1 .taken)), c .if1 .taken)
 
@@ -17,4 +14,4 @@ returns-2 : tie.Need-returns-2
 returns-2 c = (rw (le-ltb (c .before .args .i) 32 (omega (arith, c .if1 .left))), omega arith)
 
 pub place-of-spec : {M : Type 1} → statement M
-place-of-spec = tie.close (tie.spec cast-result returns returns-2)
+place-of-spec = tie.close (tie.spec (λ c. search needs) returns returns-2)

@@ -52,29 +52,11 @@ is-sender c = let s = start c in sender-is (s .args .table .now) (view s) (accep
 numbers : (s : tie.Start) → length (s .args .board .now) ≡ 674
 numbers s = all-numbers _ (s .pre .0 .numbers) .0
 
-sender-at-requires : tie.Need-sender-at-requires
-sender-at-requires c κs = search needs
-
 shared-slice-read-effect-of : tie.Need-shared-slice-read-effect-of
 shared-slice-read-effect-of c = omega (arith, numbers (start (c .before)))
 
 shared-slice-read-effect-of-2 : tie.Need-shared-slice-read-effect-of-2
 shared-slice-read-effect-of-2 c = omega (arith, numbers (start (c .before .before)))
-
-channels-requires : tie.Need-channels-requires
-channels-requires c κs = search needs
-
-properties-requires : tie.Need-properties-requires
-properties-requires c κs = search needs
-
-statuses-requires : tie.Need-statuses-requires
-statuses-requires c κs = search needs
-
-matched-requires : tie.Need-matched-requires
-matched-requires c κs = search needs
-
-wakers-requires : tie.Need-wakers-requires
-wakers-requires c κs = search needs
 
 -- the columns that the step is lent are those of the lists
 columns-are : (c : tie.After-wakers)
@@ -169,13 +151,13 @@ pub step-move-spec : {M : Type 1} → statement M
 step-move-spec =
     tie.close
     (tie.spec
-    sender-at-requires
+    (λ c κs. search needs)
     shared-slice-read-effect-of
     shared-slice-read-effect-of-2
-    channels-requires
-    properties-requires
-    statuses-requires
-    matched-requires
-    wakers-requires
+    (λ c κs. search needs)
+    (λ c κs. search needs)
+    (λ c κs. search needs)
+    (λ c κs. search needs)
+    (λ c κs. search needs)
     effect-of-requires
     returns)

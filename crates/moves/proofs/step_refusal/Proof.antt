@@ -13,12 +13,6 @@ returns c =
     let a = c .before .before .args in
     λ t. step-8 t (boardFrom (a .board .now)) (a .i) (c .if1 .taken)
 
-cast-may-step : tie.Need-cast-may-step
-cast-may-step c = search needs
-
-may-step-requires : tie.Need-may-step-requires
-may-step-requires c κs = search needs
-
 returns-2 : tie.Need-returns-2
 returns-2 c =
     let k = c .before in
@@ -34,4 +28,4 @@ returns-3 c =
     (sym (k .may-step .ensures) ∙ not-false _ (c .if2 .left))
 
 pub step-refusal-spec : {M : Type 1} → statement M
-step-refusal-spec = tie.close (tie.spec returns cast-may-step may-step-requires returns-2 returns-3)
+step-refusal-spec = tie.close (tie.spec returns (λ c. search needs) (λ c κs. search needs) returns-2 returns-3)

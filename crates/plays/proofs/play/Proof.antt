@@ -97,9 +97,6 @@ call-refusal-requires c κs =
     let s = c .before .before .before .before .before .before in
     (table-accepted _ _ _ _ (accepted s .accepted), accepted s .numbers)
 
-same-length : tie.Need-same-length
-same-length c = search needs
-
 returns : tie.Need-returns
 returns c =
     let k = c .before in
@@ -114,9 +111,6 @@ move-of-requires c κs =
     let f = c .before .before .before .before .before in
     let s = start (f .before) in
     (accepted s, (unrefused f, s .pre .1))
-
-caller-of-requires : tie.Need-caller-of-requires
-caller-of-requires c κs = search needs
 
 cast-i : tie.Need-cast-i
 cast-i c = omega (arith, caller-few c)
@@ -136,21 +130,6 @@ slice-read-start-after c =
 start-after-requires : tie.Need-start-after-requires
 start-after-requires c κs = let w = written (c .before .before) in (left-few w, plays w .sized .bytes-len)
 
-same-length-2 : tie.Need-same-length-2
-same-length-2 c = search needs
-
-same-length-3 : tie.Need-same-length-3
-same-length-3 c = search needs
-
-same-length-4 : tie.Need-same-length-4
-same-length-4 c = search needs
-
-same-length-5 : tie.Need-same-length-5
-same-length-5 c = search needs
-
-same-length-6 : tie.Need-same-length-6
-same-length-6 c = search needs
-
 returns-2 : tie.Need-returns-2
 unfolding boardFrom
 returns-2 c =
@@ -168,17 +147,17 @@ play-spec =
     tie.close
     (tie.spec
     call-refusal-requires
-    same-length
+    (λ c. search needs)
     returns
     move-of-requires
-    caller-of-requires
+    (λ c κs. search needs)
     cast-i
     write-move-requires
     slice-read-start-after
     start-after-requires
-    same-length-2
-    same-length-3
-    same-length-4
-    same-length-5
-    same-length-6
+    (λ c. search needs)
+    (λ c. search needs)
+    (λ c. search needs)
+    (λ c. search needs)
+    (λ c. search needs)
     returns-2)

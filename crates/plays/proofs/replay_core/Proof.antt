@@ -77,9 +77,6 @@ play-requires c κs =
     let i = looped (c .before .before .before .before .before) .loop .inv in
     (i .0, i .1)
 
-answer-number-requires : tie.Need-answer-number-requires Inv-loop μ-loop
-answer-number-requires c κs = search needs
-
 mul-answers : tie.Need-mul-answers Inv-loop μ-loop
 mul-answers c =
     let i = called (played c) .before in
@@ -151,7 +148,7 @@ replay-core-spec =
     loop-holds
     call-at-requires
     play-requires
-    answer-number-requires
+    (λ c κs. search needs)
     mul-answers
     slice-write-answers
     add-k

@@ -5,12 +5,9 @@ use Rattle.plays.specs.Replays.{rowsFit}
 use Rattle.plays.proofs.rows_fit.Statement.{statement}
 use Rattle.plays.proofs.rows_fit.Tie as tie
 
-mul-result : tie.Need-mul-result
-mul-result c = search needs
-
 returns : tie.Need-returns
 unfolding rowsFit
 returns c = refl
 
 pub rows-fit-spec : {M : Type 1} → statement M
-rows-fit-spec = tie.close (tie.spec mul-result returns)
+rows-fit-spec = tie.close (tie.spec (λ c. search needs) returns)

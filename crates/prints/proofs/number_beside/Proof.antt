@@ -9,18 +9,6 @@ use borrow.Author.Needs.{needs}
 use Rattle.prints.proofs.number_beside.Statement.{statement}
 use Rattle.prints.proofs.number_beside.Tie as tie
 
-number-of-requires : tie.Need-number-of-requires
-number-of-requires c κs = search needs
-
-value-of-requires : tie.Need-value-of-requires
-value-of-requires c κs = search needs
-
-returns : tie.Need-returns
-returns c = search needs
-
-cast-result : tie.Need-cast-result
-cast-result c = search needs
-
 returns-2 : tie.Need-returns-2
 returns-2 c =
     let s = saidIn (c .before .before .args .said) in
@@ -29,4 +17,4 @@ returns-2 c =
 
 pub number-beside-spec : {M : Type 1} → statement M
 number-beside-spec =
-    tie.close (tie.spec number-of-requires value-of-requires returns cast-result returns-2)
+    tie.close (tie.spec (λ c κs. search needs) (λ c κs. search needs) (λ c. search needs) (λ c. search needs) returns-2)

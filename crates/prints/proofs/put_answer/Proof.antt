@@ -8,30 +8,6 @@ use borrow.Author.Needs.{needs}
 use Rattle.prints.proofs.put_answer.Statement.{statement}
 use Rattle.prints.proofs.put_answer.Tie as tie
 
-word-of-requires : tie.Need-word-of-requires
-word-of-requires c κs = search needs
-
-put-word-requires : tie.Need-put-word-requires
-put-word-requires c κs = search needs
-
-cast-numbered : tie.Need-cast-numbered
-cast-numbered c = search needs
-
-array-read-numbered : tie.Need-array-read-numbered
-array-read-numbered c = search needs
-
-number-beside-requires : tie.Need-number-beside-requires
-number-beside-requires c κs = search needs
-
-put-spaced-requires : tie.Need-put-spaced-requires
-put-spaced-requires c κs = search needs
-
-put-requires : tie.Need-put-requires
-put-requires c κs = search needs
-
-same-length : tie.Need-same-length
-same-length c = search needs
-
 returns : tie.Need-returns
 returns c =
     let f = c .before .before in
@@ -46,12 +22,6 @@ returns c =
           (rw e at (n .put-spaced .ensures .0)) (f .put .ensures),
       omega (arith, p .put-word .ensures .1, n .put-spaced .ensures .1, f .put .ensures .place),
     )
-
-put-requires-2 : tie.Need-put-requires-2
-put-requires-2 c κs = search needs
-
-same-length-2 : tie.Need-same-length-2
-same-length-2 c = search needs
 
 returns-2 : tie.Need-returns-2
 returns-2 c =
@@ -69,15 +39,15 @@ pub put-answer-spec : {M : Type 1} → statement M
 put-answer-spec =
     tie.close
     (tie.spec
-    word-of-requires
-    put-word-requires
-    cast-numbered
-    array-read-numbered
-    number-beside-requires
-    put-spaced-requires
-    put-requires
-    same-length
+    (λ c κs. search needs)
+    (λ c κs. search needs)
+    (λ c. search needs)
+    (λ c. search needs)
+    (λ c κs. search needs)
+    (λ c κs. search needs)
+    (λ c κs. search needs)
+    (λ c. search needs)
     returns
-    put-requires-2
-    same-length-2
+    (λ c κs. search needs)
+    (λ c. search needs)
     returns-2)

@@ -7,22 +7,10 @@ use borrow.Author.Needs.{needs}
 use Rattle.prints.proofs.put_head.Statement.{statement}
 use Rattle.prints.proofs.put_head.Tie as tie
 
-slice-aggregate-put-named : tie.Need-slice-aggregate-put-named
-slice-aggregate-put-named c = search needs
-
-put-named-requires : tie.Need-put-named-requires
-put-named-requires c κs = search needs
-
-slice-aggregate-put-named-2 : tie.Need-slice-aggregate-put-named-2
-slice-aggregate-put-named-2 c = search needs
-
 put-named-requires-2 : tie.Need-put-named-requires-2
 put-named-requires-2 c κs =
     let p = c .before .before .before .before in
     omega (arith, p .put-named .ensures .1, kept (p .put-named .ensures .0))
-
-slice-aggregate-put-text : tie.Need-slice-aggregate-put-text
-slice-aggregate-put-text c = search needs
 
 put-text-requires : tie.Need-put-text-requires
 put-text-requires c κs =
@@ -51,9 +39,6 @@ put-signed-requires c κs =
       kept (p .put-named .ensures .0),
     )
 
-same-length : tie.Need-same-length
-same-length c = search needs
-
 returns : tie.Need-returns
 returns c =
     let x = c .before .before in
@@ -76,12 +61,12 @@ pub put-head-spec : {M : Type 1} → statement M
 put-head-spec =
     tie.close
     (tie.spec
-    slice-aggregate-put-named
-    put-named-requires
-    slice-aggregate-put-named-2
+    (λ c. search needs)
+    (λ c κs. search needs)
+    (λ c. search needs)
     put-named-requires-2
-    slice-aggregate-put-text
+    (λ c. search needs)
     put-text-requires
     put-signed-requires
-    same-length
+    (λ c. search needs)
     returns)

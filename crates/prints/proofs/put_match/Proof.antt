@@ -45,15 +45,6 @@ printed t =
     let e = h .put-head .ensures .1 in
     record { most = omega arith; room = omega (arith, s .pre .0); few = s .pre .1 }
 
-cast-len : tie.Need-cast-len
-cast-len c = search needs
-
-put-head-requires : tie.Need-put-head-requires
-put-head-requires c κs = search needs
-
-slice-aggregate-put-text : tie.Need-slice-aggregate-put-text
-slice-aggregate-put-text c = search needs
-
 put-text-requires : tie.Need-put-text-requires
 put-text-requires c κs =
     let h = c .before .before .before .before in
@@ -74,9 +65,6 @@ put-requires c κs =
     let t = text i in
     omega (arith, i .put-items .ensures .1, kept (i .put-items .ensures .0), printed t, all (start (head t)))
 
-same-length : tie.Need-same-length
-same-length c = search needs
-
 returns : tie.Need-returns
 returns c =
     let p = c .before .before in
@@ -95,13 +83,13 @@ pub put-match-spec : {M : Type 1} → statement M
 put-match-spec =
     tie.close
     (tie.spec
-    cast-len
-    put-head-requires
-    slice-aggregate-put-text
+    (λ c. search needs)
+    (λ c κs. search needs)
+    (λ c. search needs)
     put-text-requires
     array-share-prefix-messages
     slice-aggregate-put-items
     put-items-requires
     put-requires
-    same-length
+    (λ c. search needs)
     returns)

@@ -5,15 +5,6 @@ use borrow.Author.Needs.{needs}
 use Rattle.prints.proofs.put_named.Statement.{statement}
 use Rattle.prints.proofs.put_named.Tie as tie
 
-put-text-requires : tie.Need-put-text-requires
-put-text-requires c κs = search needs
-
-put-spaced-requires : tie.Need-put-spaced-requires
-put-spaced-requires c κs = search needs
-
-same-length : tie.Need-same-length
-same-length c = search needs
-
 returns : tie.Need-returns
 returns c =
     let q = c .before .before in
@@ -23,4 +14,4 @@ returns c =
     )
 
 pub put-named-spec : {M : Type 1} → statement M
-put-named-spec = tie.close (tie.spec put-text-requires put-spaced-requires same-length returns)
+put-named-spec = tie.close (tie.spec (λ c κs. search needs) (λ c κs. search needs) (λ c. search needs) returns)

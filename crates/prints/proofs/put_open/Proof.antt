@@ -6,22 +6,10 @@ use borrow.Author.Needs.{needs}
 use Rattle.prints.proofs.put_open.Statement.{statement}
 use Rattle.prints.proofs.put_open.Tie as tie
 
-slice-aggregate-put-named : tie.Need-slice-aggregate-put-named
-slice-aggregate-put-named c = search needs
-
-put-named-requires : tie.Need-put-named-requires
-put-named-requires c κs = search needs
-
-slice-aggregate-put-alone : tie.Need-slice-aggregate-put-alone
-slice-aggregate-put-alone c = search needs
-
 put-alone-requires : tie.Need-put-alone-requires
 put-alone-requires c κs =
     let p = c .before .before .before .before .before in
     omega (arith, p .put-named .ensures .1, kept (p .put-named .ensures .0))
-
-same-length : tie.Need-same-length
-same-length c = search needs
 
 returns : tie.Need-returns
 returns c =
@@ -32,16 +20,10 @@ returns c =
       omega (arith, p .put-named .ensures .1, q .put-alone .ensures .0 .place),
     )
 
-slice-aggregate-put-alone-2 : tie.Need-slice-aggregate-put-alone-2
-slice-aggregate-put-alone-2 c = search needs
-
 put-alone-requires-2 : tie.Need-put-alone-requires-2
 put-alone-requires-2 c κs =
     let p = c .before .before .before .before .before .before in
     omega (arith, p .put-named .ensures .1, kept (p .put-named .ensures .0))
-
-same-length-2 : tie.Need-same-length-2
-same-length-2 c = search needs
 
 returns-2 : tie.Need-returns-2
 returns-2 c =
@@ -52,16 +34,10 @@ returns-2 c =
       omega (arith, p .put-named .ensures .1, q .put-alone2 .ensures .0 .place),
     )
 
-slice-aggregate-put-alone-3 : tie.Need-slice-aggregate-put-alone-3
-slice-aggregate-put-alone-3 c = search needs
-
 put-alone-requires-3 : tie.Need-put-alone-requires-3
 put-alone-requires-3 c κs =
     let p = c .before .before .before .before .before .before in
     omega (arith, p .put-named .ensures .1, kept (p .put-named .ensures .0))
-
-same-length-3 : tie.Need-same-length-3
-same-length-3 c = search needs
 
 returns-3 : tie.Need-returns-3
 returns-3 c =
@@ -78,17 +54,17 @@ pub put-open-spec : {M : Type 1} → statement M
 put-open-spec =
     tie.close
     (tie.spec
-    slice-aggregate-put-named
-    put-named-requires
-    slice-aggregate-put-alone
+    (λ c. search needs)
+    (λ c κs. search needs)
+    (λ c. search needs)
     put-alone-requires
-    same-length
+    (λ c. search needs)
     returns
-    slice-aggregate-put-alone-2
+    (λ c. search needs)
     put-alone-requires-2
-    same-length-2
+    (λ c. search needs)
     returns-2
-    slice-aggregate-put-alone-3
+    (λ c. search needs)
     put-alone-requires-3
-    same-length-3
+    (λ c. search needs)
     returns-3)

@@ -11,9 +11,6 @@ use borrow.Author.Needs.{needs}
 use Rattle.prints.proofs.put_signed.Statement.{statement}
 use Rattle.prints.proofs.put_signed.Tie as tie
 
-size-requires : tie.Need-size-requires
-size-requires c κs = search needs
-
 put-digits-requires : tie.Need-put-digits-requires
 put-digits-requires c κs =
     let z = c .before .before in
@@ -21,9 +18,6 @@ put-digits-requires c κs =
     let e = toZ-ofZ w64 (s .args .x) (s .fits .x) in
     let n : z .size .result ≡ natAbs (s .args .x) = rw e at (z .size .ensures) in
     rw n (omega (arith, digits-63 _ (size-most (s .args .x) (s .fits .x))))
-
-same-length : tie.Need-same-length
-same-length c = search needs
 
 returns : tie.Need-returns
 returns c =
@@ -38,9 +32,6 @@ returns c =
       omega (arith, rw n at (q .put-digits .ensures .place), d),
     )
 
-put-requires : tie.Need-put-requires
-put-requires c κs = search needs
-
 put-digits-requires-2 : tie.Need-put-digits-requires-2
 put-digits-requires-2 c κs =
     let p = c .before .before .before in
@@ -50,9 +41,6 @@ put-digits-requires-2 c κs =
     let n : z .size .result ≡ natAbs (s .args .x) = rw e at (z .size .ensures) in
     let d = digits-63 _ (size-most (s .args .x) (s .fits .x)) in
     rw n (omega (arith, d, p .put .ensures .place, kept (p .put .ensures)))
-
-same-length-2 : tie.Need-same-length-2
-same-length-2 c = search needs
 
 returns-2 : tie.Need-returns-2
 returns-2 c =
@@ -71,11 +59,11 @@ pub put-signed-spec : {M : Type 1} → statement M
 put-signed-spec =
     tie.close
     (tie.spec
-    size-requires
+    (λ c κs. search needs)
     put-digits-requires
-    same-length
+    (λ c. search needs)
     returns
-    put-requires
+    (λ c κs. search needs)
     put-digits-requires-2
-    same-length-2
+    (λ c. search needs)
     returns-2)

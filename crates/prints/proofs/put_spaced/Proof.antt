@@ -6,18 +6,12 @@ use borrow.Author.Needs.{needs}
 use Rattle.prints.proofs.put_spaced.Statement.{statement}
 use Rattle.prints.proofs.put_spaced.Tie as tie
 
-put-requires : tie.Need-put-requires
-put-requires c κs = search needs
-
 put-digits-requires : tie.Need-put-digits-requires
 put-digits-requires c κs =
     let p = c .before .before .before in
     let s = p .before .before .before in
     let d = digits-16 (s .args .n) (s .fits .n .fits) in
     omega (arith, d, p .put .ensures .place, kept (p .put .ensures))
-
-same-length : tie.Need-same-length
-same-length c = search needs
 
 returns : tie.Need-returns
 returns c =
@@ -29,4 +23,4 @@ returns c =
     (r, omega (arith, d, r .place))
 
 pub put-spaced-spec : {M : Type 1} → statement M
-put-spaced-spec = tie.close (tie.spec put-requires put-digits-requires same-length returns)
+put-spaced-spec = tie.close (tie.spec (λ c κs. search needs) put-digits-requires (λ c. search needs) returns)

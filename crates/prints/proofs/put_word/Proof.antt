@@ -10,32 +10,14 @@ use Rattle.prints.proofs.put_word.Tie as tie
 short : (s : tie.Start) → getD lengths (s .args .word) 0 ≤ 9
 short s = few (s .args .word) (s .pre .1)
 
-mul-len : tie.Need-mul-len
-mul-len c = search needs
-
-array-read-len : tie.Need-array-read-len
-array-read-len c = search needs
-
-mul-start : tie.Need-mul-start
-mul-start c = search needs
-
 add-put-text : tie.Need-add-put-text
 add-put-text c = record { fits = omega (arith, short (c .before .before)) }
-
-sub-put-text : tie.Need-sub-put-text
-sub-put-text c = search needs
-
-part-put-text-start : tie.Need-part-put-text-start
-part-put-text-start c = search needs
 
 part-put-text-end : tie.Need-part-put-text-end
 part-put-text-end c = omega (arith, short (c .before .before .before))
 
 put-text-requires : tie.Need-put-text-requires
 put-text-requires c κs = let s = c .before .before .before .before in omega (arith, short s, s .pre)
-
-same-length : tie.Need-same-length
-same-length c = search needs
 
 returns : tie.Need-returns
 returns c =
@@ -49,13 +31,13 @@ pub put-word-spec : {M : Type 1} → statement M
 put-word-spec =
     tie.close
     (tie.spec
-    mul-len
-    array-read-len
-    mul-start
+    (λ c. search needs)
+    (λ c. search needs)
+    (λ c. search needs)
     add-put-text
-    sub-put-text
-    part-put-text-start
+    (λ c. search needs)
+    (λ c. search needs)
     part-put-text-end
     put-text-requires
-    same-length
+    (λ c. search needs)
     returns)

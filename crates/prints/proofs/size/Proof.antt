@@ -31,9 +31,6 @@ cast-result c =
     let e = toZ-ofZ w64 (s .args .x) (s .fits .x) in
     rw e (above (s .args .x) (s .fits .x) (rw e at (c .if1 .taken)))
 
-returns : tie.Need-returns
-returns c = search needs
-
 add-result : tie.Need-add-result
 add-result c = rw (x-is c) (below c .next)
 
@@ -52,4 +49,4 @@ returns-2 c = rw (x-is c, next-is c, back-is c) (below c .is)
 pub size-spec : {M : Type 1} → statement M
 size-spec =
     tie.close
-    (tie.spec cast-result returns add-result sub-result cast-result-2 add-result-2 returns-2)
+    (tie.spec cast-result (λ c. search needs) add-result sub-result cast-result-2 add-result-2 returns-2)

@@ -56,15 +56,6 @@ loop-holds c =
     let ns = c .args .numbers .now in
     (omega arith, λ t. sym (cents-none t (c .args .cents .now) ns (length ns) (omega arith)), omega arith)
 
-sub-k : tie.Need-sub-k Inv-loop μ-loop
-sub-k c = search needs
-
-mul-k : tie.Need-mul-k Inv-loop μ-loop
-mul-k c = search needs
-
-shared-slice-read-k : tie.Need-shared-slice-read-k Inv-loop μ-loop
-shared-slice-read-k c = search needs
-
 cast-k : tie.Need-cast-k Inv-loop μ-loop
 cast-k c =
     let w = c .before in
@@ -80,12 +71,6 @@ shared-slice-copy-out-sum c = within (c .before)
 
 add-sum : tie.Need-add-sum Inv-loop μ-loop
 add-sum c = rw (elem-back c) (added-fits c)
-
-sub-i : tie.Need-sub-i Inv-loop μ-loop
-sub-i c = search needs
-
-loop-less : tie.Need-loop-less Inv-loop μ-loop
-loop-less c = search needs
 
 loop-again : tie.Need-loop-again Inv-loop μ-loop
 loop-again c =
@@ -116,14 +101,14 @@ cents-of-spec =
     Inv-loop
     μ-loop
     loop-holds
-    sub-k
-    mul-k
-    shared-slice-read-k
+    (λ c. search needs)
+    (λ c. search needs)
+    (λ c. search needs)
     cast-k
     mul-sum
     shared-slice-copy-out-sum
     add-sum
-    sub-i
-    loop-less
+    (λ c. search needs)
+    (λ c. search needs)
     loop-again
     returns)

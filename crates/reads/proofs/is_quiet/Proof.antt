@@ -17,15 +17,6 @@ abbrev μ-loop : tie.MeasureT-loop
 loop-holds : tie.Need-loop-holds Inv-loop μ-loop
 loop-holds c = (omega arith, λ t. refl)
 
-mul-d : tie.Need-mul-d Inv-loop μ-loop
-mul-d c = search needs
-
-array-copy-out-d : tie.Need-array-copy-out-d Inv-loop μ-loop
-array-copy-out-d c = search needs
-
-can-step-requires : tie.Need-can-step-requires Inv-loop μ-loop
-can-step-requires c κs = search needs
-
 returns : tie.Need-returns Inv-loop μ-loop
 returns c =
     let q = c .before in
@@ -33,12 +24,6 @@ returns c =
     let s = p .before in
     let e = sym (q .can-step .ensures) ∙ c .if1 .taken in
     λ t. sym (p .loop .inv .1 t ∙ quiet-no t (s .args .t1) _ (p .loop .i) (omega (arith, s .good .0 .1 .0 .1)) e)
-
-add-i : tie.Need-add-i Inv-loop μ-loop
-add-i c = search needs
-
-loop-less : tie.Need-loop-less Inv-loop μ-loop
-loop-less c = search needs
 
 loop-again : tie.Need-loop-again Inv-loop μ-loop
 loop-again c =
@@ -63,11 +48,11 @@ is-quiet-spec =
     Inv-loop
     μ-loop
     loop-holds
-    mul-d
-    array-copy-out-d
-    can-step-requires
+    (λ c. search needs)
+    (λ c. search needs)
+    (λ c κs. search needs)
     returns
-    add-i
-    loop-less
+    (λ c. search needs)
+    (λ c. search needs)
     loop-again
     returns-2)

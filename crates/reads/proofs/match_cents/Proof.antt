@@ -12,9 +12,6 @@ use borrow.Author.Needs.{needs}
 use Rattle.reads.proofs.match_cents.Statement.{statement}
 use Rattle.reads.proofs.match_cents.Tie as tie
 
-match-numbers-requires : tie.Need-match-numbers-requires
-match-numbers-requires c κs = search needs
-
 cents-of-requires : tie.Need-cents-of-requires
 cents-of-requires c κs =
     let s = c .before .before .before .before in
@@ -37,4 +34,4 @@ returns c =
     ∙ ap (centsOf t sent) (p .match-numbers .ensures)
 
 pub match-cents-spec : {M : Type 1} → statement M
-match-cents-spec = tie.close (tie.spec match-numbers-requires cents-of-requires returns)
+match-cents-spec = tie.close (tie.spec (λ c κs. search needs) cents-of-requires returns)

@@ -18,30 +18,6 @@ len-few c =
     rw (c .chord-len .ensures)
     (size-few (s .args .table .now) (getD (s .args .chords .now) (s .args .k) 0) (s .pre .0) (s .pre .1 .chord-known))
 
-shared-slice-read-chord-len : tie.Need-shared-slice-read-chord-len
-shared-slice-read-chord-len c = search needs
-
-chord-len-requires : tie.Need-chord-len-requires
-chord-len-requires c κs = search needs
-
-cast-len : tie.Need-cast-len
-cast-len c = search needs
-
-mul-at : tie.Need-mul-at
-mul-at c = search needs
-
-add-end : tie.Need-add-end
-add-end c = search needs
-
-mul-result : tie.Need-mul-result
-mul-result c = search needs
-
-sub-result : tie.Need-sub-result
-sub-result c = search needs
-
-part-result-start : tie.Need-part-result-start
-part-result-start c = search needs
-
 part-result-end : tie.Need-part-result-end
 part-result-end c = omega (arith, len-few c, start (c .before) .pre .1 .numbers-in)
 
@@ -58,13 +34,13 @@ pub match-numbers-spec : {M : Type 1} → statement M
 match-numbers-spec =
     tie.close
     (tie.spec
-    shared-slice-read-chord-len
-    chord-len-requires
-    cast-len
-    mul-at
-    add-end
-    mul-result
-    sub-result
-    part-result-start
+    (λ c. search needs)
+    (λ c κs. search needs)
+    (λ c. search needs)
+    (λ c. search needs)
+    (λ c. search needs)
+    (λ c. search needs)
+    (λ c. search needs)
+    (λ c. search needs)
     part-result-end
     returns)

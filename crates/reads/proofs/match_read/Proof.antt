@@ -18,20 +18,11 @@ len-few c =
     rw (c .match-numbers .ensures)
     (numbers-few (a .table .now) (s .pre .0) (matchesOf (a .chords .now) (a .messages .now)) (a .k) (s .pre .1 .held))
 
-match-numbers-requires : tie.Need-match-numbers-requires
-match-numbers-requires c κs = search needs
-
-shared-slice-read-t10 : tie.Need-shared-slice-read-t10
-shared-slice-read-t10 c = search needs
-
 cast-t12 : tie.Need-cast-t12
 cast-t12 c = record { fits = omega (arith, len-few (c .before)) }
 
 copied-requires : tie.Need-copied-requires
 copied-requires c κs = len-few (c .before)
-
-match-cents-requires : tie.Need-match-cents-requires
-match-cents-requires c κs = search needs
 
 returns : tie.Need-returns
 unfolding matchIn
@@ -53,9 +44,9 @@ pub match-read-spec : {M : Type 1} → statement M
 match-read-spec =
     tie.close
     (tie.spec
-    match-numbers-requires
-    shared-slice-read-t10
+    (λ c κs. search needs)
+    (λ c. search needs)
     cast-t12
     copied-requires
-    match-cents-requires
+    (λ c κs. search needs)
     returns)

@@ -52,17 +52,11 @@ in-order c =
     let s = start (c .before) in
     refusal-is (s .args .table .now) (lent s) ∙ rw (accepted c)
 
-table-refusal-requires : tie.Need-table-refusal-requires
-table-refusal-requires c κs = search needs
-
 returns : tie.Need-returns
 returns c =
     let s = start (c .before) in
     let e = c .before .table-refusal .ensures in
     e ∙ refused-first _ _ (λ z. c .if1 .taken (e ∙ z)) ∙ sym (refusal-is (s .args .table .now) (lent s))
-
-lists-ok-requires : tie.Need-lists-ok-requires
-lists-ok-requires c κs = search needs
 
 returns-2 : tie.Need-returns-2
 returns-2 c = rw (in-order (c .before .before), lists-say (c .before) ∙ not-true _ (c .if2 .taken))
@@ -94,9 +88,9 @@ pub board-refusal-spec : {M : Type 1} → statement M
 board-refusal-spec =
     tie.close
     (tie.spec
-    table-refusal-requires
+    (λ c κs. search needs)
     returns
-    lists-ok-requires
+    (λ c κs. search needs)
     returns-2
     returns-3
     is-sound-requires

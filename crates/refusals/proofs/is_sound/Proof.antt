@@ -100,29 +100,11 @@ matches-say c keys =
     sym (rw (h .chords .ensures .0, c .before .members .ensures .0) at
     (c .matches-ok .ensures (board s keys) (sees s keys .count)))
 
-shared-slice-read-n : tie.Need-shared-slice-read-n
-shared-slice-read-n c = search needs
-
-shared-slice-read-k : tie.Need-shared-slice-read-k
-shared-slice-read-k c = search needs
-
 returns : tie.Need-returns
 returns c keys =
     let s = c .before .before .before .before .before .before .before in
     let e = not-true (leb (getD (numbers s) 0 0) 1024 && leb (getD (numbers s) 1 0) 1024) (c .if1 .taken) in
     rw (in-order s keys, e)
-
-channels-requires : tie.Need-channels-requires
-channels-requires c κs = search needs
-
-statuses-requires : tie.Need-statuses-requires
-statuses-requires c κs = search needs
-
-matched-requires : tie.Need-matched-requires
-matched-requires c κs = search needs
-
-wakers-requires : tie.Need-wakers-requires
-wakers-requires c κs = search needs
 
 messages-ok-requires : tie.Need-messages-ok-requires
 messages-ok-requires c κs =
@@ -142,12 +124,6 @@ returns-2 c keys =
     let q = c .before in
     let d = counts q in
     rw (in-order (start d) keys, counted d, messages-say q keys ∙ not-true _ (c .if2 .taken))
-
-chords-requires : tie.Need-chords-requires
-chords-requires c κs = search needs
-
-members-requires : tie.Need-members-requires
-members-requires c κs = search needs
 
 matches-ok-requires : tie.Need-matches-ok-requires
 matches-ok-requires c κs =
@@ -210,17 +186,17 @@ pub is-sound-spec : {M : Type 1} → statement M
 is-sound-spec =
     tie.close
     (tie.spec
-    shared-slice-read-n
-    shared-slice-read-k
+    (λ c. search needs)
+    (λ c. search needs)
     returns
-    channels-requires
-    statuses-requires
-    matched-requires
-    wakers-requires
+    (λ c κs. search needs)
+    (λ c κs. search needs)
+    (λ c κs. search needs)
+    (λ c κs. search needs)
     messages-ok-requires
     returns-2
-    chords-requires
-    members-requires
+    (λ c κs. search needs)
+    (λ c κs. search needs)
     matches-ok-requires
     returns-3
     senders-ok-requires

@@ -51,42 +51,12 @@ phase-says c =
     let at = part-at (a .s .now) (a .at) in
     rw (at 8 (omega arith), at 9 (omega arith), at 10 (omega arith)) (sym (c .phase-ok .ensures))
 
-within-requires : tie.Need-within-requires
-within-requires c κs = search needs
-
 returns : tie.Need-returns
 returns c b sees =
     let q = c .before in
     let a = start q .args in
     sym (row-no (tableOf (a .table .now)) b (numbers q) (a .n) (a .k) _ sees (small q)
     (within-says q ∙ not-true _ (c .if1 .taken)))
-
-add-phase-ok : tie.Need-add-phase-ok
-add-phase-ok c = search needs
-
-mul-phase-ok : tie.Need-mul-phase-ok
-mul-phase-ok c = search needs
-
-shared-slice-read-phase-ok : tie.Need-shared-slice-read-phase-ok
-shared-slice-read-phase-ok c = search needs
-
-add-phase-ok-2 : tie.Need-add-phase-ok-2
-add-phase-ok-2 c = search needs
-
-mul-phase-ok-2 : tie.Need-mul-phase-ok-2
-mul-phase-ok-2 c = search needs
-
-shared-slice-read-phase-ok-2 : tie.Need-shared-slice-read-phase-ok-2
-shared-slice-read-phase-ok-2 c = search needs
-
-add-phase-ok-3 : tie.Need-add-phase-ok-3
-add-phase-ok-3 c = search needs
-
-mul-phase-ok-3 : tie.Need-mul-phase-ok-3
-mul-phase-ok-3 c = search needs
-
-shared-slice-read-phase-ok-3 : tie.Need-shared-slice-read-phase-ok-3
-shared-slice-read-phase-ok-3 c = search needs
 
 phase-ok-requires : tie.Need-phase-ok-requires
 phase-ok-requires c κs =
@@ -125,17 +95,17 @@ pub row-ok-spec : {M : Type 1} → statement M
 row-ok-spec =
     tie.close
     (tie.spec
-    within-requires
+    (λ c κs. search needs)
     returns
-    add-phase-ok
-    mul-phase-ok
-    shared-slice-read-phase-ok
-    add-phase-ok-2
-    mul-phase-ok-2
-    shared-slice-read-phase-ok-2
-    add-phase-ok-3
-    mul-phase-ok-3
-    shared-slice-read-phase-ok-3
+    (λ c. search needs)
+    (λ c. search needs)
+    (λ c. search needs)
+    (λ c. search needs)
+    (λ c. search needs)
+    (λ c. search needs)
+    (λ c. search needs)
+    (λ c. search needs)
+    (λ c. search needs)
     phase-ok-requires
     returns-2
     state-ok-requires

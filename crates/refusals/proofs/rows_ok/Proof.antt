@@ -21,17 +21,8 @@ Inv-loop table s n k channels most i₀ i = (i ≤ 32) × ((b : Board) → Seen 
 abbrev μ-loop : tie.MeasureT-loop
 μ-loop table s n k channels most i₀ i = 32 - i
 
-limits-requires : tie.Need-limits-requires Inv-loop μ-loop
-limits-requires c κs = search needs
-
 loop-holds : tie.Need-loop-holds Inv-loop μ-loop
 loop-holds c = (search needs, λ b sees. refl)
-
-mul-row-ok : tie.Need-mul-row-ok Inv-loop μ-loop
-mul-row-ok c = search needs
-
-add-row-ok : tie.Need-add-row-ok Inv-loop μ-loop
-add-row-ok c = search needs
 
 row-ok-requires : tie.Need-row-ok-requires Inv-loop μ-loop
 row-ok-requires c κs =
@@ -46,12 +37,6 @@ returns c b sees =
     let a = p .before .before .before .before .before .args in
     sym (p .loop .inv .1 b sees ∙ rows-no (tableOf (a .table .now)) b (a .s .now) (p .loop .i) (omega arith)
     (sym (q .row-ok .ensures b sees) ∙ not-true _ (c .if1 .taken)))
-
-add-i : tie.Need-add-i Inv-loop μ-loop
-add-i c = search needs
-
-loop-less : tie.Need-loop-less Inv-loop μ-loop
-loop-less c = search needs
 
 loop-again : tie.Need-loop-again Inv-loop μ-loop
 loop-again c =
@@ -75,13 +60,13 @@ rows-ok-spec =
     (tie.spec
     Inv-loop
     μ-loop
-    limits-requires
+    (λ c κs. search needs)
     loop-holds
-    mul-row-ok
-    add-row-ok
+    (λ c. search needs)
+    (λ c. search needs)
     row-ok-requires
     returns
-    add-i
-    loop-less
+    (λ c. search needs)
+    (λ c. search needs)
     loop-again
     returns-2)

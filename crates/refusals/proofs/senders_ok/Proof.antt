@@ -8,18 +8,6 @@ use Rattle.refusals.specs.Rows.{sendersIn}
 use Rattle.refusals.proofs.senders_ok.Statement.{statement}
 use Rattle.refusals.proofs.senders_ok.Tie as tie
 
-rows-ok-requires : tie.Need-rows-ok-requires
-rows-ok-requires c κs = search needs
-
-marks-at-requires : tie.Need-marks-at-requires
-marks-at-requires c κs = search needs
-
-slice-aggregate-none-twice : tie.Need-slice-aggregate-none-twice
-slice-aggregate-none-twice c = search needs
-
-none-twice-requires : tie.Need-none-twice-requires
-none-twice-requires c κs = search needs
-
 returns : tie.Need-returns
 returns c b sees =
     let m = c .before .before in
@@ -36,9 +24,9 @@ pub senders-ok-spec : {M : Type 1} → statement M
 senders-ok-spec =
     tie.close
     (tie.spec
-    rows-ok-requires
-    marks-at-requires
-    slice-aggregate-none-twice
-    none-twice-requires
+    (λ c κs. search needs)
+    (λ c κs. search needs)
+    (λ c. search needs)
+    (λ c κs. search needs)
     returns
     returns-2)

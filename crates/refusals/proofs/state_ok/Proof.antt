@@ -39,25 +39,10 @@ owned c e =
     let a = start (c .before .before) .args in
     c .if2 .left (sym (part-at (a .s .now) (a .at) 2 (omega arith)) ∙ e)
 
-mul-state : tie.Need-mul-state
-mul-state c = search needs
-
-shared-slice-read-state : tie.Need-shared-slice-read-state
-shared-slice-read-state c = search needs
-
 returns : tie.Need-returns
 returns c b sees =
     let a = c .before .before .before .before .before .args in
     sym (idle-ok (tableOf (a .table .now)) b (row (a .s .now) (a .at)) (part-first (a .s .now) (a .at) ∙ c .if1 .taken))
-
-add-if2 : tie.Need-add-if2
-add-if2 c = search needs
-
-mul-if2 : tie.Need-mul-if2
-mul-if2 c = search needs
-
-shared-slice-read-if2 : tie.Need-shared-slice-read-if2
-shared-slice-read-if2 c = search needs
 
 returns-2 : tie.Need-returns-2
 returns-2 c b sees =
@@ -73,28 +58,10 @@ returns-3 c b sees =
     sym (blocked-ok (tableOf (a .table .now)) b (row (a .s .now) (a .at)) (owned o)
     (part-first (a .s .now) (a .at) ∙ c .if3 .taken))
 
-add-sender-of : tie.Need-add-sender-of
-add-sender-of c = search needs
-
-mul-sender-of : tie.Need-mul-sender-of
-mul-sender-of c = search needs
-
-sub-sender-of : tie.Need-sub-sender-of
-sub-sender-of c = search needs
-
-part-sender-of-start : tie.Need-part-sender-of-start
-part-sender-of-start c = search needs
-
-part-sender-of-end : tie.Need-part-sender-of-end
-part-sender-of-end c = search needs
-
 sender-of-requires : tie.Need-sender-of-requires
 sender-of-requires c κs =
     let s = start (c .before .before .before .before) in
     rw (span (s .args .at)) (row-len (s .args .s .now) (s .args .at) (s .pre .1 .0), s .pre .1 .1)
-
-job-ok-requires : tie.Need-job-ok-requires
-job-ok-requires c κs = search needs
 
 returns-4 : tie.Need-returns-4
 returns-4 c b sees =
@@ -114,19 +81,19 @@ pub state-ok-spec : {M : Type 1} → statement M
 state-ok-spec =
     tie.close
     (tie.spec
-    mul-state
-    shared-slice-read-state
+    (λ c. search needs)
+    (λ c. search needs)
     returns
-    add-if2
-    mul-if2
-    shared-slice-read-if2
+    (λ c. search needs)
+    (λ c. search needs)
+    (λ c. search needs)
     returns-2
     returns-3
-    add-sender-of
-    mul-sender-of
-    sub-sender-of
-    part-sender-of-start
-    part-sender-of-end
+    (λ c. search needs)
+    (λ c. search needs)
+    (λ c. search needs)
+    (λ c. search needs)
+    (λ c. search needs)
     sender-of-requires
-    job-ok-requires
+    (λ c κs. search needs)
     returns-4)

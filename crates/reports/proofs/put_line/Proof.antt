@@ -42,9 +42,6 @@ put-match-line-requires c κs =
       (match-readable t (lent s) a (s .args .n) (i .if1 .taken), s .pre .1 .1),
     )
 
-same-length : tie.Need-same-length
-same-length c = search needs
-
 returns : tie.Need-returns
 returns c =
     let w = c .before .before in
@@ -60,9 +57,6 @@ put-open-line-requires c κs =
     let f = few (s .args .table .now) (lent s) (s .pre .0) in
     (s .pre .0 .sized .bytes-len, omega (arith, i .if2 .taken, f), omega (arith, s .pre .1 .1))
 
-same-length-2 : tie.Need-same-length-2
-same-length-2 c = search needs
-
 returns-2 : tie.Need-returns-2
 returns-2 c =
     let w = c .before .before in
@@ -76,12 +70,6 @@ returns-2 c =
 
 is-quiet-requires : tie.Need-is-quiet-requires
 is-quiet-requires c κs = all (start (c .before .before .before .before))
-
-put-quiet-requires : tie.Need-put-quiet-requires
-put-quiet-requires c κs = search needs
-
-same-length-3 : tie.Need-same-length-3
-same-length-3 c = search needs
 
 returns-3 : tie.Need-returns-3
 returns-3 c =
@@ -106,12 +94,12 @@ put-line-spec =
     shared-slice-read-messages
     shared-slice-read-matches
     put-match-line-requires
-    same-length
+    (λ c. search needs)
     returns
     put-open-line-requires
-    same-length-2
+    (λ c. search needs)
     returns-2
     is-quiet-requires
-    put-quiet-requires
-    same-length-3
+    (λ c κs. search needs)
+    (λ c. search needs)
     returns-3)

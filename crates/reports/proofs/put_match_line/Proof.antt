@@ -9,23 +9,11 @@ use borrow.Author.Needs.{needs}
 use Rattle.reports.proofs.put_match_line.Statement.{statement}
 use Rattle.reports.proofs.put_match_line.Tie as tie
 
-chords-requires : tie.Need-chords-requires
-chords-requires c κs = search needs
-
-members-requires : tie.Need-members-requires
-members-requires c κs = search needs
-
 match-read-requires : tie.Need-match-read-requires
 match-read-requires c κs =
     let h = c .before in
     let s = h .before .before .before .before .before in
     (s .pre .0 .0, readable-by (h .chords .ensures .0) (c .members .ensures .0) (s .pre .1 .0))
-
-put-match-requires : tie.Need-put-match-requires
-put-match-requires c κs = search needs
-
-same-length : tie.Need-same-length
-same-length c = search needs
 
 returns : tie.Need-returns
 returns c =
@@ -45,9 +33,9 @@ pub put-match-line-spec : {M : Type 1} → statement M
 put-match-line-spec =
     tie.close
     (tie.spec
-    chords-requires
-    members-requires
+    (λ c κs. search needs)
+    (λ c κs. search needs)
     match-read-requires
-    put-match-requires
-    same-length
+    (λ c κs. search needs)
+    (λ c. search needs)
     returns)

@@ -19,24 +19,12 @@ status s =
     let a = s .args in
     getD-part 1024 1024 (a .bytes .now) (1024 + a .n) (a .n) 0 (omega arith) (s .pre .1)
 
-add-status : tie.Need-add-status
-add-status c = search needs
-
-shared-slice-read-status : tie.Need-shared-slice-read-status
-shared-slice-read-status c = search needs
-
 returns : tie.Need-returns
 returns c =
     let s = c .before .before .before .before in
     let a = s .args in
     let e = item-none (a .n) (getD (a .bytes .now) (1024 + a .n) 0) (omega (arith, c .if1 .taken)) in
     (rw (status s, e) (none (a .out .now) (a .at)), omega arith)
-
-put-open-requires : tie.Need-put-open-requires
-put-open-requires c κs = search needs
-
-same-length : tie.Need-same-length
-same-length c = search needs
 
 returns-2 : tie.Need-returns-2
 returns-2 c =
@@ -50,4 +38,4 @@ returns-2 c =
 pub put-open-line-spec : {M : Type 1} → statement M
 put-open-line-spec =
     tie.close
-    (tie.spec add-status shared-slice-read-status returns put-open-requires same-length returns-2)
+    (tie.spec (λ c. search needs) (λ c. search needs) returns (λ c κs. search needs) (λ c. search needs) returns-2)

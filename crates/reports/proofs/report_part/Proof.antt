@@ -64,12 +64,6 @@ put-line-requires c κs =
       (omega (arith, t .loop-test .taken, all-lines (p .before)), omega (arith, e .if1 .left, lined-kept i, i .inside)),
     )
 
-add-next : tie.Need-add-next Inv-loop μ-loop
-add-next c = search needs
-
-loop-less : tie.Need-loop-less Inv-loop μ-loop
-loop-less c = search needs
-
 loop-again : tie.Need-loop-again Inv-loop μ-loop
 loop-again c =
     let w = c .before .before in
@@ -105,8 +99,8 @@ report-part-spec =
     same-length
     returns
     put-line-requires
-    add-next
-    loop-less
+    (λ c. search needs)
+    (λ c. search needs)
     loop-again
     same-length-2
     returns-2)

@@ -6,21 +6,12 @@ use borrow.Author.Needs.{needs}
 use Rattle.resumes.proofs.resume_step.Statement.{statement}
 use Rattle.resumes.proofs.resume_step.Tie as tie
 
-stays-blocked-requires : tie.Need-stays-blocked-requires
-stays-blocked-requires c κs = search needs
-
 returns : tie.Need-returns
 returns c =
     let i = c .before in
     let a = i .before .before .args in
     λ b es em ew ec. rw (c .stays-blocked .ensures)
     (stays-is (tableOf (a .table .now)) b (a .d) (a .status) es (i .if1 .taken))
-
-less-requires : tie.Need-less-requires
-less-requires c κs = search needs
-
-resumed-requires : tie.Need-resumed-requires
-resumed-requires c κs = search needs
 
 returns-2 : tie.Need-returns-2
 returns-2 c =
@@ -30,12 +21,6 @@ returns-2 c =
     let e = l .less .ensures in
     λ b es em ew ec. resumes-is (tableOf (a .table .now)) b (a .d) (a .status) es (l .less .result) (c .resumed .result)
     (i .if2 .taken) e (c .resumed .ensures b (rw e ew) (rw e ec))
-
-less-requires-2 : tie.Need-less-requires-2
-less-requires-2 c κs = search needs
-
-goes-idle-requires : tie.Need-goes-idle-requires
-goes-idle-requires c κs = search needs
 
 returns-3 : tie.Need-returns-3
 returns-3 c =
@@ -51,11 +36,11 @@ pub resume-step-spec : {M : Type 1} → statement M
 resume-step-spec =
     tie.close
     (tie.spec
-    stays-blocked-requires
+    (λ c κs. search needs)
     returns
-    less-requires
-    resumed-requires
+    (λ c κs. search needs)
+    (λ c κs. search needs)
     returns-2
-    less-requires-2
-    goes-idle-requires
+    (λ c κs. search needs)
+    (λ c κs. search needs)
     returns-3)

@@ -3,11 +3,8 @@ use borrow.Author.Needs.{needs}
 use Rattle.resumes.proofs.resumed.Statement.{statement}
 use Rattle.resumes.proofs.resumed.Tie as tie
 
-new-pass-requires : tie.Need-new-pass-requires
-new-pass-requires c κs = search needs
-
 returns : tie.Need-returns
 returns c = λ b ew ec. rw (c .new-pass .ensures (b .messages) ec, ew)
 
 pub resumed-spec : {M : Type 1} → statement M
-resumed-spec = tie.close (tie.spec new-pass-requires returns)
+resumed-spec = tie.close (tie.spec (λ c κs. search needs) returns)

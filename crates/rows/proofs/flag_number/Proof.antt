@@ -4,11 +4,8 @@ use Rattle.model.proofs.TableLaws.{byte-flag}
 use Rattle.rows.proofs.flag_number.Statement.{statement}
 use Rattle.rows.proofs.flag_number.Tie as tie
 
-cast-result : tie.Need-cast-result
-cast-result c = search needs
-
 returns : tie.Need-returns
 returns c = byte-flag (c .args .b)
 
 pub flag-number-spec : {M : Type 1} → statement M
-flag-number-spec = tie.close (tie.spec cast-result returns)
+flag-number-spec = tie.close (tie.spec (λ c. search needs) returns)

@@ -28,15 +28,6 @@ idle-is s i h =
     rw (sender-from s i zeroSender h, part-first s (2 + 21 * i))
     (idle-by (eqb (getD s (2 + 21 * i) 0) 0) (eqb (getD s (2 + 21 * i) 0) 1))
 
-mul-at : tie.Need-mul-at
-mul-at c = search needs
-
-add-at : tie.Need-add-at
-add-at c = search needs
-
-mul-result : tie.Need-mul-result
-mul-result c = search needs
-
 shared-slice-read-result : tie.Need-shared-slice-read-result
 shared-slice-read-result c =
     let s = c .before in
@@ -46,4 +37,11 @@ returns : tie.Need-returns
 returns c = let s = c .before in idle-is (s .args .s .now) (s .args .i) (s .pre .1)
 
 pub is-idle-spec : {M : Type 1} → statement M
-is-idle-spec = tie.close (tie.spec mul-at add-at mul-result shared-slice-read-result returns)
+is-idle-spec =
+    tie.close
+    (tie.spec
+    (λ c. search needs)
+    (λ c. search needs)
+    (λ c. search needs)
+    shared-slice-read-result
+    returns)

@@ -21,33 +21,15 @@ steps-are : (s : List ℕ) (i : ℕ) → i < 32
 steps-are s i h =
     rw (sender-from s i zeroSender h, part-first s (2 + 21 * i), part-at s (2 + 21 * i) 1 (omega arith))
 
-mul-at : tie.Need-mul-at
-mul-at c = search needs
-
-add-at : tie.Need-add-at
-add-at c = search needs
-
-mul-steps-at : tie.Need-mul-steps-at
-mul-steps-at c = search needs
-
 shared-slice-read-steps-at : tie.Need-shared-slice-read-steps-at
 shared-slice-read-steps-at c =
     let s = c .before .before in
     omega (arith, all-numbers (s .args .s .now) (s .pre .0) .0, s .pre .1)
 
-add-steps-at : tie.Need-add-steps-at
-add-steps-at c = search needs
-
-mul-steps-at-2 : tie.Need-mul-steps-at-2
-mul-steps-at-2 c = search needs
-
 shared-slice-read-steps-at-2 : tie.Need-shared-slice-read-steps-at-2
 shared-slice-read-steps-at-2 c =
     let s = c .before .before .before in
     omega (arith, all-numbers (s .args .s .now) (s .pre .0) .0, s .pre .1)
-
-steps-at-requires : tie.Need-steps-at-requires
-steps-at-requires c κs = search needs
 
 returns : tie.Need-returns
 returns c =
@@ -58,12 +40,12 @@ pub may-step-spec : {M : Type 1} → statement M
 may-step-spec =
     tie.close
     (tie.spec
-    mul-at
-    add-at
-    mul-steps-at
+    (λ c. search needs)
+    (λ c. search needs)
+    (λ c. search needs)
     shared-slice-read-steps-at
-    add-steps-at
-    mul-steps-at-2
+    (λ c. search needs)
+    (λ c. search needs)
     shared-slice-read-steps-at-2
-    steps-at-requires
+    (λ c κs. search needs)
     returns)

@@ -5,57 +5,6 @@ use Rattle.rows.proofs.PhaseLaws.{phase-is}
 use Rattle.rows.proofs.phase_place.Statement.{statement}
 use Rattle.rows.proofs.phase_place.Tie as tie
 
-enum-known-p : tie.Need-enum-known-p
-enum-known-p c = search needs
-
-cast-result : tie.Need-cast-result
-cast-result c = search needs
-
-enum-known-p-2 : tie.Need-enum-known-p-2
-enum-known-p-2 c = search needs
-
-cast-result-2 : tie.Need-cast-result-2
-cast-result-2 c = search needs
-
-enum-known-p-3 : tie.Need-enum-known-p-3
-enum-known-p-3 c = search needs
-
-cast-result-3 : tie.Need-cast-result-3
-cast-result-3 c = search needs
-
-enum-known-p-4 : tie.Need-enum-known-p-4
-enum-known-p-4 c = search needs
-
-cast-result-4 : tie.Need-cast-result-4
-cast-result-4 c = search needs
-
-enum-known-p-5 : tie.Need-enum-known-p-5
-enum-known-p-5 c = search needs
-
-cast-result-5 : tie.Need-cast-result-5
-cast-result-5 c = search needs
-
-enum-told : tie.Need-enum-told
-enum-told c = search needs
-
-enum-known-p-6 : tie.Need-enum-known-p-6
-enum-known-p-6 c = search needs
-
-cast-result-6 : tie.Need-cast-result-6
-cast-result-6 c = search needs
-
-enum-told-2 : tie.Need-enum-told-2
-enum-told-2 c = search needs
-
-enum-told-3 : tie.Need-enum-told-3
-enum-told-3 c = search needs
-
-enum-known-p-7 : tie.Need-enum-known-p-7
-enum-known-p-7 c = search needs
-
-cast-result-7 : tie.Need-cast-result-7
-cast-result-7 c = search needs
-
 returns : tie.Need-returns
 returns c = phase-is _ (c .before .p .given .1) (omega (arith, c .known-told .given .0 .1))
 
@@ -92,23 +41,23 @@ pub phase-place-spec : {M : Type 1} → statement M
 phase-place-spec =
     tie.close
     (tie.spec
-    enum-known-p
-    cast-result
-    enum-known-p-2
-    cast-result-2
-    enum-known-p-3
-    cast-result-3
-    enum-known-p-4
-    cast-result-4
-    enum-known-p-5
-    cast-result-5
-    enum-told
-    enum-known-p-6
-    cast-result-6
-    enum-told-2
-    enum-told-3
-    enum-known-p-7
-    cast-result-7
+    (λ c. search needs)
+    (λ c. search needs)
+    (λ c. search needs)
+    (λ c. search needs)
+    (λ c. search needs)
+    (λ c. search needs)
+    (λ c. search needs)
+    (λ c. search needs)
+    (λ c. search needs)
+    (λ c. search needs)
+    (λ c. search needs)
+    (λ c. search needs)
+    (λ c. search needs)
+    (λ c. search needs)
+    (λ c. search needs)
+    (λ c. search needs)
+    (λ c. search needs)
     returns
     returns-2
     returns-3

@@ -19,27 +19,6 @@ abbrev μ-loop : tie.MeasureT-loop
 loop-holds : tie.Need-loop-holds Inv-loop μ-loop
 loop-holds c = (search needs, paste-zero (c .args .messages .now) (c .args .at) (c .args .t3), search needs)
 
-mul-messages : tie.Need-mul-messages Inv-loop μ-loop
-mul-messages c = search needs
-
-array-read-messages : tie.Need-array-read-messages Inv-loop μ-loop
-array-read-messages c = search needs
-
-add-messages : tie.Need-add-messages Inv-loop μ-loop
-add-messages c = search needs
-
-mul-messages-2 : tie.Need-mul-messages-2 Inv-loop μ-loop
-mul-messages-2 c = search needs
-
-slice-write-messages : tie.Need-slice-write-messages Inv-loop μ-loop
-slice-write-messages c = search needs
-
-add-i : tie.Need-add-i Inv-loop μ-loop
-add-i c = search needs
-
-loop-less : tie.Need-loop-less Inv-loop μ-loop
-loop-less c = search needs
-
 loop-again : tie.Need-loop-again Inv-loop μ-loop
 loop-again c =
     let p = c .before in
@@ -51,9 +30,6 @@ loop-again c =
           (paste-suc (a .messages .now) (a .at) (a .t3) (p .loop .i) 0 (omega arith) (omega (arith, eight))),
       search needs,
     )
-
-same-length : tie.Need-same-length Inv-loop μ-loop
-same-length c = search needs
 
 returns : tie.Need-returns Inv-loop μ-loop
 returns c =
@@ -69,13 +45,13 @@ put-chosen-spec =
     Inv-loop
     μ-loop
     loop-holds
-    mul-messages
-    array-read-messages
-    add-messages
-    mul-messages-2
-    slice-write-messages
-    add-i
-    loop-less
+    (λ c. search needs)
+    (λ c. search needs)
+    (λ c. search needs)
+    (λ c. search needs)
+    (λ c. search needs)
+    (λ c. search needs)
+    (λ c. search needs)
     loop-again
-    same-length
+    (λ c. search needs)
     returns)

@@ -16,26 +16,8 @@ Inv-loop s₀ idle i₀ s i = (i ≤ 32) × (length s ≡ 674) × Written idle s
 abbrev μ-loop : tie.MeasureT-loop
 μ-loop s₀ idle i₀ s i = 32 - i
 
-fresh-sender-requires : tie.Need-fresh-sender-requires Inv-loop μ-loop
-fresh-sender-requires c κs = search needs
-
 loop-holds : tie.Need-loop-holds Inv-loop μ-loop
 loop-holds c = (search needs, search needs, none-written (take 2 (c .before .before .args .s .now)))
-
-mul-put-sender : tie.Need-mul-put-sender Inv-loop μ-loop
-mul-put-sender c = search needs
-
-add-put-sender : tie.Need-add-put-sender Inv-loop μ-loop
-add-put-sender c = search needs
-
-put-sender-requires : tie.Need-put-sender-requires Inv-loop μ-loop
-put-sender-requires c κs = search needs
-
-add-i : tie.Need-add-i Inv-loop μ-loop
-add-i c = search needs
-
-loop-less : tie.Need-loop-less Inv-loop μ-loop
-loop-less c = search needs
 
 loop-again : tie.Need-loop-again Inv-loop μ-loop
 loop-again c =
@@ -49,12 +31,6 @@ loop-again c =
           (omega arith) (p .loop .inv .1) (sender-long _ (n .put-sender .ensures .1)) (n .put-sender .ensures .0)
           (p .loop .inv .2),
     )
-
-slice-write-s : tie.Need-slice-write-s Inv-loop μ-loop
-slice-write-s c = search needs
-
-slice-write-s-2 : tie.Need-slice-write-s-2 Inv-loop μ-loop
-slice-write-s-2 c = search needs
 
 same-length : tie.Need-same-length Inv-loop μ-loop
 same-length c =
@@ -76,15 +52,15 @@ put-fresh-spec =
     (tie.spec
     Inv-loop
     μ-loop
-    fresh-sender-requires
+    (λ c κs. search needs)
     loop-holds
-    mul-put-sender
-    add-put-sender
-    put-sender-requires
-    add-i
-    loop-less
+    (λ c. search needs)
+    (λ c. search needs)
+    (λ c κs. search needs)
+    (λ c. search needs)
+    (λ c. search needs)
     loop-again
-    slice-write-s
-    slice-write-s-2
+    (λ c. search needs)
+    (λ c. search needs)
     same-length
     returns)

@@ -11,146 +11,41 @@ use Rattle.rows.proofs.StoreLaws.{sender-stored}
 use Rattle.rows.proofs.put_sender.Statement.{statement}
 use Rattle.rows.proofs.put_sender.Tie as tie
 
-state-number-requires : tie.Need-state-number-requires
-state-number-requires c κs = search needs
-
-mul-s : tie.Need-mul-s
-mul-s c = search needs
-
-slice-write-s : tie.Need-slice-write-s
-slice-write-s c = search needs
-
-flag-number-requires : tie.Need-flag-number-requires
-flag-number-requires c κs = search needs
-
-add-s : tie.Need-add-s
-add-s c = search needs
-
-mul-s-2 : tie.Need-mul-s-2
-mul-s-2 c = search needs
-
 slice-write-s-2 : tie.Need-slice-write-s-2
 slice-write-s-2 c = simp length-set (omega arith)
-
-add-s-2 : tie.Need-add-s-2
-add-s-2 c = search needs
-
-mul-s-3 : tie.Need-mul-s-3
-mul-s-3 c = search needs
 
 slice-write-s-3 : tie.Need-slice-write-s-3
 slice-write-s-3 c = simp length-set (omega arith)
 
-add-s-3 : tie.Need-add-s-3
-add-s-3 c = search needs
-
-mul-s-4 : tie.Need-mul-s-4
-mul-s-4 c = search needs
-
 slice-write-s-4 : tie.Need-slice-write-s-4
 slice-write-s-4 c = simp length-set (omega arith)
-
-add-s-4 : tie.Need-add-s-4
-add-s-4 c = search needs
-
-mul-s-5 : tie.Need-mul-s-5
-mul-s-5 c = search needs
 
 slice-write-s-5 : tie.Need-slice-write-s-5
 slice-write-s-5 c = simp length-set (omega arith)
 
-add-s-5 : tie.Need-add-s-5
-add-s-5 c = search needs
-
-mul-s-6 : tie.Need-mul-s-6
-mul-s-6 c = search needs
-
 slice-write-s-6 : tie.Need-slice-write-s-6
 slice-write-s-6 c = simp length-set (omega arith)
-
-add-s-6 : tie.Need-add-s-6
-add-s-6 c = search needs
-
-mul-s-7 : tie.Need-mul-s-7
-mul-s-7 c = search needs
 
 slice-write-s-7 : tie.Need-slice-write-s-7
 slice-write-s-7 c = simp length-set (omega arith)
 
-cast-s : tie.Need-cast-s
-cast-s c = search needs
-
-add-s-7 : tie.Need-add-s-7
-add-s-7 c = search needs
-
-mul-s-8 : tie.Need-mul-s-8
-mul-s-8 c = search needs
-
 slice-write-s-8 : tie.Need-slice-write-s-8
 slice-write-s-8 c = simp length-set (omega arith)
-
-phase-kind-requires : tie.Need-phase-kind-requires
-phase-kind-requires c κs = search needs
-
-add-s-8 : tie.Need-add-s-8
-add-s-8 c = search needs
-
-mul-s-9 : tie.Need-mul-s-9
-mul-s-9 c = search needs
 
 slice-write-s-9 : tie.Need-slice-write-s-9
 slice-write-s-9 c = simp length-set (omega arith)
 
-phase-place-requires : tie.Need-phase-place-requires
-phase-place-requires c κs = search needs
-
-add-s-9 : tie.Need-add-s-9
-add-s-9 c = search needs
-
-mul-s-10 : tie.Need-mul-s-10
-mul-s-10 c = search needs
-
 slice-write-s-10 : tie.Need-slice-write-s-10
 slice-write-s-10 c = simp length-set (omega arith)
-
-phase-second-requires : tie.Need-phase-second-requires
-phase-second-requires c κs = search needs
-
-add-s-10 : tie.Need-add-s-10
-add-s-10 c = search needs
-
-mul-s-11 : tie.Need-mul-s-11
-mul-s-11 c = search needs
 
 slice-write-s-11 : tie.Need-slice-write-s-11
 slice-write-s-11 c = simp length-set (omega arith)
 
-flag-number-requires-2 : tie.Need-flag-number-requires-2
-flag-number-requires-2 c κs = search needs
-
-add-s-11 : tie.Need-add-s-11
-add-s-11 c = search needs
-
-mul-s-12 : tie.Need-mul-s-12
-mul-s-12 c = search needs
-
 slice-write-s-12 : tie.Need-slice-write-s-12
 slice-write-s-12 c = simp length-set (omega arith)
 
-cast-s-2 : tie.Need-cast-s-2
-cast-s-2 c = search needs
-
-add-s-12 : tie.Need-add-s-12
-add-s-12 c = search needs
-
-mul-s-13 : tie.Need-mul-s-13
-mul-s-13 c = search needs
-
 slice-write-s-13 : tie.Need-slice-write-s-13
 slice-write-s-13 c = simp length-set (omega arith)
-
-add-put-chosen : tie.Need-add-put-chosen
-add-put-chosen c = search needs
 
 put-chosen-requires : tie.Need-put-chosen-requires
 put-chosen-requires c κs = simp length-set (omega arith)
@@ -203,53 +98,53 @@ pub put-sender-spec : {M : Type 1} → statement M
 put-sender-spec =
     tie.close
     (tie.spec
-    state-number-requires
-    mul-s
-    slice-write-s
-    flag-number-requires
-    add-s
-    mul-s-2
+    (λ c κs. search needs)
+    (λ c. search needs)
+    (λ c. search needs)
+    (λ c κs. search needs)
+    (λ c. search needs)
+    (λ c. search needs)
     slice-write-s-2
-    add-s-2
-    mul-s-3
+    (λ c. search needs)
+    (λ c. search needs)
     slice-write-s-3
-    add-s-3
-    mul-s-4
+    (λ c. search needs)
+    (λ c. search needs)
     slice-write-s-4
-    add-s-4
-    mul-s-5
+    (λ c. search needs)
+    (λ c. search needs)
     slice-write-s-5
-    add-s-5
-    mul-s-6
+    (λ c. search needs)
+    (λ c. search needs)
     slice-write-s-6
-    add-s-6
-    mul-s-7
+    (λ c. search needs)
+    (λ c. search needs)
     slice-write-s-7
-    cast-s
-    add-s-7
-    mul-s-8
+    (λ c. search needs)
+    (λ c. search needs)
+    (λ c. search needs)
     slice-write-s-8
-    phase-kind-requires
-    add-s-8
-    mul-s-9
+    (λ c κs. search needs)
+    (λ c. search needs)
+    (λ c. search needs)
     slice-write-s-9
-    phase-place-requires
-    add-s-9
-    mul-s-10
+    (λ c κs. search needs)
+    (λ c. search needs)
+    (λ c. search needs)
     slice-write-s-10
-    phase-second-requires
-    add-s-10
-    mul-s-11
+    (λ c κs. search needs)
+    (λ c. search needs)
+    (λ c. search needs)
     slice-write-s-11
-    flag-number-requires-2
-    add-s-11
-    mul-s-12
+    (λ c κs. search needs)
+    (λ c. search needs)
+    (λ c. search needs)
     slice-write-s-12
-    cast-s-2
-    add-s-12
-    mul-s-13
+    (λ c. search needs)
+    (λ c. search needs)
+    (λ c. search needs)
     slice-write-s-13
-    add-put-chosen
+    (λ c. search needs)
     put-chosen-requires
     same-length
     returns)

@@ -11,24 +11,6 @@ use Rattle.rows.proofs.DecodeLaws.{sender-from}
 use Rattle.rows.proofs.sender_at.Statement.{statement}
 use Rattle.rows.proofs.sender_at.Tie as tie
 
-mul-at : tie.Need-mul-at
-mul-at c = search needs
-
-add-at : tie.Need-add-at
-add-at c = search needs
-
-add-sender-of : tie.Need-add-sender-of
-add-sender-of c = search needs
-
-mul-sender-of : tie.Need-mul-sender-of
-mul-sender-of c = search needs
-
-sub-sender-of : tie.Need-sub-sender-of
-sub-sender-of c = search needs
-
-part-sender-of-start : tie.Need-part-sender-of-start
-part-sender-of-start c = search needs
-
 part-sender-of-end : tie.Need-part-sender-of-end
 part-sender-of-end c =
     let s = c .before in
@@ -54,12 +36,12 @@ pub sender-at-spec : {M : Type 1} → statement M
 sender-at-spec =
     tie.close
     (tie.spec
-    mul-at
-    add-at
-    add-sender-of
-    mul-sender-of
-    sub-sender-of
-    part-sender-of-start
+    (λ c. search needs)
+    (λ c. search needs)
+    (λ c. search needs)
+    (λ c. search needs)
+    (λ c. search needs)
+    (λ c. search needs)
     part-sender-of-end
     sender-of-requires
     returns)

@@ -10,22 +10,10 @@ use borrow.Author.Needs.{needs}
 use Rattle.senders.proofs.all_chosen_below.Statement.{statement}
 use Rattle.senders.proofs.all_chosen_below.Tie as tie
 
-size-at-requires : tie.Need-size-at-requires
-size-at-requires c κs = search needs
-
-chosen-by-requires : tie.Need-chosen-by-requires
-chosen-by-requires c κs = search needs
-
-chosen-below-requires : tie.Need-chosen-below-requires
-chosen-below-requires c κs = search needs
-
 returns : tie.Need-returns
 returns c =
     let h = c .before .before .before in
     rw (c .chosen-below .ensures, h .chosen-by .ensures, h .before .size-at .ensures)
-
-chosen-below-requires-2 : tie.Need-chosen-below-requires-2
-chosen-below-requires-2 c κs = search needs
 
 returns-2 : tie.Need-returns-2
 returns-2 c =
@@ -41,9 +29,9 @@ pub all-chosen-below-spec : {M : Type 1} → statement M
 all-chosen-below-spec =
     tie.close
     (tie.spec
-    size-at-requires
-    chosen-by-requires
-    chosen-below-requires
+    (λ c κs. search needs)
+    (λ c κs. search needs)
+    (λ c κs. search needs)
     returns
-    chosen-below-requires-2
+    (λ c κs. search needs)
     returns-2)

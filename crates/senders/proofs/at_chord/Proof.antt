@@ -5,12 +5,6 @@ use borrow.Author.Needs.{needs}
 use Rattle.senders.proofs.at_chord.Statement.{statement}
 use Rattle.senders.proofs.at_chord.Tie as tie
 
-chords-len-requires : tie.Need-chords-len-requires
-chords-len-requires c κs = search needs
-
-names-requires : tie.Need-names-requires
-names-requires c κs = search needs
-
 returns : tie.Need-returns
 unfolding inChord
 returns c =
@@ -22,4 +16,4 @@ unfolding inChord
 returns-2 c = rw (← c .before .chords-len .ensures, le-ltb _ _ (c .if1 .left))
 
 pub at-chord-spec : {M : Type 1} → statement M
-at-chord-spec = tie.close (tie.spec chords-len-requires names-requires returns returns-2)
+at-chord-spec = tie.close (tie.spec (λ c κs. search needs) (λ c κs. search needs) returns returns-2)

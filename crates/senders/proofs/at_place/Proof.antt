@@ -6,17 +6,11 @@ use borrow.Author.Needs.{needs}
 use Rattle.senders.proofs.at_place.Statement.{statement}
 use Rattle.senders.proofs.at_place.Tie as tie
 
-at-chord-requires : tie.Need-at-chord-requires
-at-chord-requires c κs = search needs
-
 chord-len-requires : tie.Need-chord-len-requires
 chord-len-requires c κs =
     let s = c .before .before .before in
     let e = sym (c .before .at-chord .ensures) ∙ c .if1 .taken in
     (s .pre, in-table (tableOf (s .args .table .now)) (s .args .chord) (s .args .channel) e)
-
-cast-len : tie.Need-cast-len
-cast-len c = search needs
 
 returns : tie.Need-returns
 returns c =
@@ -30,4 +24,4 @@ returns-2 c =
 
 pub at-place-spec : {M : Type 1} → statement M
 at-place-spec =
-    tie.close (tie.spec at-chord-requires chord-len-requires cast-len returns returns-2)
+    tie.close (tie.spec (λ c κs. search needs) chord-len-requires (λ c. search needs) returns returns-2)

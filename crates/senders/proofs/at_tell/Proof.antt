@@ -20,9 +20,6 @@ chord-in c =
     in-table (tableOf (a .table .now)) (a .j .chord) (a .channel)
     (sym (c .before .at-chord .ensures) ∙ c .if1 .taken)
 
-at-chord-requires : tie.Need-at-chord-requires
-at-chord-requires c κs = search needs
-
 wakes-requires : tie.Need-wakes-requires
 wakes-requires c κs = ((start c .pre .0 .0, chord-in c), start c .pre .1)
 
@@ -54,7 +51,7 @@ pub at-tell-spec : {M : Type 1} → statement M
 at-tell-spec =
     tie.close
     (tie.spec
-    at-chord-requires
+    (λ c κs. search needs)
     wakes-requires
     chord-len-requires
     tells-len-requires

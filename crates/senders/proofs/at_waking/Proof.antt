@@ -6,9 +6,6 @@ use borrow.Author.Needs.{needs}
 use Rattle.senders.proofs.at_waking.Statement.{statement}
 use Rattle.senders.proofs.at_waking.Tie as tie
 
-at-chord-requires : tie.Need-at-chord-requires
-at-chord-requires c κs = search needs
-
 wakes-requires : tie.Need-wakes-requires
 wakes-requires c κs =
     let s = c .before .before .before in
@@ -27,4 +24,4 @@ returns-2 c =
     rw e
 
 pub at-waking-spec : {M : Type 1} → statement M
-at-waking-spec = tie.close (tie.spec at-chord-requires wakes-requires returns returns-2)
+at-waking-spec = tie.close (tie.spec (λ c κs. search needs) wakes-requires returns returns-2)

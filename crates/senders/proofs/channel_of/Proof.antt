@@ -5,9 +5,6 @@ use borrow.Author.Needs.{needs}
 use Rattle.senders.proofs.channel_of.Statement.{statement}
 use Rattle.senders.proofs.channel_of.Tie as tie
 
-shared-slice-read-result : tie.Need-shared-slice-read-result
-shared-slice-read-result c = search needs
-
 returns : tie.Need-returns
 unfolding channelIn
 returns c = rw (lt-ltb _ _ (c .before .if1 .taken))
@@ -17,4 +14,4 @@ unfolding channelIn
 returns-2 c = rw (le-ltb _ _ (c .if1 .left))
 
 pub channel-of-spec : {M : Type 1} → statement M
-channel-of-spec = tie.close (tie.spec shared-slice-read-result returns returns-2)
+channel-of-spec = tie.close (tie.spec (λ c. search needs) returns returns-2)

@@ -17,31 +17,16 @@ Inv-loop marks i m k₀ k = (k ≤ length marks) ×
 abbrev μ-loop : tie.MeasureT-loop
 μ-loop marks i m k₀ k = length marks - k
 
-mul-m : tie.Need-mul-m Inv-loop μ-loop
-mul-m c = search needs
-
-shared-slice-read-m : tie.Need-shared-slice-read-m Inv-loop μ-loop
-shared-slice-read-m c = search needs
-
 returns : tie.Need-returns Inv-loop μ-loop
 returns c =
     let a = c .before .before .args in
     twice-idle (a .marks .now) (a .i) (c .before .before .pre) (c .if1 .taken)
-
-add-k : tie.Need-add-k Inv-loop μ-loop
-add-k c = search needs
 
 loop-holds : tie.Need-loop-holds Inv-loop μ-loop
 loop-holds c =
     let s = c .before .before in
     let a = s .args in
     (omega (arith, s .pre), twice-step (a .marks .now) (a .i) (s .pre) (c .if1 .left))
-
-mul-if2 : tie.Need-mul-if2 Inv-loop μ-loop
-mul-if2 c = search needs
-
-shared-slice-read-if2 : tie.Need-shared-slice-read-if2 Inv-loop μ-loop
-shared-slice-read-if2 c = search needs
 
 returns-2 : tie.Need-returns-2 Inv-loop μ-loop
 returns-2 c =
@@ -50,12 +35,6 @@ returns-2 c =
     p .loop .inv .1
     ∙ ap (λ x. x && noneTwice (drop (a .i + 1) (a .marks .now)))
     (alone-no (a .marks .now) _ (p .loop .k) (omega arith) (c .if2 .taken))
-
-add-k-2 : tie.Need-add-k-2 Inv-loop μ-loop
-add-k-2 c = search needs
-
-loop-less : tie.Need-loop-less Inv-loop μ-loop
-loop-less c = search needs
 
 loop-again : tie.Need-loop-again Inv-loop μ-loop
 loop-again c =
@@ -81,15 +60,15 @@ is-alone-spec =
     (tie.spec
     Inv-loop
     μ-loop
-    mul-m
-    shared-slice-read-m
+    (λ c. search needs)
+    (λ c. search needs)
     returns
-    add-k
+    (λ c. search needs)
     loop-holds
-    mul-if2
-    shared-slice-read-if2
+    (λ c. search needs)
+    (λ c. search needs)
     returns-2
-    add-k-2
-    loop-less
+    (λ c. search needs)
+    (λ c. search needs)
     loop-again
     returns-3)

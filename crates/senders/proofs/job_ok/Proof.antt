@@ -12,9 +12,6 @@ use Rattle.senders.proofs.job_ok.Tie as tie
 returns : tie.Need-returns
 returns c b sees = rw (sees .count, le-ltb _ _ (c .if1 .taken))
 
-add-v : tie.Need-add-v
-add-v c = search needs
-
 returns-2 : tie.Need-returns-2
 returns-2 c b sees =
     let i = c .before .before .before .before in
@@ -43,4 +40,4 @@ returns-3 c b sees =
 pub job-ok-spec : {M : Type 1} → statement M
 job-ok-spec =
     tie.close
-    (tie.spec returns add-v returns-2 all-chosen-below-requires place-ok-requires returns-3)
+    (tie.spec returns (λ c. search needs) returns-2 all-chosen-below-requires place-ok-requires returns-3)

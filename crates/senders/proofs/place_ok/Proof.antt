@@ -29,12 +29,6 @@ channel-in q =
 channel-of-requires : tie.Need-channel-of-requires
 channel-of-requires c κs = c .before .before .pre .1 .all
 
-enum-known-phase : tie.Need-enum-known-phase
-enum-known-phase c = search needs
-
-cast-at-place : tie.Need-cast-at-place
-cast-at-place c = search needs
-
 at-place-requires : tie.Need-at-place-requires
 at-place-requires c κs = start (c .before .before .before) .pre .0
 
@@ -47,12 +41,6 @@ returns c b sees =
     rw (c .at-place .ensures, q .channel-of .ensures)
     (look-ok (a .table .now) (s .pre .0) b (a .j) (a .n) (a .matches) (a .channels .now) sees (eight s)
     _ (k .phase .given .1))
-
-enum-known-phase-2 : tie.Need-enum-known-phase-2
-enum-known-phase-2 c = search needs
-
-cast-at-place-2 : tie.Need-cast-at-place-2
-cast-at-place-2 c = search needs
 
 at-place-requires-2 : tie.Need-at-place-requires-2
 at-place-requires-2 c κs = start (c .before .before .before) .pre .0
@@ -67,12 +55,6 @@ returns-2 c b sees =
     (claim-ok (a .table .now) (s .pre .0) b (a .j) (a .n) (a .matches) (a .channels .now) sees (eight s)
     _ (k .phase2 .given .1))
 
-enum-known-phase-3 : tie.Need-enum-known-phase-3
-enum-known-phase-3 c = search needs
-
-cast-at-place-3 : tie.Need-cast-at-place-3
-cast-at-place-3 c = search needs
-
 at-place-requires-3 : tie.Need-at-place-requires-3
 at-place-requires-3 c κs = start (c .before .before .before) .pre .0
 
@@ -86,14 +68,8 @@ returns-3 c b sees =
     (revert-ok (a .table .now) (s .pre .0) b (a .j) (a .n) (a .matches) (a .channels .now) sees (eight s)
     _ _ (k .phase3 .given .1))
 
-enum-known-phase-4 : tie.Need-enum-known-phase-4
-enum-known-phase-4 c = search needs
-
 at-waking-requires : tie.Need-at-waking-requires
 at-waking-requires c κs = let q = c .before .before .before in (start q .pre .0, channel-in q)
-
-cast-at-place-4 : tie.Need-cast-at-place-4
-cast-at-place-4 c = search needs
 
 at-place-requires-4 : tie.Need-at-place-requires-4
 at-place-requires-4 c κs = start (c .before .before .before .before) .pre .0
@@ -109,9 +85,6 @@ returns-4 c b sees =
     (consume-ok (a .table .now) (s .pre .0) b (a .j) (a .n) (a .matches) (a .channels .now) sees (eight s)
     _ _ (k .phase4 .given .1))
 
-enum-known-phase-5 : tie.Need-enum-known-phase-5
-enum-known-phase-5 c = search needs
-
 at-tell-requires : tie.Need-at-tell-requires
 at-tell-requires c κs = let q = c .before .before .before in ((start q .pre .0, start q .pre .1), channel-in q)
 
@@ -124,9 +97,6 @@ returns-5 c b sees =
     rw (c .at-tell .ensures b (a .matches) sees, q .channel-of .ensures)
     (tell-ok (a .table .now) (s .pre .0) b (a .j) (a .n) (a .matches) (a .channels .now) sees (eight s)
     _ (k .phase5 .given .1))
-
-enum-told : tie.Need-enum-told
-enum-told c = search needs
 
 at-waking-requires-2 : tie.Need-at-waking-requires-2
 at-waking-requires-2 c κs = let q = c .before .before in (start q .pre .0, channel-in q)
@@ -141,17 +111,8 @@ returns-6 c b sees =
     (wake-ok (a .table .now) (s .pre .0) b (a .j) (a .n) (a .matches) (a .channels .now) sees (eight s)
     (k .enum-told .given .1))
 
-enum-known-phase-6 : tie.Need-enum-known-phase-6
-enum-known-phase-6 c = search needs
-
 at-waking-requires-3 : tie.Need-at-waking-requires-3
 at-waking-requires-3 c κs = let q = c .before .before .before in (start q .pre .0, channel-in q)
-
-cast-at-place-5 : tie.Need-cast-at-place-5
-cast-at-place-5 c = search needs
-
-add-at-place : tie.Need-add-at-place
-add-at-place c = search needs
 
 at-place-requires-5 : tie.Need-at-place-requires-5
 at-place-requires-5 c κs = start (c .before .before .before .before) .pre .0
@@ -167,9 +128,6 @@ returns-7 c b sees =
     (free-ok (a .table .now) (s .pre .0) b (a .j) (a .n) (a .matches) (a .channels .now) sees (eight s)
     _ (k .phase6 .given .1))
 
-enum-told-2 : tie.Need-enum-told-2
-enum-told-2 c = search needs
-
 at-waking-requires-4 : tie.Need-at-waking-requires-4
 at-waking-requires-4 c κs = let q = c .before .before in (start q .pre .0, channel-in q)
 
@@ -183,14 +141,8 @@ returns-8 c b sees =
     (signal-ok (a .table .now) (s .pre .0) b (a .j) (a .n) (a .matches) (a .channels .now) sees (eight s)
     (k .enum-told2 .given .1))
 
-enum-told-3 : tie.Need-enum-told-3
-enum-told-3 c = search needs
-
 returns-9 : tie.Need-returns-9
 returns-9 c b sees = rw (c .enum-told3 .given .1)
-
-enum-known-phase-7 : tie.Need-enum-known-phase-7
-enum-known-phase-7 c = search needs
 
 returns-10 : tie.Need-returns-10
 returns-10 c b sees = rw (c .before .phase7 .given .1)
@@ -200,39 +152,39 @@ place-ok-spec =
     tie.close
     (tie.spec
     channel-of-requires
-    enum-known-phase
-    cast-at-place
+    (λ c. search needs)
+    (λ c. search needs)
     at-place-requires
     returns
-    enum-known-phase-2
-    cast-at-place-2
+    (λ c. search needs)
+    (λ c. search needs)
     at-place-requires-2
     returns-2
-    enum-known-phase-3
-    cast-at-place-3
+    (λ c. search needs)
+    (λ c. search needs)
     at-place-requires-3
     returns-3
-    enum-known-phase-4
+    (λ c. search needs)
     at-waking-requires
-    cast-at-place-4
+    (λ c. search needs)
     at-place-requires-4
     returns-4
-    enum-known-phase-5
+    (λ c. search needs)
     at-tell-requires
     returns-5
-    enum-told
+    (λ c. search needs)
     at-waking-requires-2
     returns-6
-    enum-known-phase-6
+    (λ c. search needs)
     at-waking-requires-3
-    cast-at-place-5
-    add-at-place
+    (λ c. search needs)
+    (λ c. search needs)
     at-place-requires-5
     returns-7
-    enum-told-2
+    (λ c. search needs)
     at-waking-requires-4
     returns-8
-    enum-told-3
+    (λ c. search needs)
     returns-9
-    enum-known-phase-7
+    (λ c. search needs)
     returns-10)

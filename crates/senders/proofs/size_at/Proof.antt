@@ -7,15 +7,6 @@ use borrow.Author.Needs.{needs}
 use Rattle.senders.proofs.size_at.Statement.{statement}
 use Rattle.senders.proofs.size_at.Tie as tie
 
-chords-len-requires : tie.Need-chords-len-requires
-chords-len-requires c κs = search needs
-
-chord-len-requires : tie.Need-chord-len-requires
-chord-len-requires c κs = search needs
-
-returns : tie.Need-returns
-returns c = search needs
-
 returns-2 : tie.Need-returns-2
 returns-2 c =
     let a = c .before .before .before .args in
@@ -23,4 +14,4 @@ returns-2 c =
     sym (no-size (tableOf (a .table .now)) (a .chord) (omega arith))
 
 pub size-at-spec : {M : Type 1} → statement M
-size-at-spec = tie.close (tie.spec chords-len-requires chord-len-requires returns returns-2)
+size-at-spec = tie.close (tie.spec (λ c κs. search needs) (λ c κs. search needs) (λ c. search needs) returns-2)

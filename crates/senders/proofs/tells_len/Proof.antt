@@ -28,28 +28,10 @@ loop-holds c =
     let a = c .before .before .args in
     (search needs, search needs, λ b m sees. rw (left-whole (a .t3) (a .len)) (omega arith))
 
-cast-is-told : tie.Need-cast-is-told Inv-loop μ-loop
-cast-is-told c = search needs
-
-mul-is-told : tie.Need-mul-is-told Inv-loop μ-loop
-mul-is-told c = search needs
-
-array-read-is-told : tie.Need-array-read-is-told Inv-loop μ-loop
-array-read-is-told c = search needs
-
 is-told-requires : tie.Need-is-told-requires Inv-loop μ-loop
 is-told-requires c κs =
     let s = c .before .before .before .before in
     (s .pre .0, s .pre .1)
-
-counted-requires : tie.Need-counted-requires Inv-loop μ-loop
-counted-requires c κs = search needs
-
-add-i : tie.Need-add-i Inv-loop μ-loop
-add-i c = search needs
-
-loop-less : tie.Need-loop-less Inv-loop μ-loop
-loop-less c = search needs
 
 loop-again : tie.Need-loop-again Inv-loop μ-loop
 loop-again c =
@@ -88,12 +70,12 @@ tells-len-spec =
     Inv-loop
     μ-loop
     loop-holds
-    cast-is-told
-    mul-is-told
-    array-read-is-told
+    (λ c. search needs)
+    (λ c. search needs)
+    (λ c. search needs)
     is-told-requires
-    counted-requires
-    add-i
-    loop-less
+    (λ c κs. search needs)
+    (λ c. search needs)
+    (λ c. search needs)
     loop-again
     returns)

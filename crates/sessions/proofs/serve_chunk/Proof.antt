@@ -53,9 +53,6 @@ holds c = let l = c .loop in lists (l .board) (l .bytes) (l .links) (l .keys) (l
 sizes : (c : tie.At-loop Inv-loop μ-loop) → Sized (holds c) × Sized (lent (start (c .before)))
 sizes c = (c .loop .inv .0 .accepted .sized, start (c .before) .pre .0 .sized)
 
-byte-from-requires : tie.Need-byte-from-requires Inv-loop μ-loop
-byte-from-requires c κs = search needs
-
 loop-holds : tie.Need-loop-holds Inv-loop μ-loop
 loop-holds c =
     let f = c .byte-from .ensures in
@@ -90,9 +87,6 @@ serve-kept-requires c κs =
       ),
     )
 
-no-bytes-requires : tie.Need-no-bytes-requires Inv-loop μ-loop
-no-bytes-requires c κs = search needs
-
 add-from : tie.Need-add-from Inv-loop μ-loop
 add-from c = record { fits = omega (arith, turn c .loop-test .taken, room (turn c)) }
 
@@ -124,9 +118,6 @@ sub-with-bytes-2 c = omega (arith, c .before .loop .inv .0 .order, c .before .lo
 
 part-with-bytes-start-2 : tie.Need-part-with-bytes-start-2 Inv-loop μ-loop
 part-with-bytes-start-2 c = omega (arith, c .before .loop .inv .0 .order, c .before .loop .inv .0 .within)
-
-part-with-bytes-end-2 : tie.Need-part-with-bytes-end-2 Inv-loop μ-loop
-part-with-bytes-end-2 c = search needs
 
 with-bytes-requires-2 : tie.Need-with-bytes-requires-2 Inv-loop μ-loop
 with-bytes-requires-2 c κs = c .before .before .loop .inv .0 .kept
@@ -167,21 +158,21 @@ serve-chunk-spec =
     (tie.spec
     Inv-loop
     μ-loop
-    byte-from-requires
+    (λ c κs. search needs)
     loop-holds
     sub-with-bytes
     part-with-bytes-start
     part-with-bytes-end
     with-bytes-requires
     serve-kept-requires
-    no-bytes-requires
+    (λ c κs. search needs)
     add-from
     byte-from-requires-2
     loop-less
     loop-again
     sub-with-bytes-2
     part-with-bytes-start-2
-    part-with-bytes-end-2
+    (λ c. search needs)
     with-bytes-requires-2
     same-length
     same-length-2

@@ -30,27 +30,6 @@ serve-line-requires c κs =
     let s = start (c .before .before .before .before .before .before .before) in
     (s .pre .0, (s .pre .1 .0, s .pre .1 .1 .1))
 
-same-length : tie.Need-same-length
-same-length c = search needs
-
-same-length-2 : tie.Need-same-length-2
-same-length-2 c = search needs
-
-same-length-3 : tie.Need-same-length-3
-same-length-3 c = search needs
-
-same-length-4 : tie.Need-same-length-4
-same-length-4 c = search needs
-
-same-length-5 : tie.Need-same-length-5
-same-length-5 c = search needs
-
-same-length-6 : tie.Need-same-length-6
-same-length-6 c = search needs
-
-returns : tie.Need-returns
-returns c = search needs
-
 pub serve-kept-spec : {M : Type 1} → statement M
 serve-kept-spec =
     tie.close
@@ -58,10 +37,10 @@ serve-kept-spec =
     array-share-prefix-line
     slice-aggregate-serve-line
     serve-line-requires
-    same-length
-    same-length-2
-    same-length-3
-    same-length-4
-    same-length-5
-    same-length-6
-    returns)
+    (λ c. search needs)
+    (λ c. search needs)
+    (λ c. search needs)
+    (λ c. search needs)
+    (λ c. search needs)
+    (λ c. search needs)
+    (λ c. search needs))

@@ -8,16 +8,10 @@ use Rattle.model.proofs.CentsTest.{cents-within}
 use Rattle.soundness.proofs.amount_ok.Statement.{statement}
 use Rattle.soundness.proofs.amount_ok.Tie as tie
 
-mul-x : tie.Need-mul-x
-mul-x c = search needs
-
-shared-slice-copy-out-x : tie.Need-shared-slice-copy-out-x
-shared-slice-copy-out-x c = search needs
-
 returns : tie.Need-returns
 returns c =
     let z = getD (c .before .args .cents .now) (c .before .args .i) (pos 0) in
     rw (toZ-ofZ w64 z (record { sfits = c .x .given })) (cents-within z)
 
 pub amount-ok-spec : {M : Type 1} → statement M
-amount-ok-spec = tie.close (tie.spec mul-x shared-slice-copy-out-x returns)
+amount-ok-spec = tie.close (tie.spec (λ c. search needs) (λ c. search needs) returns)

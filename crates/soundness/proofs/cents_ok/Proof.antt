@@ -26,34 +26,19 @@ turn c =
     rw (each-one (inRange (p .before .before .before .args .cents .now)) (p .loop .i), p .loop .inv .1)
     (sym (c .amount-ok .ensures))
 
-fours-ok-requires : tie.Need-fours-ok-requires Inv-loop μ-loop
-fours-ok-requires c κs = search needs
-
 returns : tie.Need-returns Inv-loop μ-loop
 returns c =
     let a = c .before .before .args in
     let e = sym (c .before .fours-ok .ensures) ∙ not-true _ (c .if1 .taken) in
     sym (each-no (inRange (a .cents .now)) (4 * (a .n / 4)) (a .n) (omega arith) e)
 
-mul-i : tie.Need-mul-i Inv-loop μ-loop
-mul-i c = search needs
-
 loop-holds : tie.Need-loop-holds Inv-loop μ-loop
 loop-holds c = (search needs, sym (c .before .fours-ok .ensures) ∙ not-false _ (c .if1 .left))
-
-amount-ok-requires : tie.Need-amount-ok-requires Inv-loop μ-loop
-amount-ok-requires c κs = search needs
 
 returns-2 : tie.Need-returns-2 Inv-loop μ-loop
 returns-2 c =
     let p = c .before .before .before in
     sym (each-no _ (p .loop .i + 1) _ (omega arith) (turn (c .before) ∙ not-true _ (c .if2 .taken)))
-
-add-i : tie.Need-add-i Inv-loop μ-loop
-add-i c = search needs
-
-loop-less : tie.Need-loop-less Inv-loop μ-loop
-loop-less c = search needs
 
 loop-again : tie.Need-loop-again Inv-loop μ-loop
 loop-again c = (search needs, turn (c .before) ∙ not-false _ (c .if2 .left))
@@ -70,13 +55,13 @@ cents-ok-spec =
     (tie.spec
     Inv-loop
     μ-loop
-    fours-ok-requires
+    (λ c κs. search needs)
     returns
-    mul-i
+    (λ c. search needs)
     loop-holds
-    amount-ok-requires
+    (λ c κs. search needs)
     returns-2
-    add-i
-    loop-less
+    (λ c. search needs)
+    (λ c. search needs)
     loop-again
     returns-3)

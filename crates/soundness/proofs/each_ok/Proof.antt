@@ -32,12 +32,6 @@ turn c =
 loop-holds : tie.Need-loop-holds Inv-loop μ-loop
 loop-holds c = (search needs, each-none _)
 
-shared-slice-read-match-ok : tie.Need-shared-slice-read-match-ok Inv-loop μ-loop
-shared-slice-read-match-ok c = search needs
-
-mul-match-ok : tie.Need-mul-match-ok Inv-loop μ-loop
-mul-match-ok c = search needs
-
 match-ok-requires : tie.Need-match-ok-requires Inv-loop μ-loop
 match-ok-requires c κs =
     let p = c .before .before in
@@ -49,12 +43,6 @@ returns : tie.Need-returns Inv-loop μ-loop
 returns c =
     let p = c .before .before .before .before in
     sym (each-no _ (p .loop .i + 1) _ (omega arith) (turn (c .before) ∙ not-true _ (c .if1 .taken)))
-
-add-i : tie.Need-add-i Inv-loop μ-loop
-add-i c = search needs
-
-loop-less : tie.Need-loop-less Inv-loop μ-loop
-loop-less c = search needs
 
 loop-again : tie.Need-loop-again Inv-loop μ-loop
 loop-again c = (search needs, turn (c .before) ∙ not-false _ (c .if1 .left))
@@ -72,11 +60,11 @@ each-ok-spec =
     Inv-loop
     μ-loop
     loop-holds
-    shared-slice-read-match-ok
-    mul-match-ok
+    (λ c. search needs)
+    (λ c. search needs)
     match-ok-requires
     returns
-    add-i
-    loop-less
+    (λ c. search needs)
+    (λ c. search needs)
     loop-again
     returns-2)

@@ -28,22 +28,10 @@ turn c =
 loop-holds : tie.Need-loop-holds Inv-loop μ-loop
 loop-holds c = (search needs, each-none _)
 
-mul-four-ok : tie.Need-mul-four-ok Inv-loop μ-loop
-mul-four-ok c = search needs
-
-four-ok-requires : tie.Need-four-ok-requires Inv-loop μ-loop
-four-ok-requires c κs = search needs
-
 returns : tie.Need-returns Inv-loop μ-loop
 returns c =
     let p = c .before .before .before in
     sym (each-no _ (4 * p .loop .i + 4) _ (omega arith) (turn (c .before) ∙ not-true _ (c .if1 .taken)))
-
-add-i : tie.Need-add-i Inv-loop μ-loop
-add-i c = search needs
-
-loop-less : tie.Need-loop-less Inv-loop μ-loop
-loop-less c = search needs
 
 loop-again : tie.Need-loop-again Inv-loop μ-loop
 loop-again c =
@@ -64,10 +52,10 @@ fours-ok-spec =
     Inv-loop
     μ-loop
     loop-holds
-    mul-four-ok
-    four-ok-requires
+    (λ c. search needs)
+    (λ c κs. search needs)
     returns
-    add-i
-    loop-less
+    (λ c. search needs)
+    (λ c. search needs)
     loop-again
     returns-2)

@@ -7,24 +7,6 @@ use borrow.Author.Needs.{needs}
 use Rattle.soundness.proofs.match_ok.Statement.{statement}
 use Rattle.soundness.proofs.match_ok.Tie as tie
 
-chord-len-requires : tie.Need-chord-len-requires
-chord-len-requires c κs = search needs
-
-cast-n : tie.Need-cast-n
-cast-n c = search needs
-
-mul-numbers-below : tie.Need-mul-numbers-below
-mul-numbers-below c = search needs
-
-sub-numbers-below : tie.Need-sub-numbers-below
-sub-numbers-below c = search needs
-
-part-numbers-below-start : tie.Need-part-numbers-below-start
-part-numbers-below-start c = search needs
-
-part-numbers-below-end : tie.Need-part-numbers-below-end
-part-numbers-below-end c = search needs
-
 numbers-below-requires : tie.Need-numbers-below-requires
 numbers-below-requires c κs =
     let s = c .before .before .before .before in
@@ -40,11 +22,11 @@ pub match-ok-spec : {M : Type 1} → statement M
 match-ok-spec =
     tie.close
     (tie.spec
-    chord-len-requires
-    cast-n
-    mul-numbers-below
-    sub-numbers-below
-    part-numbers-below-start
-    part-numbers-below-end
+    (λ c κs. search needs)
+    (λ c. search needs)
+    (λ c. search needs)
+    (λ c. search needs)
+    (λ c. search needs)
+    (λ c. search needs)
     numbers-below-requires
     returns)

@@ -35,22 +35,10 @@ two : (s : tie.Start) (b : Board) → every (matchOk (tableOf (s .args .table .n
     (length (b .messages))))
 two s b = matches-are (s .args .table .now) (s .pre .0) (lent s) (s .args .k) (omega arith) b
 
-chords-len-requires : tie.Need-chords-len-requires
-chords-len-requires c κs = search needs
-
-bytes-below-requires : tie.Need-bytes-below-requires
-bytes-below-requires c κs = search needs
-
 returns : tie.Need-returns
 returns c b e =
     let n = chords-in (c .before) ∙ not-true _ (c .if1 .taken) in
     rw (two (c .before .before .before .before .before .before) b, n)
-
-mul-numbers-below : tie.Need-mul-numbers-below
-mul-numbers-below c = search needs
-
-numbers-below-requires : tie.Need-numbers-below-requires
-numbers-below-requires c κs = search needs
 
 returns-2 : tie.Need-returns-2
 returns-2 c b e =
@@ -77,11 +65,11 @@ pub matches-ok-spec : {M : Type 1} → statement M
 matches-ok-spec =
     tie.close
     (tie.spec
-    chords-len-requires
-    bytes-below-requires
+    (λ c κs. search needs)
+    (λ c κs. search needs)
     returns
-    mul-numbers-below
-    numbers-below-requires
+    (λ c. search needs)
+    (λ c κs. search needs)
     returns-2
     each-ok-requires
     returns-3)

@@ -14,24 +14,6 @@ matched-ok : (c : tie.After-links-ok)
     c .links-ok .result ≡ eachBelow (a .n) (linkOk (a .matched .now) (a .statuses .now) (a .matches) 3)
 matched-ok c = c .links-ok .ensures
 
-channels-len-requires : tie.Need-channels-len-requires
-channels-len-requires c κs = search needs
-
-bytes-below-requires : tie.Need-bytes-below-requires
-bytes-below-requires c κs = search needs
-
-cents-ok-requires : tie.Need-cents-ok-requires
-cents-ok-requires c κs = search needs
-
-bytes-below-requires-2 : tie.Need-bytes-below-requires-2
-bytes-below-requires-2 c κs = search needs
-
-links-ok-requires : tie.Need-links-ok-requires
-links-ok-requires c κs = search needs
-
-links-ok-requires-2 : tie.Need-links-ok-requires-2
-links-ok-requires-2 c κs = search needs
-
 returns : tie.Need-returns
 returns c properties b ms ks =
     let l = c .before .before in
@@ -61,10 +43,10 @@ pub messages-ok-spec : {M : Type 1} → statement M
 messages-ok-spec =
     tie.close
     (tie.spec
-    channels-len-requires
-    bytes-below-requires
-    cents-ok-requires
-    bytes-below-requires-2
-    links-ok-requires
-    links-ok-requires-2
+    (λ c κs. search needs)
+    (λ c κs. search needs)
+    (λ c κs. search needs)
+    (λ c κs. search needs)
+    (λ c κs. search needs)
+    (λ c κs. search needs)
     returns)

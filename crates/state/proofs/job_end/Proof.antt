@@ -7,9 +7,6 @@ use borrow.Author.Needs.{needs}
 use Rattle.state.proofs.job_end.Statement.{statement}
 use Rattle.state.proofs.job_end.Tie as tie
 
-sync-end-requires : tie.Need-sync-end-requires
-sync-end-requires c κs = search needs
-
 returns : tie.Need-returns
 returns c =
     let i = c .before in
@@ -17,9 +14,6 @@ returns c =
     let t = tableOf (a .table .now) in
     λ is eo ec eg. c .sync-end .ensures is ec eg
     ∙ end-by t is (senderIn t (a .d)) (a .subject) _ (eo ∙ i .if1 .taken)
-
-goes-idle-requires : tie.Need-goes-idle-requires
-goes-idle-requires c κs = search needs
 
 returns-2 : tie.Need-returns-2
 returns-2 c =
@@ -29,4 +23,4 @@ returns-2 c =
     λ is eo ec eg. rw (c .goes-idle .ensures) (end-by t is (senderIn t (a .d)) (a .subject) _ (eo ∙ i .if1 .left))
 
 pub job-end-spec : {M : Type 1} → statement M
-job-end-spec = tie.close (tie.spec sync-end-requires returns goes-idle-requires returns-2)
+job-end-spec = tie.close (tie.spec (λ c κs. search needs) returns (λ c κs. search needs) returns-2)

@@ -5,17 +5,11 @@ use borrow.Author.Needs.{needs}
 use Rattle.state.proofs.matched_end.Statement.{statement}
 use Rattle.state.proofs.matched_end.Tie as tie
 
-stays-blocked-requires : tie.Need-stays-blocked-requires
-stays-blocked-requires c κs = search needs
-
 returns : tie.Need-returns
 returns c =
     let i = c .before in
     let d = i .before .args .d in
     λ t. rw (c .stays-blocked .ensures) (matched-none (senderIn t d) (d .matched) (i .if1 .taken))
-
-goes-idle-requires : tie.Need-goes-idle-requires
-goes-idle-requires c κs = search needs
 
 returns-2 : tie.Need-returns-2
 returns-2 c =
@@ -24,4 +18,4 @@ returns-2 c =
     λ t. rw (c .goes-idle .ensures) (matched-some (senderIn t d) (d .matched) (i .if1 .left))
 
 pub matched-end-spec : {M : Type 1} → statement M
-matched-end-spec = tie.close (tie.spec stays-blocked-requires returns goes-idle-requires returns-2)
+matched-end-spec = tie.close (tie.spec (λ c κs. search needs) returns (λ c κs. search needs) returns-2)

@@ -11,9 +11,6 @@ returns : tie.Need-returns
 unfolding more
 returns c = (rw (le-leb 16 (c .before .args .k) (c .if1 .taken)), search needs, search needs)
 
-add-result : tie.Need-add-result
-add-result c = search needs
-
 returns-2 : tie.Need-returns-2
 unfolding more
 returns-2 c =
@@ -21,4 +18,4 @@ returns-2 c =
     (rw (lt-leb 16 k (omega (arith, c .if1 .left))) (add-one k), omega arith, omega (arith, c .if1 .left))
 
 pub more-spec : {M : Type 1} → statement M
-more-spec = tie.close (tie.spec returns add-result returns-2)
+more-spec = tie.close (tie.spec returns (λ c. search needs) returns-2)

@@ -3,11 +3,8 @@ use borrow.Author.Needs.{needs}
 use Rattle.state.proofs.new_pass.Statement.{statement}
 use Rattle.state.proofs.new_pass.Tie as tie
 
-pass-from-requires : tie.Need-pass-from-requires
-pass-from-requires c κs = search needs
-
 returns : tie.Need-returns
 returns c = λ is e. rw e (c .pass-from .ensures)
 
 pub new-pass-spec : {M : Type 1} → statement M
-new-pass-spec = tie.close (tie.spec pass-from-requires returns)
+new-pass-spec = tie.close (tie.spec (λ c κs. search needs) returns)

@@ -11,13 +11,10 @@ add-pass-from c =
     let few = table-ok (s .args .table .now) (s .pre .0) .chords-few in
     search needs
 
-pass-from-requires : tie.Need-pass-from-requires
-pass-from-requires c κs = search needs
-
 returns : tie.Need-returns
 returns c =
     let a = c .before .before .before .args in
     λ b e. rw (e, ← add-one (a .j .chord)) (c .pass-from .ensures)
 
 pub next-chord-spec : {M : Type 1} → statement M
-next-chord-spec = tie.close (tie.spec add-pass-from pass-from-requires returns)
+next-chord-spec = tie.close (tie.spec add-pass-from (λ c κs. search needs) returns)

@@ -6,21 +6,12 @@ use borrow.Author.Needs.{needs}
 use Rattle.state.proofs.rests_then.Statement.{statement}
 use Rattle.state.proofs.rests_then.Tie as tie
 
-new-pass-requires : tie.Need-new-pass-requires
-new-pass-requires c κs = search needs
-
 returns : tie.Need-returns
 returns c =
     let i = c .before in
     let a = i .before .before .args in
     λ b e. c .new-pass .ensures (b .messages) e
     ∙ rests-none (tableOf (a .table .now)) b (a .subject) (a .retries) (a .rests) (i .if1 .taken)
-
-sub-t7 : tie.Need-sub-t7
-sub-t7 c = search needs
-
-job-at-requires : tie.Need-job-at-requires
-job-at-requires c κs = search needs
 
 returns-2 : tie.Need-returns-2
 returns-2 c =
@@ -30,4 +21,11 @@ returns-2 c =
     (rests-some (tableOf (a .table .now)) b (a .subject) (a .retries) (a .rests) (i .if1 .left))
 
 pub rests-then-spec : {M : Type 1} → statement M
-rests-then-spec = tie.close (tie.spec new-pass-requires returns sub-t7 job-at-requires returns-2)
+rests-then-spec =
+    tie.close
+    (tie.spec
+    (λ c κs. search needs)
+    returns
+    (λ c. search needs)
+    (λ c κs. search needs)
+    returns-2)

@@ -7,9 +7,6 @@ use borrow.Author.Needs.{needs}
 use Rattle.state.proofs.sync_end.Statement.{statement}
 use Rattle.state.proofs.sync_end.Tie as tie
 
-matched-end-requires : tie.Need-matched-end-requires
-matched-end-requires c κs = search needs
-
 returns : tie.Need-returns
 returns c =
     let i = c .before in
@@ -17,15 +14,6 @@ returns c =
     let t = tableOf (a .table .now) in
     λ is ec eg. c .matched-end .ensures t
     ∙ waker-none t is (senderIn t (a .d)) (a .subject) (a .d .waker) (i .if1 .taken)
-
-sub-v : tie.Need-sub-v
-sub-v c = search needs
-
-new-pass-requires : tie.Need-new-pass-requires
-new-pass-requires c κs = search needs
-
-in-job-requires : tie.Need-in-job-requires
-in-job-requires c κs = search needs
 
 returns-2 : tie.Need-returns-2
 returns-2 c =
@@ -36,9 +24,6 @@ returns-2 c =
     let t = tableOf (a .table .now) in
     λ is ec eg. rw (c .in-job .ensures, q .new-pass .ensures is ec)
     (waker-some t is (senderIn t (a .d)) (a .subject) (a .d .waker) (a .consumed) _ (o .if1 .left) eg (i .if2 .taken))
-
-matched-end-requires-2 : tie.Need-matched-end-requires-2
-matched-end-requires-2 c κs = search needs
 
 returns-3 : tie.Need-returns-3
 returns-3 c =
@@ -53,11 +38,11 @@ pub sync-end-spec : {M : Type 1} → statement M
 sync-end-spec =
     tie.close
     (tie.spec
-    matched-end-requires
+    (λ c κs. search needs)
     returns
-    sub-v
-    new-pass-requires
-    in-job-requires
+    (λ c. search needs)
+    (λ c κs. search needs)
+    (λ c κs. search needs)
     returns-2
-    matched-end-requires-2
+    (λ c κs. search needs)
     returns-3)

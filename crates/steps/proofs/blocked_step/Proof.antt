@@ -9,33 +9,6 @@ use borrow.Author.Needs.{needs}
 use Rattle.steps.proofs.blocked_step.Statement.{statement}
 use Rattle.steps.proofs.blocked_step.Tie as tie
 
-less-requires : tie.Need-less-requires
-less-requires c κs = search needs
-
-cast-own : tie.Need-cast-own
-cast-own c = search needs
-
-shared-slice-read-resume-step : tie.Need-shared-slice-read-resume-step
-shared-slice-read-resume-step c = search needs
-
-mul-resume-step : tie.Need-mul-resume-step
-mul-resume-step c = search needs
-
-shared-slice-read-resume-step-2 : tie.Need-shared-slice-read-resume-step-2
-shared-slice-read-resume-step-2 c = search needs
-
-mul-resume-step-2 : tie.Need-mul-resume-step-2
-mul-resume-step-2 c = search needs
-
-shared-slice-read-resume-step-3 : tie.Need-shared-slice-read-resume-step-3
-shared-slice-read-resume-step-3 c = search needs
-
-shared-slice-read-resume-step-4 : tie.Need-shared-slice-read-resume-step-4
-shared-slice-read-resume-step-4 c = search needs
-
-resume-step-requires : tie.Need-resume-step-requires
-resume-step-requires c κs = search needs
-
 returns : tie.Need-returns
 returns c =
     let a = c .before .before .before .before .before in
@@ -56,13 +29,13 @@ pub blocked-step-spec : {M : Type 1} → statement M
 blocked-step-spec =
     tie.close
     (tie.spec
-    less-requires
-    cast-own
-    shared-slice-read-resume-step
-    mul-resume-step
-    shared-slice-read-resume-step-2
-    mul-resume-step-2
-    shared-slice-read-resume-step-3
-    shared-slice-read-resume-step-4
-    resume-step-requires
+    (λ c κs. search needs)
+    (λ c. search needs)
+    (λ c. search needs)
+    (λ c. search needs)
+    (λ c. search needs)
+    (λ c. search needs)
+    (λ c. search needs)
+    (λ c. search needs)
+    (λ c κs. search needs)
     returns)

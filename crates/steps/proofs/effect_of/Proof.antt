@@ -10,19 +10,10 @@ use Rattle.steps.proofs.effect_of.Tie as tie
 abbrev start : tie.After-shared-slice-known6 → tie.Start
 start c = c .before .before .before .before .before .before
 
-enum-told : tie.Need-enum-told
-enum-told c = search needs
-
 returns : tie.Need-returns
 returns c =
     let s = start (c .before .before) in
     not-idle (s .args .d) (s .pre .0 .1) (c .enum-told .given .1)
-
-enum-told-2 : tie.Need-enum-told-2
-enum-told-2 c = search needs
-
-job-step-requires : tie.Need-job-step-requires
-job-step-requires c κs = search needs
 
 returns-2 : tie.Need-returns-2
 returns-2 c =
@@ -32,9 +23,6 @@ returns-2 c =
     λ o em eb ea ew. work-is (tableOf (a .table .now))
     (boardBy (a .channels .now) (a .properties .now) (a .statuses .now) (a .n) o) (a .d) (g .enum-told2 .given .1)
     (c .job-step .ensures o em eb)
-
-enum-told-3 : tie.Need-enum-told-3
-enum-told-3 c = search needs
 
 blocked-step-requires : tie.Need-blocked-step-requires
 blocked-step-requires c κs =
@@ -57,4 +45,12 @@ returns-3 c =
 pub effect-of-spec : {M : Type 1} → statement M
 effect-of-spec =
     tie.close
-    (tie.spec enum-told enum-told-2 job-step-requires enum-told-3 blocked-step-requires returns returns-2 returns-3)
+    (tie.spec
+    (λ c. search needs)
+    (λ c. search needs)
+    (λ c κs. search needs)
+    (λ c. search needs)
+    blocked-step-requires
+    returns
+    returns-2
+    returns-3)

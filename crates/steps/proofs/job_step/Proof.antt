@@ -81,9 +81,6 @@ channel-is : (s : tie.Start) (o : Unread)
     → channelOf (board s o) (s .args .d .job .subject) ≡ getD (s .args .channels .now) (s .args .d .job .subject) 0
 channel-is s o = R.channel-read _ _ _ o _ _ (subject-in s)
 
-cast-at : tie.Need-cast-at
-cast-at c = search needs
-
 shared-slice-read-channel : tie.Need-shared-slice-read-channel
 shared-slice-read-channel c =
     let s = entry c in
@@ -95,9 +92,6 @@ shared-slice-read-opened c =
     let s = start c in
     let h = subject-in s in
     omega (arith, s .pre .1 .0 .lent .statuses-all)
-
-enum-known-phase : tie.Need-enum-known-phase
-enum-known-phase c = search needs
 
 look-step-requires : tie.Need-look-step-requires
 look-step-requires c κs =
@@ -114,9 +108,6 @@ returns c =
     let g = q .phase .given in
     λ o em eb. step-is s o (P.Look (g .0 .0)) (g .1)
     (c .look-step .ensures o)
-
-enum-known-phase-2 : tie.Need-enum-known-phase-2
-enum-known-phase-2 c = search needs
 
 is-pending-requires : tie.Need-is-pending-requires
 is-pending-requires c κs =
@@ -148,9 +139,6 @@ returns-2 c =
     (place s (P.Claim (g .0 .0)) (g .1) .0) o (g .0 .0) (place s (P.Claim (g .0 .0)) (g .1) .1)
     ∙ sym (c .before .is-pending .ensures)) em)
 
-enum-known-phase-3 : tie.Need-enum-known-phase-3
-enum-known-phase-3 c = search needs
-
 revert-step-requires : tie.Need-revert-step-requires
 revert-step-requires c κs =
     let q = c .before in
@@ -166,9 +154,6 @@ returns-3 c =
     let g = q .phase3 .given in
     λ o em eb. step-is s o (P.Revert (g .0 .0) (g .0 .1 .0)) (g .1)
     (c .revert-step .ensures (board s o) (channel-is s o))
-
-enum-known-phase-4 : tie.Need-enum-known-phase-4
-enum-known-phase-4 c = search needs
 
 sees-requires : tie.Need-sees-requires
 sees-requires c κs = sees-asks (start (c .before .before .before))
@@ -199,9 +184,6 @@ returns-4 c =
     (c .consume-step .ensures (s .args .properties .now) (s .args .statuses .now) o
     (saw o .sync-is) (saw o .channel-is) (saw o .consumed-is))
 
-enum-known-phase-5 : tie.Need-enum-known-phase-5
-enum-known-phase-5 c = search needs
-
 sees-requires-2 : tie.Need-sees-requires-2
 sees-requires-2 c κs = sees-asks (start (c .before .before .before))
 
@@ -231,9 +213,6 @@ returns-5 c =
     (c .tell-step .ensures (s .args .properties .now) (s .args .statuses .now) o
     (saw o .sync-is) (saw o .channel-is) (saw o .consumed-is))
 
-enum-told : tie.Need-enum-told
-enum-told c = search needs
-
 wake-step-requires : tie.Need-wake-step-requires
 wake-step-requires c κs =
     let s = start (c .before .before) in
@@ -249,9 +228,6 @@ returns-6 c =
     let g = q .enum-told .given in
     λ o em eb. step-is s o P.Wake (g .1)
     (c .wake-step .ensures (board s o))
-
-enum-known-phase-6 : tie.Need-enum-known-phase-6
-enum-known-phase-6 c = search needs
 
 free-step-requires : tie.Need-free-step-requires
 free-step-requires c κs =
@@ -269,9 +245,6 @@ returns-7 c =
     let g = q .phase6 .given in
     λ o em eb. step-is s o (P.Free (g .0 .0)) (g .1)
     (c .free-step .ensures (board s o))
-
-enum-told-2 : tie.Need-enum-told-2
-enum-told-2 c = search needs
 
 sees-requires-3 : tie.Need-sees-requires-3
 sees-requires-3 c κs = sees-asks (start (c .before .before))
@@ -296,14 +269,8 @@ returns-8 c =
     (c .signal-step .ensures (board s o)
     (saw o .sync-is) (saw o .channel-is) (saw o .consumed-is))
 
-enum-told-3 : tie.Need-enum-told-3
-enum-told-3 c = search needs
-
 sees-requires-4 : tie.Need-sees-requires-4
 sees-requires-4 c κs = sees-asks (start (c .before .before))
-
-pass-end-step-requires : tie.Need-pass-end-step-requires
-pass-end-step-requires c κs = search needs
 
 returns-9 : tie.Need-returns-9
 returns-9 c =
@@ -317,12 +284,6 @@ returns-9 c =
     (R.open-read _ _ _ o _ _ (subject-in s))
     (saw o .sync-is) (saw o .channel-is) (saw o .consumed-is))
 
-enum-known-phase-7 : tie.Need-enum-known-phase-7
-enum-known-phase-7 c = search needs
-
-backoff-step-requires : tie.Need-backoff-step-requires
-backoff-step-requires c κs = search needs
-
 returns-10 : tie.Need-returns-10
 returns-10 c =
     let q = c .before .before in
@@ -335,34 +296,34 @@ pub job-step-spec : {M : Type 1} → statement M
 job-step-spec =
     tie.close
     (tie.spec
-    cast-at
+    (λ c. search needs)
     shared-slice-read-channel
     shared-slice-read-opened
-    enum-known-phase
+    (λ c. search needs)
     look-step-requires
-    enum-known-phase-2
+    (λ c. search needs)
     is-pending-requires
     claim-step-requires
-    enum-known-phase-3
+    (λ c. search needs)
     revert-step-requires
-    enum-known-phase-4
+    (λ c. search needs)
     sees-requires
     consume-step-requires
-    enum-known-phase-5
+    (λ c. search needs)
     sees-requires-2
     tell-step-requires
-    enum-told
+    (λ c. search needs)
     wake-step-requires
-    enum-known-phase-6
+    (λ c. search needs)
     free-step-requires
-    enum-told-2
+    (λ c. search needs)
     sees-requires-3
     signal-step-requires
-    enum-told-3
+    (λ c. search needs)
     sees-requires-4
-    pass-end-step-requires
-    enum-known-phase-7
-    backoff-step-requires
+    (λ c κs. search needs)
+    (λ c. search needs)
+    (λ c κs. search needs)
     returns
     returns-2
     returns-3

@@ -6,32 +6,11 @@ use borrow.Author.Needs.{needs}
 use Rattle.steps.proofs.sees.Statement.{statement}
 use Rattle.steps.proofs.sees.Tie as tie
 
-less-requires : tie.Need-less-requires
-less-requires c κs = search needs
-
-cast-own : tie.Need-cast-own
-cast-own c = search needs
-
-less-requires-2 : tie.Need-less-requires-2
-less-requires-2 c κs = search needs
-
-cast-waker : tie.Need-cast-waker
-cast-waker c = search needs
-
-shared-slice-read-is-sync : tie.Need-shared-slice-read-is-sync
-shared-slice-read-is-sync c = search needs
-
 is-sync-requires : tie.Need-is-sync-requires
 is-sync-requires c κs =
     let a = c .before .before in
     let s = a .before .before .before .before in
     (s .pre .0 .0, s .pre .1 .1 _ (omega (arith, a .less .ensures, s .pre .0 .1, s .pre .0 .2)))
-
-shared-slice-read-t11 : tie.Need-shared-slice-read-t11
-shared-slice-read-t11 c = search needs
-
-shared-slice-read-t14 : tie.Need-shared-slice-read-t14
-shared-slice-read-t14 c = search needs
 
 returns : tie.Need-returns
 returns c =
@@ -47,12 +26,12 @@ pub sees-spec : {M : Type 1} → statement M
 sees-spec =
     tie.close
     (tie.spec
-    less-requires
-    cast-own
-    less-requires-2
-    cast-waker
-    shared-slice-read-is-sync
+    (λ c κs. search needs)
+    (λ c. search needs)
+    (λ c κs. search needs)
+    (λ c. search needs)
+    (λ c. search needs)
     is-sync-requires
-    shared-slice-read-t11
-    shared-slice-read-t14
+    (λ c. search needs)
+    (λ c. search needs)
     returns)

@@ -18,12 +18,6 @@ there : (c : tie.Else1) →
     (tableRefusal (a .table .now) ≡ 0) × (a .chord < length (tableOf (a .table .now) .chords))
 there c = chord-there _ _ (sym (c .before .chord-refusal .ensures) ∙ c .if1 .left)
 
-chord-refusal-requires : tie.Need-chord-refusal-requires
-chord-refusal-requires c κs = search needs
-
-slice-aggregate-result : tie.Need-slice-aggregate-result
-slice-aggregate-result c = search needs
-
 returns : tie.Need-returns
 unfolding chordPart
 returns c =
@@ -47,8 +41,8 @@ pub chord-channels-spec : {M : Type 1} → statement M
 chord-channels-spec =
     tie.close
     (tie.spec
-    chord-refusal-requires
-    slice-aggregate-result
+    (λ c κs. search needs)
+    (λ c. search needs)
     returns
     cast-members
     members-requires

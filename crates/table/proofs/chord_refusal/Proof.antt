@@ -12,18 +12,12 @@ use Rattle.table.proofs.chord_refusal.Tie as tie
 none : (c : tie.Else1) → tableRefusal (c .before .before .before .args .table .now) ≡ 0
 none c = sym (c .before .table-refusal .ensures) ∙ c .if1 .left
 
-table-refusal-requires : tie.Need-table-refusal-requires
-table-refusal-requires c κs = search needs
-
 returns : tie.Need-returns
 unfolding chordRefusal
 returns c = let e = c .before .table-refusal .ensures in e ∙ refused-first _ _ (λ z. c .if1 .taken (e ∙ z))
 
 word-at-requires : tie.Need-word-at-requires
 word-at-requires c κs = let k = counts-in _ (none c) in (omega arith, k .long)
-
-cast-r : tie.Need-cast-r
-cast-r c = search needs
 
 returns-2 : tie.Need-returns-2
 unfolding chordRefusal
@@ -41,4 +35,4 @@ returns-3 c =
 
 pub chord-refusal-spec : {M : Type 1} → statement M
 chord-refusal-spec =
-    tie.close (tie.spec table-refusal-requires returns word-at-requires cast-r returns-2 returns-3)
+    tie.close (tie.spec (λ c κs. search needs) returns word-at-requires (λ c. search needs) returns-2 returns-3)

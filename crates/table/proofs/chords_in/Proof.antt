@@ -33,33 +33,12 @@ loop-holds c =
     let z : membersSum (a .n) (a .s .now) ≡ 0 + membersSum (a .n) (a .s .now) = omega arith in
     (search needs, search needs, rw e, rw e z)
 
-mul-at : tie.Need-mul-at Inv-loop μ-loop
-mul-at c = search needs
-
-chord-ok-requires : tie.Need-chord-ok-requires Inv-loop μ-loop
-chord-ok-requires c κs = search needs
-
 returns : tie.Need-returns Inv-loop μ-loop
 returns c =
     let p = c .before .before .before in
     let a = p .before .before .args in
     let e = sym (c .before .chord-ok .ensures) ∙ not-true _ (c .if1 .taken) in
     (sym (p .loop .inv .2 ∙ rw (chords-at (a .s .now) (p .loop .i) (a .n) (omega arith) (p .loop .next), e)), λ z. cc)
-
-add-more : tie.Need-add-more Inv-loop μ-loop
-add-more c = search needs
-
-shared-slice-read-more : tie.Need-shared-slice-read-more Inv-loop μ-loop
-shared-slice-read-more c = search needs
-
-more-requires : tie.Need-more-requires Inv-loop μ-loop
-more-requires c κs = search needs
-
-add-i : tie.Need-add-i Inv-loop μ-loop
-add-i c = search needs
-
-loop-less : tie.Need-loop-less Inv-loop μ-loop
-loop-less c = search needs
 
 loop-again : tie.Need-loop-again Inv-loop μ-loop
 loop-again c =
@@ -88,13 +67,13 @@ chords-in-spec =
     Inv-loop
     μ-loop
     loop-holds
-    mul-at
-    chord-ok-requires
+    (λ c. search needs)
+    (λ c κs. search needs)
     returns
-    add-more
-    shared-slice-read-more
-    more-requires
-    add-i
-    loop-less
+    (λ c. search needs)
+    (λ c. search needs)
+    (λ c κs. search needs)
+    (λ c. search needs)
+    (λ c. search needs)
     loop-again
     returns-2)

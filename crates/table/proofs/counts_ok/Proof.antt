@@ -4,19 +4,10 @@ use borrow.Author.Needs.{needs}
 use Rattle.table.proofs.counts_ok.Statement.{statement}
 use Rattle.table.proofs.counts_ok.Tie as tie
 
-word-at-requires : tie.Need-word-at-requires
-word-at-requires c κs = search needs
-
-word-at-requires-2 : tie.Need-word-at-requires-2
-word-at-requires-2 c κs = search needs
-
-word-at-requires-3 : tie.Need-word-at-requires-3
-word-at-requires-3 c κs = search needs
-
 returns : tie.Need-returns
 unfolding countsOk
 returns c = rw (c .before .before .word-at .ensures, c .before .word-at2 .ensures, c .word-at3 .ensures)
 
 pub counts-ok-spec : {M : Type 1} → statement M
 counts-ok-spec =
-    tie.close (tie.spec word-at-requires word-at-requires-2 word-at-requires-3 returns)
+    tie.close (tie.spec (λ c κs. search needs) (λ c κs. search needs) (λ c κs. search needs) returns)

@@ -9,21 +9,6 @@ use Rattle.table.proofs.entry_byte.Tie as tie
 word-at-requires : tie.Need-word-at-requires
 word-at-requires c κs = let k = counts-in _ (c .before .pre .0) in (omega arith, k .long)
 
-cast-t : tie.Need-cast-t
-cast-t c = search needs
-
-add-result : tie.Need-add-result
-add-result c = search needs
-
-mul-result : tie.Need-mul-result
-mul-result c = search needs
-
-add-result-2 : tie.Need-add-result-2
-add-result-2 c = search needs
-
-add-result-3 : tie.Need-add-result-3
-add-result-3 c = search needs
-
 shared-slice-read-result : tie.Need-shared-slice-read-result
 shared-slice-read-result c =
     let w = c .before in
@@ -39,10 +24,10 @@ entry-byte-spec =
     tie.close
     (tie.spec
     word-at-requires
-    cast-t
-    add-result
-    mul-result
-    add-result-2
-    add-result-3
+    (λ c. search needs)
+    (λ c. search needs)
+    (λ c. search needs)
+    (λ c. search needs)
+    (λ c. search needs)
     shared-slice-read-result
     returns)

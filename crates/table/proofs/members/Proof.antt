@@ -17,23 +17,8 @@ within c =
     rw (c .before .chord-start .ensures, c .chord-len .ensures, size-is t q (s .pre .0) (s .pre .1))
     (part-in t q (s .pre .0) (s .pre .1))
 
-chord-start-requires : tie.Need-chord-start-requires
-chord-start-requires c κs = search needs
-
-chord-len-requires : tie.Need-chord-len-requires
-chord-len-requires c κs = search needs
-
-cast-len : tie.Need-cast-len
-cast-len c = search needs
-
 add-end : tie.Need-add-end
 add-end c = omega (arith, within c)
-
-sub-result : tie.Need-sub-result
-sub-result c = search needs
-
-part-result-start : tie.Need-part-result-start
-part-result-start c = search needs
 
 part-result-end : tie.Need-part-result-end
 part-result-end c = omega (arith, within c)
@@ -59,11 +44,11 @@ pub members-spec : {M : Type 1} → statement M
 members-spec =
     tie.close
     (tie.spec
-    chord-start-requires
-    chord-len-requires
-    cast-len
+    (λ c κs. search needs)
+    (λ c κs. search needs)
+    (λ c. search needs)
     add-end
-    sub-result
-    part-result-start
+    (λ c. search needs)
+    (λ c. search needs)
     part-result-end
     returns)

@@ -5,39 +5,6 @@ use borrow.Author.Needs.{needs}
 use Rattle.table.proofs.members_ok.Statement.{statement}
 use Rattle.table.proofs.members_ok.Tie as tie
 
-word-at-requires : tie.Need-word-at-requires
-word-at-requires c κs = search needs
-
-word-at-requires-2 : tie.Need-word-at-requires-2
-word-at-requires-2 c κs = search needs
-
-mul-start : tie.Need-mul-start
-mul-start c = search needs
-
-add-start : tie.Need-add-start
-add-start c = search needs
-
-add-start-2 : tie.Need-add-start-2
-add-start-2 c = search needs
-
-cast-start : tie.Need-cast-start
-cast-start c = search needs
-
-sub-all-below : tie.Need-sub-all-below
-sub-all-below c = search needs
-
-part-all-below-start : tie.Need-part-all-below-start
-part-all-below-start c = search needs
-
-part-all-below-end : tie.Need-part-all-below-end
-part-all-below-end c = search needs
-
-cast-all-below : tie.Need-cast-all-below
-cast-all-below c = search needs
-
-all-below-requires : tie.Need-all-below-requires
-all-below-requires c κs = search needs
-
 returns : tie.Need-returns
 unfolding membersOk
 returns c =
@@ -48,15 +15,15 @@ pub members-ok-spec : {M : Type 1} → statement M
 members-ok-spec =
     tie.close
     (tie.spec
-    word-at-requires
-    word-at-requires-2
-    mul-start
-    add-start
-    add-start-2
-    cast-start
-    sub-all-below
-    part-all-below-start
-    part-all-below-end
-    cast-all-below
-    all-below-requires
+    (λ c κs. search needs)
+    (λ c κs. search needs)
+    (λ c. search needs)
+    (λ c. search needs)
+    (λ c. search needs)
+    (λ c. search needs)
+    (λ c. search needs)
+    (λ c. search needs)
+    (λ c. search needs)
+    (λ c. search needs)
+    (λ c κs. search needs)
     returns)

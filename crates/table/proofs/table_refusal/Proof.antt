@@ -97,9 +97,6 @@ returns : tie.Need-returns
 unfolding tableRefusal
 returns c = rw (lt-leb 12 (length (c .before .before .args .bytes .now)) (c .if1 .taken))
 
-counts-ok-requires : tie.Need-counts-ok-requires
-counts-ok-requires c κs = search needs
-
 returns-2 : tie.Need-returns-2
 returns-2 c = rw (left1 (c .before .before), sym (c .before .counts-ok .ensures) ∙ not-true _ (c .if2 .taken))
 
@@ -123,9 +120,6 @@ returns-5 c =
     let f = c .before .before in
     rw (left4 (f .before), sym (f .chords-found .ensures .0) ∙ not-true _ (c .if5 .taken))
 
-word-at-requires : tie.Need-word-at-requires
-word-at-requires c κs = search needs
-
 returns-6 : tie.Need-returns-6
 returns-6 c =
     let w = c .before .before in
@@ -147,7 +141,7 @@ table-refusal-spec =
     tie.close
     (tie.spec
     returns
-    counts-ok-requires
+    (λ c κs. search needs)
     returns-2
     offsets-ok-requires
     returns-3
@@ -155,7 +149,7 @@ table-refusal-spec =
     returns-4
     chords-found-requires
     returns-5
-    word-at-requires
+    (λ c κs. search needs)
     returns-6
     members-ok-requires
     returns-7

@@ -10,41 +10,17 @@ Inv-loop i channels₀ k₀ channels k = k ≤ 8
 abbrev μ-loop : tie.MeasureT-loop
 μ-loop i channels₀ k₀ channels k = 8 - k
 
-loop-holds : tie.Need-loop-holds Inv-loop μ-loop
-loop-holds c = search needs
-
-cast-at : tie.Need-cast-at Inv-loop μ-loop
-cast-at c = search needs
-
-add-channels : tie.Need-add-channels Inv-loop μ-loop
-add-channels c = search needs
-
-array-write-channels : tie.Need-array-write-channels Inv-loop μ-loop
-array-write-channels c = search needs
-
-add-k : tie.Need-add-k Inv-loop μ-loop
-add-k c = search needs
-
-loop-less : tie.Need-loop-less Inv-loop μ-loop
-loop-less c = search needs
-
-loop-again : tie.Need-loop-again Inv-loop μ-loop
-loop-again c = search needs
-
-returns : tie.Need-returns Inv-loop μ-loop
-returns c = search needs
-
 pub full-chord-spec : {M : Type 1} → statement M
 full-chord-spec =
     tie.close
     (tie.spec
     Inv-loop
     μ-loop
-    loop-holds
-    cast-at
-    add-channels
-    array-write-channels
-    add-k
-    loop-less
-    loop-again
-    returns)
+    (λ c. search needs)
+    (λ c. search needs)
+    (λ c. search needs)
+    (λ c. search needs)
+    (λ c. search needs)
+    (λ c. search needs)
+    (λ c. search needs)
+    (λ c. search needs))

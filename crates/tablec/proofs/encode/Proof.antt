@@ -6,14 +6,8 @@ use Rattle.tablec.proofs.Written.{encoded}
 use Rattle.tablec.proofs.encode.Statement.{statement}
 use Rattle.tablec.proofs.encode.Tie as tie
 
-write-table-requires : tie.Need-write-table-requires
-write-table-requires c κs = search needs
-
 returns : tie.Need-returns
 returns c = (counts 0 (c .before .write-table .last .1 .0) (search needs), λ z. absurd (z refl))
-
-table-len-requires : tie.Need-table-len-requires
-table-len-requires c κs = search needs
 
 returns-2 : tie.Need-returns-2
 returns-2 c =
@@ -25,4 +19,4 @@ returns-2 c =
     (r .0, λ _. r .1)
 
 pub encode-spec : {M : Type 1} → statement M
-encode-spec = tie.close (tie.spec write-table-requires returns table-len-requires returns-2)
+encode-spec = tie.close (tie.spec (λ c κs. search needs) returns (λ c κs. search needs) returns-2)

@@ -31,14 +31,8 @@ after c = c .merge-tables .last .1 .1 .1 .0
 number : (c : tie.After-merge-tables) → c .merge-tables .result ≡ mergeRefusal (first c) (second c) (bytes c)
 number c = c .merge-tables .ensures .0 ∙ number-is (first c) (second c) (bytes c) (buffer c) (search needs)
 
-merge-tables-requires : tie.Need-merge-tables-requires
-merge-tables-requires c κs = search needs
-
 returns : tie.Need-returns
 returns c = (number (c .before), (counts 0 (after (c .before)) (search needs), λ z. absurd (c .if1 .taken z)))
-
-table-len-requires : tie.Need-table-len-requires
-table-len-requires c κs = search needs
 
 returns-2 : tie.Need-returns-2
 returns-2 c =
@@ -51,4 +45,4 @@ returns-2 c =
     (sym z ∙ number p, (r .0, λ _. r .1))
 
 pub merge-spec : {M : Type 1} → statement M
-merge-spec = tie.close (tie.spec merge-tables-requires returns table-len-requires returns-2)
+merge-spec = tie.close (tie.spec (λ c κs. search needs) returns (λ c κs. search needs) returns-2)

@@ -18,17 +18,8 @@ eight s = simp length-map at (s .good .1 .0 .1 .1 .1 .1 .1 .1 .1 .1 .0 .1 .1 .1 
 few : (s : tie.Start) → size (tableOf (s .args .table .now)) (s .args .d .job .chord) ≤ 8
 few s = table-ok (s .args .table .now) (s .pre .0 .0) .chord-few (s .args .d .job .chord) (s .pre .0 .1)
 
-first-sync-requires : tie.Need-first-sync-requires
-first-sync-requires c κs = search needs
-
 skip-requires : tie.Need-skip-requires
 skip-requires c κs = let s = c .before .before .before in let l = few s in omega (arith, s .pre .1 .1)
-
-cast-x : tie.Need-cast-x
-cast-x c = search needs
-
-mul-x : tie.Need-mul-x
-mul-x c = search needs
 
 element-copy-out-x : tie.Need-element-copy-out-x
 element-copy-out-x c =
@@ -40,23 +31,11 @@ element-copy-out-x c =
     let u : c .skip .result < n = rw (c .skip .ensures) (skip-under f (s .args .k) n (s .pre .1 .1)) in
     omega arith
 
-chord-len-requires : tie.Need-chord-len-requires
-chord-len-requires c κs = search needs
-
-add-freeing : tie.Need-add-freeing
-add-freeing c = search needs
-
 freeing-requires : tie.Need-freeing-requires
 freeing-requires c κs =
     let s = c .before .before .before .before .before .before in
     let l = few s in
     omega (arith, s .pre .1 .1)
-
-in-phase-requires : tie.Need-in-phase-requires
-in-phase-requires c κs = search needs
-
-works-requires : tie.Need-works-requires
-works-requires c κs = search needs
 
 returns : tie.Need-returns
 returns c =
@@ -76,14 +55,14 @@ pub free-step-spec : {M : Type 1} → statement M
 free-step-spec =
     tie.close
     (tie.spec
-    first-sync-requires
+    (λ c κs. search needs)
     skip-requires
-    cast-x
-    mul-x
+    (λ c. search needs)
+    (λ c. search needs)
     element-copy-out-x
-    chord-len-requires
-    add-freeing
+    (λ c κs. search needs)
+    (λ c. search needs)
     freeing-requires
-    in-phase-requires
-    works-requires
+    (λ c κs. search needs)
+    (λ c κs. search needs)
     returns)

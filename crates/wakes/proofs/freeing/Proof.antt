@@ -7,9 +7,6 @@ use borrow.Author.Needs.{needs}
 use Rattle.wakes.proofs.freeing.Statement.{statement}
 use Rattle.wakes.proofs.freeing.Tie as tie
 
-add-if1 : tie.Need-add-if1
-add-if1 c = search needs
-
 returns : tie.Need-returns
 returns c = let a = c .before .args in (rw (le-leb (a .k + 2) (a .n) (c .if1 .taken)), λ m. refl)
 
@@ -17,4 +14,4 @@ returns-2 : tie.Need-returns-2
 returns-2 c = let a = c .before .args in (rw (lt-leb (a .k + 2) (a .n) (omega (arith, c .if1 .left))), λ m. refl)
 
 pub freeing-spec : {M : Type 1} → statement M
-freeing-spec = tie.close (tie.spec add-if1 returns returns-2)
+freeing-spec = tie.close (tie.spec (λ c. search needs) returns returns-2)

@@ -10,9 +10,6 @@ woken-of-requires c κs =
     let s = c .before .before in
     (s .pre .0, (s .pre .1 .1, rw (s .pre .1 .0)))
 
-job-end-requires : tie.Need-job-end-requires
-job-end-requires c κs = search needs
-
 returns : tie.Need-returns
 returns c =
     let w = c .before in
@@ -21,4 +18,4 @@ returns c =
     (w .woken-of .ensures) (c .job-end .ensures (b .messages) es ew eg)
 
 pub signal-step-spec : {M : Type 1} → statement M
-signal-step-spec = tie.close (tie.spec woken-of-requires job-end-requires returns)
+signal-step-spec = tie.close (tie.spec woken-of-requires (λ c κs. search needs) returns)

@@ -8,11 +8,8 @@ use Rattle.wakes.proofs.skip.Tie as tie
 returns : tie.Need-returns
 returns c = skip-low (c .before .args .f) (c .before .args .k) (c .if1 .taken)
 
-add-result : tie.Need-add-result
-add-result c = search needs
-
 returns-2 : tie.Need-returns-2
 returns-2 c = skip-high (c .before .args .f) (c .before .args .k) (omega (arith, c .if1 .left))
 
 pub skip-spec : {M : Type 1} → statement M
-skip-spec = tie.close (tie.spec returns add-result returns-2)
+skip-spec = tie.close (tie.spec returns (λ c. search needs) returns-2)

@@ -17,18 +17,6 @@ woken-of-requires c κs =
     let s = c .before .before in
     (s .pre .0, (s .pre .1 .1, rw (s .pre .1 .0)))
 
-chord-len-requires : tie.Need-chord-len-requires
-chord-len-requires c κs = search needs
-
-freeing-requires : tie.Need-freeing-requires
-freeing-requires c κs = search needs
-
-in-phase-requires : tie.Need-in-phase-requires
-in-phase-requires c κs = search needs
-
-works-requires : tie.Need-works-requires
-works-requires c κs = search needs
-
 returns : tie.Need-returns
 returns c =
     let q = c .before in
@@ -48,8 +36,8 @@ wake-step-spec =
     tie.close
     (tie.spec
     woken-of-requires
-    chord-len-requires
-    freeing-requires
-    in-phase-requires
-    works-requires
+    (λ c κs. search needs)
+    (λ c κs. search needs)
+    (λ c κs. search needs)
+    (λ c κs. search needs)
     returns)

@@ -9,15 +9,6 @@ use borrow.Author.Needs.{needs}
 use Rattle.wakes.proofs.woken_of.Statement.{statement}
 use Rattle.wakes.proofs.woken_of.Tie as tie
 
-first-sync-requires : tie.Need-first-sync-requires
-first-sync-requires c κs = search needs
-
-cast-result : tie.Need-cast-result
-cast-result c = search needs
-
-mul-result : tie.Need-mul-result
-mul-result c = search needs
-
 array-read-result : tie.Need-array-read-result
 array-read-result c =
     let q = c .before in
@@ -38,4 +29,4 @@ returns c =
 
 pub woken-of-spec : {M : Type 1} → statement M
 woken-of-spec =
-    tie.close (tie.spec first-sync-requires cast-result mul-result array-read-result returns)
+    tie.close (tie.spec (λ c κs. search needs) (λ c. search needs) (λ c. search needs) array-read-result returns)

@@ -15,17 +15,11 @@ fits s =
     let l : length (s .args .chord .channels) ≡ 8 = simp length-map at (s .good .0 .1 .1 .0 .1 .0 .1) in
     omega arith
 
-cast-len : tie.Need-cast-len
-cast-len c = search needs
-
 array-share-prefix-channels : tie.Need-array-share-prefix-channels
 array-share-prefix-channels c = fits (c .before .before)
 
 slice-aggregate-all-below : tie.Need-slice-aggregate-all-below
 slice-aggregate-all-below c = sym (length-take-le _ _ (fits (c .before .before .before)))
-
-all-below-requires : tie.Need-all-below-requires
-all-below-requires c κs = search needs
 
 returns : tie.Need-returns
 unfolding membersOk
@@ -37,8 +31,8 @@ pub channels-below-spec : {M : Type 1} → statement M
 channels-below-spec =
     tie.close
     (tie.spec
-    cast-len
+    (λ c. search needs)
     array-share-prefix-channels
     slice-aggregate-all-below
-    all-below-requires
+    (λ c κs. search needs)
     returns)

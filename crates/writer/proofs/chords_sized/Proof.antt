@@ -22,18 +22,6 @@ Inv-loop table n i₀ i =
 abbrev μ-loop : tie.MeasureT-loop
 μ-loop table n i₀ i = n - i
 
-loop-holds : tie.Need-loop-holds Inv-loop μ-loop
-loop-holds c = search needs
-
-cast-k : tie.Need-cast-k Inv-loop μ-loop
-cast-k c = search needs
-
-mul-c : tie.Need-mul-c Inv-loop μ-loop
-mul-c c = search needs
-
-element-copy-out-c : tie.Need-element-copy-out-c Inv-loop μ-loop
-element-copy-out-c c = search needs
-
 returns : tie.Need-returns Inv-loop μ-loop
 returns c =
     let p = c .before .before .before in
@@ -41,12 +29,6 @@ returns c =
     let x = getD (t .chords) (p .loop .i) zeroChord in
     let e : sized (chordIn x) ≡ false = sized-is x ∙ not-true _ (c .if1 .taken) in
     sym (p .loop .inv .2 ∙ rw (chords-left t (p .loop .i) (omega arith), e))
-
-add-i : tie.Need-add-i Inv-loop μ-loop
-add-i c = search needs
-
-loop-less : tie.Need-loop-less Inv-loop μ-loop
-loop-less c = search needs
 
 loop-again : tie.Need-loop-again Inv-loop μ-loop
 loop-again c =
@@ -67,12 +49,12 @@ chords-sized-spec =
     (tie.spec
     Inv-loop
     μ-loop
-    loop-holds
-    cast-k
-    mul-c
-    element-copy-out-c
+    (λ c. search needs)
+    (λ c. search needs)
+    (λ c. search needs)
+    (λ c. search needs)
     returns
-    add-i
-    loop-less
+    (λ c. search needs)
+    (λ c. search needs)
     loop-again
     returns-2)

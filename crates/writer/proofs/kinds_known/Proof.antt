@@ -15,17 +15,11 @@ fits s =
     let l : length (s .args .table .kinds) ≡ 16 = simp length-map at (s .good .0 .1 .1 .0 .1 .0 .1) in
     omega arith
 
-cast-n : tie.Need-cast-n
-cast-n c = search needs
-
 array-share-prefix-kinds : tie.Need-array-share-prefix-kinds
 array-share-prefix-kinds c = fits (c .before .before)
 
 slice-aggregate-all-below : tie.Need-slice-aggregate-all-below
 slice-aggregate-all-below c = sym (length-take-le _ _ (fits (c .before .before .before)))
-
-all-below-requires : tie.Need-all-below-requires
-all-below-requires c κs = search needs
 
 returns : tie.Need-returns
 returns c =
@@ -35,4 +29,4 @@ returns c =
 pub kinds-known-spec : {M : Type 1} → statement M
 kinds-known-spec =
     tie.close
-    (tie.spec cast-n array-share-prefix-kinds slice-aggregate-all-below all-below-requires returns)
+    (tie.spec (λ c. search needs) array-share-prefix-kinds slice-aggregate-all-below (λ c κs. search needs) returns)

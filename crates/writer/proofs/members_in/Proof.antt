@@ -26,15 +26,6 @@ loop-holds : tie.Need-loop-holds Inv-loop μ-loop
 unfolding membersWritten
 loop-holds c = (search needs, search needs, rw (length-kinds-in (c .args .t1)))
 
-cast-k : tie.Need-cast-k Inv-loop μ-loop
-cast-k c = search needs
-
-mul-c : tie.Need-mul-c Inv-loop μ-loop
-mul-c c = search needs
-
-element-copy-out-c : tie.Need-element-copy-out-c Inv-loop μ-loop
-element-copy-out-c c = search needs
-
 channels-below-requires : tie.Need-channels-below-requires Inv-loop μ-loop
 channels-below-requires c κs =
     let p = c .before .before in
@@ -45,12 +36,6 @@ returns c =
     let p = c .before .before .before .before in
     let e = sym (c .before .channels-below .ensures) ∙ not-true _ (c .if1 .taken) in
     sym (p .loop .inv .2 ∙ rw (chords-left (p .before .args .t1) (p .loop .i) (omega arith), e))
-
-add-i : tie.Need-add-i Inv-loop μ-loop
-add-i c = search needs
-
-loop-less : tie.Need-loop-less Inv-loop μ-loop
-loop-less c = search needs
 
 loop-again : tie.Need-loop-again Inv-loop μ-loop
 loop-again c =
@@ -73,12 +58,12 @@ members-in-spec =
     Inv-loop
     μ-loop
     loop-holds
-    cast-k
-    mul-c
-    element-copy-out-c
+    (λ c. search needs)
+    (λ c. search needs)
+    (λ c. search needs)
     channels-below-requires
     returns
-    add-i
-    loop-less
+    (λ c. search needs)
+    (λ c. search needs)
     loop-again
     returns-2)

@@ -14,9 +14,6 @@ fits s =
     let l : length (s .args .chord .channels) ≡ 8 = simp length-map at (s .good .0 .1 .1 .0 .1 .0 .1) in
     omega (arith, s .pre .0)
 
-cast-len : tie.Need-cast-len
-cast-len c = search needs
-
 array-share-prefix-channels : tie.Need-array-share-prefix-channels
 array-share-prefix-channels c = fits (c .before .before .before .before)
 
@@ -28,9 +25,6 @@ put-bytes-requires c κs =
     let s = c .before .before .before .before .before in
     rw (length-take-le (s .args .chord .len) (s .args .chord .channels) (fits s)) (s .pre .1)
 
-same-length : tie.Need-same-length
-same-length c = search needs
-
 returns : tie.Need-returns
 returns c =
     let b = c .before .before in
@@ -41,9 +35,9 @@ pub put-channels-spec : {M : Type 1} → statement M
 put-channels-spec =
     tie.close
     (tie.spec
-    cast-len
+    (λ c. search needs)
     array-share-prefix-channels
     slice-aggregate-put-bytes
     put-bytes-requires
-    same-length
+    (λ c. search needs)
     returns)

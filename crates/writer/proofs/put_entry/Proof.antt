@@ -8,26 +8,8 @@ use borrow.Author.Needs.{needs}
 use Rattle.writer.proofs.put_entry.Statement.{statement}
 use Rattle.writer.proofs.put_entry.Tie as tie
 
-put-two-requires : tie.Need-put-two-requires
-put-two-requires c κs = search needs
-
-add-out : tie.Need-add-out
-add-out c = search needs
-
-slice-write-out : tie.Need-slice-write-out
-slice-write-out c = search needs
-
-cast-out : tie.Need-cast-out
-cast-out c = search needs
-
-add-out-2 : tie.Need-add-out-2
-add-out-2 c = search needs
-
 slice-write-out-2 : tie.Need-slice-write-out-2
 slice-write-out-2 c = rw length-set (search needs)
-
-same-length : tie.Need-same-length
-same-length c = search needs
 
 returns : tie.Need-returns
 returns c =
@@ -40,11 +22,11 @@ pub put-entry-spec : {M : Type 1} → statement M
 put-entry-spec =
     tie.close
     (tie.spec
-    put-two-requires
-    add-out
-    slice-write-out
-    cast-out
-    add-out-2
+    (λ c κs. search needs)
+    (λ c. search needs)
+    (λ c. search needs)
+    (λ c. search needs)
+    (λ c. search needs)
     slice-write-out-2
-    same-length
+    (λ c. search needs)
     returns)

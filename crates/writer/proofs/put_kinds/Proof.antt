@@ -14,9 +14,6 @@ fits s =
     let l : length (s .args .table .kinds) ≡ 16 = simp length-map at (s .good .0 .1 .1 .0 .1 .0 .1) in
     omega (arith, s .pre .0)
 
-cast-n : tie.Need-cast-n
-cast-n c = search needs
-
 array-share-prefix-kinds : tie.Need-array-share-prefix-kinds
 array-share-prefix-kinds c = fits (c .before .before .before .before)
 
@@ -28,9 +25,6 @@ put-bytes-requires c κs =
     let s = c .before .before .before .before .before in
     rw (length-take-le (s .args .table .«kinds_len») (s .args .table .kinds) (fits s)) (s .pre .1)
 
-same-length : tie.Need-same-length
-same-length c = search needs
-
 returns : tie.Need-returns
 returns c =
     let b = c .before .before in
@@ -41,9 +35,9 @@ pub put-kinds-spec : {M : Type 1} → statement M
 put-kinds-spec =
     tie.close
     (tie.spec
-    cast-n
+    (λ c. search needs)
     array-share-prefix-kinds
     slice-aggregate-put-bytes
     put-bytes-requires
-    same-length
+    (λ c. search needs)
     returns)

@@ -26,15 +26,6 @@ abbrev μ-loop : tie.MeasureT-loop
 loop-holds : tie.Need-loop-holds Inv-loop μ-loop
 loop-holds c = (search needs, search needs, refl, c .before .pre .room, refl)
 
-cast-k : tie.Need-cast-k Inv-loop μ-loop
-cast-k c = search needs
-
-mul-c : tie.Need-mul-c Inv-loop μ-loop
-mul-c c = search needs
-
-element-copy-out-c : tie.Need-element-copy-out-c Inv-loop μ-loop
-element-copy-out-c c = search needs
-
 put-channels-requires : tie.Need-put-channels-requires Inv-loop μ-loop
 put-channels-requires c κs =
     let p = c .before .before .before in
@@ -42,20 +33,11 @@ put-channels-requires c κs =
     let l = members-left (s .args .t1) (p .loop .i) (omega arith) in
     (sized-at (s .args .t1) (p .loop .i) (s .pre .all-sized) (omega arith), omega arith)
 
-cast-next : tie.Need-cast-next Inv-loop μ-loop
-cast-next c = search needs
-
 add-next : tie.Need-add-next Inv-loop μ-loop
 add-next c =
     let p = c .before .before .before .before .before .before .before in
     let l = members-left (p .before .before .args .t1) (p .loop .i) (omega arith) in
     omega arith
-
-add-i : tie.Need-add-i Inv-loop μ-loop
-add-i c = search needs
-
-loop-less : tie.Need-loop-less Inv-loop μ-loop
-loop-less c = search needs
 
 loop-again : tie.Need-loop-again Inv-loop μ-loop
 loop-again c =
@@ -70,9 +52,6 @@ loop-again c =
     let f = members-next (a .t1) i (omega arith) (p .loop .out) (p .loop .next) in
     (search needs, search needs, rw (s, length-sets) (p .loop .inv .2), omega arith, rw s (sym f ∙ p .loop .inv .4))
 
-same-length : tie.Need-same-length Inv-loop μ-loop
-same-length c = search needs
-
 returns : tie.Need-returns Inv-loop μ-loop
 returns c =
     let p = c .before in
@@ -86,14 +65,14 @@ put-members-spec =
     Inv-loop
     μ-loop
     loop-holds
-    cast-k
-    mul-c
-    element-copy-out-c
+    (λ c. search needs)
+    (λ c. search needs)
+    (λ c. search needs)
     put-channels-requires
-    cast-next
+    (λ c. search needs)
     add-next
-    add-i
-    loop-less
+    (λ c. search needs)
+    (λ c. search needs)
     loop-again
-    same-length
+    (λ c. search needs)
     returns)

@@ -57,9 +57,6 @@ returns c =
     let t = c .before .args .table in
     rw (refusal-written (tableIn t), counts-many t (c .if1 .taken))
 
-members-len-requires : tie.Need-members-len-requires
-members-len-requires c κs = search needs
-
 returns-2 : tie.Need-returns-2
 returns-2 c =
     let l = c .before in
@@ -75,9 +72,6 @@ kinds-known-requires c κs =
 
 returns-3 : tie.Need-returns-3
 returns-3 c = rw (left2 (c .before .before), sym (c .before .kinds-known .ensures) ∙ not-true _ (c .if3 .taken))
-
-chords-sized-requires : tie.Need-chords-sized-requires
-chords-sized-requires c κs = search needs
 
 returns-4 : tie.Need-returns-4
 returns-4 c = rw (left3 (c .before .before), sym (c .before .chords-sized .ensures) ∙ not-true _ (c .if4 .taken))
@@ -96,11 +90,11 @@ value-refusal-spec =
     tie.close
     (tie.spec
     returns
-    members-len-requires
+    (λ c κs. search needs)
     returns-2
     kinds-known-requires
     returns-3
-    chords-sized-requires
+    (λ c κs. search needs)
     returns-4
     members-in-requires
     returns-5

@@ -13,9 +13,6 @@ use Rattle.writer.proofs.write_table.Tie as tie
 none : (c : tie.Else1) → tableRefusal (tableBytes (tableIn (c .before .before .before .args .table))) ≡ 0
 none c = sym (c .before .value-refusal .ensures) ∙ c .if1 .left
 
-value-refusal-requires : tie.Need-value-refusal-requires
-value-refusal-requires c κs = search needs
-
 returns : tie.Need-returns
 returns c =
     let s = c .before .before .before in
@@ -23,29 +20,8 @@ returns c =
     let r = value-refused v (s .args .out .now) _ (c .before .value-refusal .ensures) (c .if1 .taken) in
     (r, as-found v (s .args .out .now) _ r (c .if1 .taken))
 
-cast-t : tie.Need-cast-t
-cast-t c = search needs
-
-cast-r : tie.Need-cast-r
-cast-r c = search needs
-
 members-len-requires : tie.Need-members-len-requires
 members-len-requires c κs = kept _ (none (c .before .before)) .chords-few
-
-add-if2 : tie.Need-add-if2
-add-if2 c = search needs
-
-mul-if2 : tie.Need-mul-if2
-mul-if2 c = search needs
-
-add-if2-2 : tie.Need-add-if2-2
-add-if2-2 c = search needs
-
-cast-if2 : tie.Need-cast-if2
-cast-if2 c = search needs
-
-add-if2-3 : tie.Need-add-if2-3
-add-if2-3 c = search needs
 
 returns-2 : tie.Need-returns-2
 returns-2 c =
@@ -69,9 +45,6 @@ put-table-requires c κs =
       room = c .before .if2 .left;
     }
 
-same-length : tie.Need-same-length
-same-length c = search needs
-
 returns-3 : tie.Need-returns-3
 returns-3 c =
     let b = c .before .before in
@@ -87,17 +60,17 @@ pub write-table-spec : {M : Type 1} → statement M
 write-table-spec =
     tie.close
     (tie.spec
-    value-refusal-requires
+    (λ c κs. search needs)
     returns
-    cast-t
-    cast-r
+    (λ c. search needs)
+    (λ c. search needs)
     members-len-requires
-    add-if2
-    mul-if2
-    add-if2-2
-    cast-if2
-    add-if2-3
+    (λ c. search needs)
+    (λ c. search needs)
+    (λ c. search needs)
+    (λ c. search needs)
+    (λ c. search needs)
     returns-2
     put-table-requires
-    same-length
+    (λ c. search needs)
     returns-3)

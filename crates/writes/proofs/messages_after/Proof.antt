@@ -3,14 +3,8 @@ use borrow.Author.Needs.{needs}
 use Rattle.writes.proofs.messages_after.Statement.{statement}
 use Rattle.writes.proofs.messages_after.Tie as tie
 
-add-result : tie.Need-add-result
-add-result c = search needs
-
 returns : tie.Need-returns
 returns c = rw (c .if1 .taken)
 
-returns-2 : tie.Need-returns-2
-returns-2 c = search needs
-
 pub messages-after-spec : {M : Type 1} → statement M
-messages-after-spec = tie.close (tie.spec add-result returns returns-2)
+messages-after-spec = tie.close (tie.spec (λ c. search needs) returns (λ c. search needs))

@@ -5,18 +5,6 @@ use Rattle.writes.proofs.StartLaws.{passed-more}
 use Rattle.writes.proofs.past_consumed.Statement.{statement}
 use Rattle.writes.proofs.past_consumed.Tie as tie
 
-returns : tie.Need-returns
-returns c = search needs
-
-shared-slice-read-if2 : tie.Need-shared-slice-read-if2
-shared-slice-read-if2 c = search needs
-
-returns-2 : tie.Need-returns-2
-returns-2 c = search needs
-
-add-result : tie.Need-add-result
-add-result c = search needs
-
 returns-3 : tie.Need-returns-3
 returns-3 c =
     let a = c .before .before .before .args in
@@ -24,4 +12,4 @@ returns-3 c =
 
 pub past-consumed-spec : {M : Type 1} → statement M
 past-consumed-spec =
-    tie.close (tie.spec returns shared-slice-read-if2 returns-2 add-result returns-3)
+    tie.close (tie.spec (λ c. search needs) (λ c. search needs) (λ c. search needs) (λ c. search needs) returns-3)

@@ -48,25 +48,13 @@ slice-read-n c = omega (arith, long (c .before .before))
 slice-read-k : tie.Need-slice-read-k
 slice-read-k c = omega (arith, long (c .before .before .before))
 
-mul-put-sender : tie.Need-mul-put-sender
-mul-put-sender c = search needs
-
-add-put-sender : tie.Need-add-put-sender
-add-put-sender c = search needs
-
 put-sender-requires : tie.Need-put-sender-requires
 put-sender-requires c κs =
     let s = c .before .before .before .before .before in
     omega (arith, long s, s .pre .1)
 
-messages-after-requires : tie.Need-messages-after-requires
-messages-after-requires c κs = search needs
-
 slice-write-s : tie.Need-slice-write-s
 slice-write-s c = omega (arith, long (start (c .before .before .before)))
-
-matches-after-requires : tie.Need-matches-after-requires
-matches-after-requires c κs = search needs
 
 slice-write-s-2 : tie.Need-slice-write-s-2
 slice-write-s-2 c = simp length-set (omega (arith, long (start (c .before .before .before .before))))
@@ -75,9 +63,6 @@ signals-requires : tie.Need-signals-requires
 signals-requires c κs =
     let s = start (c .before .before .before .before) in
     sure-signal _ _ (s .args .m .change) (s .pre .4 .sure)
-
-same-length : tie.Need-same-length
-same-length c = search needs
 
 returns : tie.Need-returns
 returns c =
@@ -112,15 +97,15 @@ put-moved-spec =
     (tie.spec
     slice-read-n
     slice-read-k
-    mul-put-sender
-    add-put-sender
+    (λ c. search needs)
+    (λ c. search needs)
     put-sender-requires
-    messages-after-requires
+    (λ c κs. search needs)
     slice-write-s
-    matches-after-requires
+    (λ c κs. search needs)
     slice-write-s-2
     signals-requires
-    same-length
+    (λ c. search needs)
     returns
     put-signal-requires
     same-length-2

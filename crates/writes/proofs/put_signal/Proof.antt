@@ -25,21 +25,6 @@ loop-holds c =
     let a = s .args .s .now in
     (search needs, all-numbers a (s .pre .0) .0, sym (from-back a (s .pre .0) .0))
 
-mul-signal-one : tie.Need-mul-signal-one Inv-loop μ-loop
-mul-signal-one c = search needs
-
-add-signal-one : tie.Need-add-signal-one Inv-loop μ-loop
-add-signal-one c = search needs
-
-signal-one-requires : tie.Need-signal-one-requires Inv-loop μ-loop
-signal-one-requires c κs = search needs
-
-add-i : tie.Need-add-i Inv-loop μ-loop
-add-i c = search needs
-
-loop-less : tie.Need-loop-less Inv-loop μ-loop
-loop-less c = search needs
-
 loop-again : tie.Need-loop-again Inv-loop μ-loop
 loop-again c =
     let n = c .before .before in
@@ -73,11 +58,11 @@ put-signal-spec =
     Inv-loop
     μ-loop
     loop-holds
-    mul-signal-one
-    add-signal-one
-    signal-one-requires
-    add-i
-    loop-less
+    (λ c. search needs)
+    (λ c. search needs)
+    (λ c κs. search needs)
+    (λ c. search needs)
+    (λ c. search needs)
     loop-again
     same-length
     returns)

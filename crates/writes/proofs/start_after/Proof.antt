@@ -8,18 +8,6 @@ use Rattle.writes.proofs.StartLaws.{passed-after}
 use Rattle.writes.proofs.start_after.Statement.{statement}
 use Rattle.writes.proofs.start_after.Tie as tie
 
-turned-from-requires : tie.Need-turned-from-requires
-turned-from-requires c κs = search needs
-
-lesser-requires : tie.Need-lesser-requires
-lesser-requires c κs = search needs
-
-statuses-requires : tie.Need-statuses-requires
-statuses-requires c κs = search needs
-
-past-consumed-requires : tie.Need-past-consumed-requires
-past-consumed-requires c κs = search needs
-
 returns : tie.Need-returns
 returns c =
     let w = c .before .before in
@@ -34,4 +22,10 @@ returns c =
 
 pub start-after-spec : {M : Type 1} → statement M
 start-after-spec =
-    tie.close (tie.spec turned-from-requires lesser-requires statuses-requires past-consumed-requires returns)
+    tie.close
+    (tie.spec
+    (λ c κs. search needs)
+    (λ c κs. search needs)
+    (λ c κs. search needs)
+    (λ c κs. search needs)
+    returns)

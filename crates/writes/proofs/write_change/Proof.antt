@@ -44,9 +44,6 @@ links-long n =
     let w = s .args .links .now in
     rw (n .turn-message2 .ensures .1) (length-set (set w _ _) _ _ ∙ length-set w _ _ ∙ s .pre .2)
 
-enum-told : tie.Need-enum-told
-enum-told c = search needs
-
 returns : tie.Need-returns
 returns c =
     let a = c .before .before .before .before .args in
@@ -54,21 +51,12 @@ returns c =
     (c .enum-told .given .1) refl refl
     (none-written (a .k) (a .j) (lists board (a .bytes .now) (a .links .now) keys cents))
 
-enum-known-c : tie.Need-enum-known-c
-enum-known-c c = search needs
-
 turn-message-requires : tie.Need-turn-message-requires
 turn-message-requires c κs =
     let k = c .before .before .before in
     let s = start-turn k in
     let u = in-turn k in
     (u .0, s .pre .1, s .pre .2, u .1)
-
-same-length : tie.Need-same-length
-same-length c = search needs
-
-same-length-2 : tie.Need-same-length-2
-same-length-2 c = search needs
 
 returns-2 : tie.Need-returns-2
 returns-2 c =
@@ -82,9 +70,6 @@ returns-2 c =
     (turnedLinks x u (a .links .now)) (k .c .given .1) (p .0) (p .1)
     (turn-written x u (a .k) (a .j) board (a .bytes .now) (a .links .now) keys cents (in-turn k .0))
 
-enum-known-c-2 : tie.Need-enum-known-c-2
-enum-known-c-2 c = search needs
-
 turn-message-requires-2 : tie.Need-turn-message-requires-2
 turn-message-requires-2 c κs =
     let k = c .before .before .before in
@@ -95,12 +80,6 @@ record-match-requires : tie.Need-record-match-requires
 record-match-requires c κs =
     let n = c .before .before .before .before .before .before .before in
     (in-record (known n) .1, bytes-long n, links-long n)
-
-same-length-3 : tie.Need-same-length-3
-same-length-3 c = search needs
-
-same-length-4 : tie.Need-same-length-4
-same-length-4 c = search needs
 
 returns-3 : tie.Need-returns-3
 returns-3 c =
@@ -121,9 +100,6 @@ returns-3 c =
     (written-by t t (a .k) (a .j) _ (turnedBytes x U.Claims b) (turnedLinks x U.Claims w) refl (p .0) (p .1)
     (turn-written x U.Claims (a .k) (a .j) board b w keys cents (in-record k .0))))
 
-enum-told-2 : tie.Need-enum-told-2
-enum-told-2 c = search needs
-
 returns-4 : tie.Need-returns-4
 returns-4 c =
     let a = c .before .before .before .before .args in
@@ -135,18 +111,18 @@ pub write-change-spec : {M : Type 1} → statement M
 write-change-spec =
     tie.close
     (tie.spec
-    enum-told
+    (λ c. search needs)
     returns
-    enum-known-c
+    (λ c. search needs)
     turn-message-requires
-    same-length
-    same-length-2
+    (λ c. search needs)
+    (λ c. search needs)
     returns-2
-    enum-known-c-2
+    (λ c. search needs)
     turn-message-requires-2
     record-match-requires
-    same-length-3
-    same-length-4
+    (λ c. search needs)
+    (λ c. search needs)
     returns-3
-    enum-told-2
+    (λ c. search needs)
     returns-4)

@@ -28,9 +28,6 @@ slice-read-n c = omega (arith, long (c .before .before .before .before .before))
 slice-read-k : tie.Need-slice-read-k
 slice-read-k c = omega (arith, long (c .before .before .before .before .before .before))
 
-put-added-requires : tie.Need-put-added-requires
-put-added-requires c κs = search needs
-
 write-change-requires : tie.Need-write-change-requires
 write-change-requires c κs =
     let w = added c in
@@ -40,24 +37,6 @@ write-change-requires c κs =
       k .1 .1 .0 ∙ s .pre .2 .bytes-len,
       k .1 .1 .1 .0 ∙ s .pre .2 .links-len,
     )
-
-put-moved-requires : tie.Need-put-moved-requires
-put-moved-requires c κs = search needs
-
-same-length : tie.Need-same-length
-same-length c = search needs
-
-same-length-2 : tie.Need-same-length-2
-same-length-2 c = search needs
-
-same-length-3 : tie.Need-same-length-3
-same-length-3 c = search needs
-
-same-length-4 : tie.Need-same-length-4
-same-length-4 c = search needs
-
-same-length-5 : tie.Need-same-length-5
-same-length-5 c = search needs
 
 returns : tie.Need-returns
 returns c =
@@ -80,12 +59,12 @@ write-move-spec =
     (tie.spec
     slice-read-n
     slice-read-k
-    put-added-requires
+    (λ c κs. search needs)
     write-change-requires
-    put-moved-requires
-    same-length
-    same-length-2
-    same-length-3
-    same-length-4
-    same-length-5
+    (λ c κs. search needs)
+    (λ c. search needs)
+    (λ c. search needs)
+    (λ c. search needs)
+    (λ c. search needs)
+    (λ c. search needs)
     returns)
