@@ -16,7 +16,6 @@ use Rattle.refusals.specs.Held.{heldIn}
 use Rattle.refusals.specs.Calls.{boardOf, refusalOf}
 use Rattle.plays.specs.Replays.{CallRows, callAt, callsLen, callsOf, answerNumber, answerNumbers}
 use Rattle.calls.specs.Calls.{Replays-in}
-use Rattle.schedules.specs.Schedules.{Opened}
 use Rattle.schedules.specs.Mixes.{Act, called, replayed, Acts, callsBy, answersBy, callsIn, answersIn}
 use Rattle.schedules.specs.Mixes.{Mixed-calls}
 use Rattle.schedules.proofs.PublicCalls.{said-is, opened, demand}
