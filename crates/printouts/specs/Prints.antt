@@ -1,5 +1,5 @@
 -- What the program prints (rules 8.1 to 8.5): the parts that its functions leave in their buffers, one after another,
--- in the order in which `main` calls them. Reading and writing descriptors is all that is left to `main`.
+-- in the order in which `main` calls them. That it calls them so is not proved.
 use mathlib.Core.Path.{_≡_}
 use mathlib.Core.List.{List, [], _∷_, _++_}
 use Prim.Native.Nat.{ℕ, zero, suc, _<_, _≤_}
