@@ -52,6 +52,14 @@ complains() {
     count "$1" $?
 }
 
+# Where the device is full, the input in a file gives one line on standard error.
+unwritten() {
+    "$tablec" ${3+"$3"} <"$2" >/dev/full 2>err
+    printf '%s\n' "$1" >expected
+    cmp -s err expected
+    count "$1" $?
+}
+
 # The text, a format of printf, gives a line on standard error and nothing else.
 wrong() {
     # shellcheck disable=SC2059
@@ -174,6 +182,11 @@ usage='usage: tablec < table.txt > rules.bin, or tablec -r < rules.bin > table.t
 complains "$usage" -x
 complains "$usage" -rr
 complains "$usage" ''
+
+# A full device.
+printf 'tray a leave\n' >text
+unwritten 'cannot write the table' text
+unwritten 'cannot write the text' full.bin -r
 
 echo "tablec: $passed passed, $failed failed"
 [ "$failed" -eq 0 ]

@@ -13,10 +13,21 @@ use boards::Call;
 use boards::Sent;
 use state::Said;
 
-// What is said to a call, and where the messages start that are not all consumed.
+// What is said to a call, also as one number, and where the messages start that are not all consumed.
 pub struct Answer {
     pub said: Said,
+    pub number: u32,
     pub start: u16,
+}
+
+// An answer as one number.
+pub fn answer_number(said: Said) -> u32
+    ensures { λ r. ⌜ r ≡ answerNumber (saidIn said) ⌝ }
+{
+    let word = state::word_of(said) as u32;
+    let value = state::value_of(said) as u32;
+    let number = state::number_of(said) as u32;
+    word * 65536 + (value + number)
 }
 
 // A call. The messages below `start` are consumed, so that no look reads them.
@@ -36,12 +47,15 @@ pub fn play(
         (lists (now (board .entry)) (now (bytes .entry)) (now (links .entry)) (now (keys .entry)) (now (cents .entry)))
         (callIn call) (saidIn (r .said))
         (lists (now (board .exit)) (now (bytes .exit)) (now (links .exit)) (now (keys .exit)) (now (cents .exit))) ⌝ }
+    ensures { λ r. ⌜ r .number ≡ answerNumber (saidIn (r .said)) ⌝ }
     ensures { λ r. ⌜ Passed (r .start) (getD (now (board .exit)) 0 0) (statusesIn (now (bytes .exit))) ⌝ }
 {
-    let number = moves::call_refusal(table, board, call);
-    if number != 0 {
+    let refusal = moves::call_refusal(table, board, call);
+    if refusal != 0 {
+        let refused = Said::Refused(refusal);
         return Answer {
-            said: Said::Refused(number),
+            said: refused,
+            number: answer_number(refused),
             start: start,
         };
     }
@@ -53,18 +67,9 @@ pub fn play(
     let next = writes::start_after(c, start, board[0], bytes);
     Answer {
         said: said,
+        number: answer_number(said),
         start: next,
     }
-}
-
-// An answer as one number.
-pub fn answer_number(said: Said) -> u32
-    ensures { λ r. ⌜ r ≡ answerNumber (saidIn said) ⌝ }
-{
-    let word = state::word_of(said) as u32;
-    let value = state::value_of(said) as u32;
-    let number = state::number_of(said) as u32;
-    word * 65536 + (value + number)
 }
 
 // The call at a row.
@@ -123,7 +128,7 @@ pub fn replay_core(
         let call = call_at(calls, numbers, amounts, k);
         let a = play(table, board, bytes, links, keys, cents, call, start);
         said = a.said;
-        answers[k] = answer_number(said);
+        answers[k] = a.number;
         start = a.start;
         k += 1;
     }

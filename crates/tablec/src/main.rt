@@ -53,12 +53,13 @@ struct Input {
     text: Text,
 }
 
-fn say(text: &[u8]) {
-    io::write_all(STDOUT_FILENO, text);
+// Text to standard output; whether it could be written, here and in what follows.
+fn say(text: &[u8]) -> bool {
+    io::write_all(STDOUT_FILENO, text)
 }
 
-fn say_number(n: usize) {
-    io::print_decimal(STDOUT_FILENO, n as u64);
+fn say_number(n: usize) -> bool {
+    io::print_decimal(STDOUT_FILENO, n as u64)
 }
 
 // The one line on standard error, about a word that stands between two texts.
@@ -614,77 +615,77 @@ fn compile() {
 
 // From bytes to text.
 
-fn say_tray(table: codec::Table, i: usize)
+fn say_tray(table: codec::Table, i: usize) -> bool
     requires { ⌜ i < 16 ⌝ }
 {
     let n = table.kinds_len as usize;
     if n <= i {
-        return;
+        return true;
     }
-    say(b"tray t");
-    say_number(i);
+    let named = say(b"tray t") & say_number(i);
     if table.kinds[i] == 0 {
-        say(b" leave\n");
-        return;
+        return named & say(b" leave\n");
     }
-    say(b" waiting\n");
+    named & say(b" waiting\n")
 }
 
-fn say_member(chord: codec::Chord, k: usize)
+fn say_member(chord: codec::Chord, k: usize) -> bool
     requires { ⌜ k < 8 ⌝ }
 {
     let n = chord.len as usize;
     if n <= k {
-        return;
+        return true;
     }
-    if 0 < k {
-        say(b" +");
-    }
-    say(b" t");
     let channel = chord.channels[k];
-    say_number(channel as usize);
+    if 0 < k {
+        return say(b" + t") & say_number(channel as usize);
+    }
+    say(b" t") & say_number(channel as usize)
 }
 
-fn say_chord(chord: codec::Chord) {
+fn say_chord(chord: codec::Chord) -> bool {
+    let mut said = true;
     let mut k: usize = 0;
     while k < 8 {
-        say_member(chord, k);
+        said = said & say_member(chord, k);
         k += 1;
     }
     if chord.equal {
-        say(b" same property");
+        return said & say(b" same property\n");
     }
-    say(b"\n");
+    said & say(b"\n")
 }
 
-fn say_rule(table: codec::Table, i: usize)
+fn say_rule(table: codec::Table, i: usize) -> bool
     requires { ⌜ i < 32 ⌝ }
 {
     let n = table.chords_len as usize;
     if n <= i {
-        return;
+        return true;
     }
-    say(b"rule r");
-    say_number(i);
-    say(b" =");
+    let named = say(b"rule r") & (say_number(i) & say(b" ="));
     let chord = table.chords[i];
-    say_chord(chord);
+    named & say_chord(chord)
 }
 
-fn say_trays(table: codec::Table) {
+fn say_trays(table: codec::Table) -> bool {
+    let mut said = true;
     let mut i: usize = 0;
     while i < 16 {
-        say_tray(table, i);
+        said = said & say_tray(table, i);
         i += 1;
     }
+    said
 }
 
-fn say_rules(table: codec::Table) {
+fn say_rules(table: codec::Table) -> bool {
+    let mut said = true;
     let mut i: usize = 0;
     while i < 32 {
-        say_rule(table, i);
+        said = said & say_rule(table, i);
         i += 1;
     }
+    said
 }
 
 // One byte more than the longest table is read, so that longer input is refused.
@@ -697,8 +698,9 @@ fn decompile() {
         return;
     }
     let table = read.table;
-    say_trays(table);
-    say_rules(table);
+    if !(say_trays(table) & say_rules(table)) {
+        complain(b"cannot write the text\n");
+    }
 }
 
 fn is_back() -> bool {

@@ -1,11 +1,12 @@
 -- `codec::kinds_read` meets its contract: the kinds left, stored from here on, give all of them stored.
 -- The measure is the number of kinds left.
 use mathlib.Core.Path.{_≡_, sym, _∙_}
-use Prim.Native.Nat.{_≤_, _<_, _-_}
+use mathlib.Core.List.{List}
+use Prim.Native.Nat.{ℕ, _+_, _≤_, _<_, _-_}
 use native.Mathlib.Omega.{arith}
-use lib.ListN.{drop, replicate}
+use lib.ListN.{getD, set, drop, replicate}
 use lib.Seq.{sets}
-use Rattle.model.specs.Layout.{tableOf, countT}
+use Rattle.model.specs.Layout.{tableRefusal, tableOf, countT}
 use Rattle.model.proofs.Accepted.{accepted}
 use Rattle.model.proofs.AcceptedChords.{length-kinds}
 use Rattle.table.proofs.Places.{kind-at}
@@ -38,14 +39,21 @@ array-write-kinds c =
     let a = accepted _ (c .before .before .before .before .before .pre) in
     omega (arith, below (c .before))
 
+-- byte 12 + i is the next kind
+next : (table kinds : List ℕ) (i : ℕ) → tableRefusal table ≡ 0 → i < countT table
+    → sets (set kinds i (getD table (12 + i) 0)) (i + 1) (drop (i + 1) (tableOf table .kinds))
+    ≡ sets kinds i (drop i (tableOf table .kinds))
+next table kinds i a l =
+    rw (← kind-at table i l)
+    (sym (fill-next kinds (tableOf table .kinds) i i 0 (omega (arith, l, length-kinds table (accepted table a)))))
+
 loop-again : tie.Need-loop-again Inv-loop μ-loop
 loop-again c =
     let p = c .before .before in
-    let t = p .before .before .before .args .table .now in
-    let i = p .loop .i in
-    let e = kind-at t i (below (c .before)) in
-    let f = fill-next (p .loop .kinds) (tableOf t .kinds) i i 0 (omega (arith, p .before .channels-len .ensures)) in
-    (search needs, rw (← e) (sym f ∙ p .loop .inv .1))
+    let s = p .before .before .before in (
+      search needs,
+      next (s .args .table .now) (p .loop .kinds) (p .loop .i) (s .pre) (below (c .before)) ∙ p .loop .inv .1,
+    )
 
 returns : tie.Need-returns Inv-loop μ-loop
 returns c =

@@ -99,11 +99,11 @@ call-refusal-requires c κs =
 
 returns : tie.Need-returns
 returns c =
-    let k = c .before in
+    let k = c .before .before in
     let s = start k in (
       play-refused (s .args .table .now) (lent s) (callIn (s .args .call)) (accepted s) _ (k .call-refusal .ensures)
-          (c .if1 .taken),
-      s .pre .1,
+          (c .before .if1 .taken),
+      (c .answer-number .ensures, s .pre .1),
     )
 
 move-of-requires : tie.Need-move-of-requires
@@ -133,13 +133,17 @@ start-after-requires c κs = let w = written (c .before .before) in (left-few w,
 returns-2 : tie.Need-returns-2
 unfolding boardFrom
 returns-2 c =
-    let w = written (c .before .before .before) in
+    let n = c .before in
+    let w = written (n .before .before .before) in
     let d = decided w in
     let s = begun d in (
       plays w,
-      c .start-after .ensures (getD (s .args .board .now) 0 0) (d .move-of .result .adds)
-          (statusesIn (s .args .bytes .now)) (s .pre .1) (plays w .plays .beyond .messages-grow)
-          (ap (λ (h : Held). h .columns .statuses) (w .write-move .ensures .0)),
+      (
+        c .answer-number2 .ensures,
+        n .start-after .ensures (getD (s .args .board .now) 0 0) (d .move-of .result .adds)
+            (statusesIn (s .args .bytes .now)) (s .pre .1) (plays w .plays .beyond .messages-grow)
+            (ap (λ (h : Held). h .columns .statuses) (w .write-move .ensures .0)),
+      ),
     )
 
 pub play-spec : {M : Type 1} → statement M
@@ -147,6 +151,7 @@ play-spec =
     tie.close
     (tie.spec
     call-refusal-requires
+    (λ c κs. search needs)
     (λ c. search needs)
     returns
     move-of-requires
@@ -155,6 +160,7 @@ play-spec =
     write-move-requires
     slice-read-start-after
     start-after-requires
+    (λ c κs. search needs)
     (λ c. search needs)
     (λ c. search needs)
     (λ c. search needs)

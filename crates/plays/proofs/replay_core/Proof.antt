@@ -42,8 +42,8 @@ looped c = c .before .before
 abbrev called : tie.After-play Inv-loop μ-loop → tie.After-call-at Inv-loop μ-loop
 called c = c .before .before .before .before .before .before
 
-abbrev played : tie.After-answer-number Inv-loop μ-loop → tie.After-play Inv-loop μ-loop
-played c = c .before .before .before .before .before .before .before .before .before .before
+abbrev played : tie.After-cents Inv-loop μ-loop → tie.After-play Inv-loop μ-loop
+played c = c .before .before .before .before .before .before .before .before .before
 
 -- the lists at the start and in a turn
 abbrev lent : tie.Start Inv-loop μ-loop → Lists
@@ -103,9 +103,9 @@ loop-again c =
     let i = a .loop .inv in
     let e = p .play .ensures in (
       accepted-after (begun a .args .table .now) (holds a) _ (i .0) _ _ (e .0),
-      e .1,
+      e .1 .1,
       played-next _ _ _ _ _ _ _ (i .2) _ _ _ _ (k .before .loop-test .taken) (begun a .pre .1 .answers-all)
-          (k .call-at .ensures) (e .0 .plays) (c .answer-number .ensures),
+          (k .call-at .ensures) (e .0 .plays) (e .1 .0),
       first-next _ _ _ _ _ _ (holds a) _ _ (i .3) (k .call-at .ensures) (e .0),
     )
 
@@ -148,7 +148,6 @@ replay-core-spec =
     loop-holds
     call-at-requires
     play-requires
-    (λ c κs. search needs)
     mul-answers
     slice-write-answers
     add-k

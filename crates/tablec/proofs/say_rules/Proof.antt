@@ -5,10 +5,10 @@ use Rattle.tablec.proofs.say_rules.Statement.{statement}
 use Rattle.tablec.proofs.say_rules.Tie as tie
 
 abbrev Inv-loop : tie.InvT-loop
-Inv-loop table i₀ i = i ≤ 32
+Inv-loop table said₀ i₀ said i = i ≤ 32
 
 abbrev μ-loop : tie.MeasureT-loop
-μ-loop table i₀ i = 32 - i
+μ-loop table said₀ i₀ said i = 32 - i
 
 pub say-rules-spec : {M : Type 1} → statement M
 say-rules-spec =

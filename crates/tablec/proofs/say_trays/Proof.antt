@@ -5,10 +5,10 @@ use Rattle.tablec.proofs.say_trays.Statement.{statement}
 use Rattle.tablec.proofs.say_trays.Tie as tie
 
 abbrev Inv-loop : tie.InvT-loop
-Inv-loop table i₀ i = i ≤ 16
+Inv-loop table said₀ i₀ said i = i ≤ 16
 
 abbrev μ-loop : tie.MeasureT-loop
-μ-loop table i₀ i = 16 - i
+μ-loop table said₀ i₀ said i = 16 - i
 
 pub say-trays-spec : {M : Type 1} → statement M
 say-trays-spec =
