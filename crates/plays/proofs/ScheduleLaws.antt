@@ -80,7 +80,8 @@ module _ (s : List ℕ) (h : Held) (c : CallRows) (before : List ℕ) where
               (subst (λ ks. Plays-in-turn s g ks (w ∷ vs) i) (sym (left-from (callAt c) k (callsLen c) l))
               (g′, q, rest)));
           says = ap (λ n. take n (set answers k x)) (add-one k)
-              ∙ (take-suc-set answers k x in-place ∙ rw (p .says, e) (sym (map-append answerNumber (p .said) (w ∷ []))));
+              ∙ (take-suc-set answers k x in-place
+              ∙ rw (p .says, e) (sym (map-append answerNumber (p .said) (w ∷ []))));
           others = ap (λ n. drop n (set answers k x)) (add-one k)
               ∙ (drop-set-lt (suc k) answers k x (omega arith)
               ∙ same-on k (suc k) answers before (omega arith) (p .others)
@@ -106,7 +107,8 @@ module _ (s : List ℕ) (h : Held) (c : CallRows) (before : List ℕ) where
           says = after ∙ ap (λ ns. ns ++ drop (callsLen c) before) (m .1);
           accepted = m .2;
           beyond = turns-beyond s h (callsOf c) (p .said) g t;
-          others = λ i silent. turns-others s i (callAt c) 0 (callsLen c) h (p .said) g (λ m lt. silent m (omega (arith, lt))) t;
+          others = λ i silent.
+              turns-others s i (callAt c) 0 (callsLen c) h (p .said) g (λ m lt. silent m (omega (arith, lt))) t;
         }
 
 -- One call by its row
