@@ -1,3 +1,4 @@
 -- A call, and calls played one after another.
 pub mod PlayLaws
+pub mod Turns
 pub mod ScheduleLaws

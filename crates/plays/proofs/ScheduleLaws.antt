@@ -1,8 +1,8 @@
 -- The calls played so far, and those left, come to all of them.
-use mathlib.Core.Path.{_≡_, refl, sym, ap, subst, _∙_}
+use mathlib.Core.Path.{_≡_, refl, sym, ap, subst, subst⁻¹, _∙_}
 use mathlib.Core.Logic.{_≢_}
 use mathlib.Core.Bool.{true, false}
-use mathlib.Core.List.{List, [], _∷_, _++_, append-assoc, append-nil}
+use mathlib.Core.List.{List, [], _∷_, _++_, map, append-assoc, append-nil, map-append}
 use Prim.Native.Nat.{ℕ, suc, _+_, _*_, _-_, _<_, _≤_}
 use native.Mathlib.Numerals.{add-one}
 use native.Mathlib.Omega.{arith}
@@ -10,63 +10,18 @@ use borrow.Author.Tests.{eqb-true, ne-eqb, leb-true, le-leb, lt-leb}
 use lib.Dec.{eqb, leb}
 use lib.IntN.{pos}
 use lib.ListN.{length, getD, drop, take, set, length-set, take-append-drop}
-use lib.Seq.{drop-drop, drop-set-lt, take-take, take-suc-set, getD-set-same}
-use Rattle.model.specs.Layout.{tableOf}
-use Rattle.model.specs.Boards.{Board}
+use lib.Seq.{drop-set-lt, take-suc-set}
 use Rattle.model.specs.Effects.{Said}
-use Rattle.model.specs.Pools.{Call, adds, steps, answerTo, afterAll, history}
+use Rattle.model.specs.Pools.{Call, adds, steps}
 use Rattle.model.proofs.Tests.{both, unless-none, first-none, refused-first}
 use Rattle.columns.specs.Columns.{listFrom}
 use Rattle.columns.proofs.ListFrom.{left-from, none-from}
-use Rattle.state.specs.declared.Sender as DD
 use Rattle.boards.specs.Calls.{Held}
-use Rattle.refusals.specs.Calls.{boardOf, refusalOf, SameFrom, SameTo, Beyond, rowAt, Same-row, Plays}
+use Rattle.refusals.specs.Calls.{refusalOf, rowAt, Plays}
 use Rattle.refusals.proofs.CallLaws.{beyond-same, row-same}
-use Rattle.plays.specs.Replays.{CallRows, callsLen, callAt, callsOf, rowsFit, answerNumber, answerNumbers}
-use Rattle.plays.specs.Replays.{Silent, refusalAfter, replayNumber, Fit, Plays-all, Replays}
-
--- What two calls leave
-
-same-on : {A : Type 0} (n m : ℕ) (xs ys : List A) → n ≤ m → SameFrom n xs ys → SameFrom m xs ys
-same-on n m xs ys l e =
-    let z : n + (m - n) ≡ m = omega arith in
-    ap (λ k. drop k xs) (sym z) ∙ sym (drop-drop (m - n) n xs) ∙ ap (drop (m - n)) e ∙ drop-drop (m - n) n ys
-    ∙ ap (λ k. drop k ys) z
-
-same-up : {A : Type 0} (n m : ℕ) (xs ys : List A) → n ≤ m → SameTo m xs ys → SameTo n xs ys
-same-up n m xs ys l e = sym (take-take n m xs l) ∙ ap (take n) e ∙ take-take n m ys l
-
-pub beyond-then : (h g i : Held) → Beyond h g → Beyond g i → Beyond h i
-beyond-then h g i p q =
-    let n = i .board .messages in
-    let l = q .messages-grow in
-    let m = q .matches-grow in
-    record {
-      messages-grow = omega (arith, p .messages-grow, l);
-      matches-grow = omega (arith, p .matches-grow, m);
-      channels = q .channels ∙ same-on _ n _ _ l (p .channels);
-      properties = q .properties ∙ same-on _ n _ _ l (p .properties);
-      cents = q .cents ∙ same-on _ n _ _ l (p .cents);
-      statuses = q .statuses ∙ same-on _ n _ _ l (p .statuses);
-      matched = q .matched ∙ same-on _ n _ _ l (p .matched);
-      wakers = q .wakers ∙ same-on _ n _ _ l (p .wakers);
-      chords = q .chords ∙ same-on _ (i .board .matches) _ _ m (p .chords);
-      messages = q .messages
-          ∙ same-on (8 * g .board .matches) (8 * i .board .matches) _ _ (omega (arith, m)) (p .messages);
-      recorded =
-          same-up (8 * h .board .matches) (8 * g .board .matches) _ _ (omega (arith, p .matches-grow)) (q .recorded)
-          ∙ p .recorded;
-    }
-
-row-then : (d e f : DD.Sender) → Same-row d e → Same-row e f → Same-row d f
-row-then d e f p q = record {
-  state = p .state ∙ q .state;
-  own = p .own ∙ q .own;
-  waker = p .waker ∙ q .waker;
-  reply = p .reply ∙ q .reply;
-  matched = p .matched ∙ q .matched;
-  job = p .job ∙ q .job;
-}
+use Rattle.plays.specs.Replays.{CallRows, callsLen, callAt, callsOf, rowsFit, answerNumber}
+use Rattle.plays.specs.Replays.{refusalAfter, replayNumber, Fit, Plays-in-turn, Plays-all, Replays}
+use Rattle.plays.proofs.Turns.{same-on, turns-leave, turns-beyond, turns-others}
 
 -- One call
 
@@ -84,13 +39,13 @@ pub record Played (s : List ℕ) (h : Held) (c : CallRows) (before : List ℕ) (
     (answers : List ℕ) : Type 0 where
   pub some : k ≤ callsLen c
   pub len : length answers ≡ length before
-  pub accepted : refusalOf s g ≡ 0
-  pub leaves : afterAll (tableOf s) (boardOf s g) (left c k) ≡ afterAll (tableOf s) (boardOf s h) (callsOf c)
-  pub says : take k answers ++ answerNumbers (history (tableOf s) (boardOf s g) (left c k))
-      ≡ answerNumbers (history (tableOf s) (boardOf s h) (callsOf c))
+  pub begun : refusalOf s h ≡ 0
+  pub said : List Said
+  -- with those left they are all
+  pub turns : (vs : List Said) (i : Held) → Plays-in-turn s g (left c k) vs i
+      → Plays-in-turn s h (callsOf c) (said ++ vs) i
+  pub says : take k answers ≡ map answerNumber said
   pub others : drop k answers ≡ drop k before
-  pub beyond : Beyond h g
-  pub rows : (j : ℕ) → Silent c k j → Same-row (rowAt h j) (rowAt g j)
 
 module _ (s : List ℕ) (h : Held) (c : CallRows) (before : List ℕ) where
   pub played-none : refusalOf s h ≡ 0 → Played s h c before 0 h before
@@ -99,12 +54,11 @@ module _ (s : List ℕ) (h : Held) (c : CallRows) (before : List ℕ) where
       record {
         some = omega arith;
         len = refl;
-        accepted = e;
-        leaves = rw z;
-        says = rw z;
+        begun = e;
+        said = [];
+        turns = λ vs i q. subst (λ n. Plays-in-turn s h (listFrom (callAt c) 0 n) vs i) z q;
+        says = refl;
         others = refl;
-        beyond = beyond-same s h;
-        rows = λ j _. row-same (rowAt h j);
       }
 
   module _ (k : ℕ) (g : Held) (answers : List ℕ) (p : Played s h c before k g answers) where
@@ -114,52 +68,47 @@ module _ (s : List ℕ) (h : Held) (c : CallRows) (before : List ℕ) where
         → Played s h c before (k + 1) g′ (set answers k x)
     played-next j w g′ x l room same r e =
         let q : Plays s g (callAt c k) w g′ = plays-as s g j (callAt c k) w g′ same r in
-        let u : w ≡ answerTo (tableOf s) (boardOf s g) (callAt c k) .said = rw (p .accepted) at (q .says) in
-        let v = q .leaves (p .accepted) in
-        let f = left-from (callAt c) k (callsLen c) l in
         let in-place : k < length answers = omega (arith, p .len) in
-        let rest = answerNumbers (history (tableOf s) (boardOf s g′) (left c (k + 1))) in
         record {
           some = omega arith;
           len = length-set answers k x ∙ p .len;
-          accepted = q .accepted (p .accepted);
-          leaves = ap (λ (b : Board). afterAll (tableOf s) b (left c (k + 1))) v
-              ∙ (sym (ap (afterAll (tableOf s) (boardOf s g)) f) ∙ p .leaves);
-          says = ap (λ n. take n (set answers k x) ++ rest) (add-one k)
-              ∙ (ap (λ r. r ++ rest) (take-suc-set answers k x in-place)
-              ∙ (append-assoc (take k answers) (x ∷ []) rest
-              ∙ (ap (λ r. take k answers ++ r) (next w g′ x f u v e) ∙ p .says)));
+          begun = p .begun;
+          said = p .said ++ (w ∷ []);
+          turns = λ vs i rest.
+              subst (λ ws. Plays-in-turn s h (callsOf c) ws i) (sym (append-assoc (p .said) (w ∷ []) vs))
+              (p .turns (w ∷ vs) i
+              (subst (λ ks. Plays-in-turn s g ks (w ∷ vs) i) (sym (left-from (callAt c) k (callsLen c) l))
+              (g′, q, rest)));
+          says = ap (λ n. take n (set answers k x)) (add-one k)
+              ∙ (take-suc-set answers k x in-place
+              ∙ rw (p .says, e) (sym (map-append answerNumber (p .said) (w ∷ []))));
           others = ap (λ n. drop n (set answers k x)) (add-one k)
               ∙ (drop-set-lt (suc k) answers k x (omega arith)
               ∙ same-on k (suc k) answers before (omega arith) (p .others)
               ∙ ap (λ n. drop n before) (sym (add-one k)));
-          beyond = beyond-then h g g′ (p .beyond) (q .beyond);
-          rows = λ i silent.
-              row-then (rowAt h i) (rowAt g i) (rowAt g′ i) (p .rows i (λ m lt. silent m (omega (arith, lt))))
-              (q .others i (silent k (omega arith)));
         }
-      where
-        next : (w : Said) (g′ : Held) (x : ℕ) → left c k ≡ callAt c k ∷ left c (k + 1)
-            → w ≡ answerTo (tableOf s) (boardOf s g) (callAt c k) .said
-            → boardOf s g′ ≡ answerTo (tableOf s) (boardOf s g) (callAt c k) .board → x ≡ answerNumber w
-            → x ∷ answerNumbers (history (tableOf s) (boardOf s g′) (left c (k + 1)))
-            ≡ answerNumbers (history (tableOf s) (boardOf s g) (left c k))
-        next w g′ x f u v e = rw (f, e, u, v)
 
     -- all calls are played
     pub played-all : callsLen c ≤ k → Plays-all s h c before answers g
     played-all l =
         let n : k ≡ callsLen c = omega (arith, p .some) in
-        let f = none-from (callAt c) k (callsLen c) l in
+        let t : Plays-in-turn s h (callsOf c) (p .said) g =
+        subst (λ ws. Plays-in-turn s h (callsOf c) ws g) (append-nil (p .said))
+        (p .turns [] g (subst⁻¹ (λ ks. Plays-in-turn s g ks [] g) (none-from (callAt c) k (callsLen c) l) (refl, refl)))
+        in
+        let m = turns-leave s h (callsOf c) (p .said) g (p .begun) t in
+        let after : answers ≡ map answerNumber (p .said) ++ drop (callsLen c) before =
+        sym (take-append-drop k answers) ∙ rw (p .says, p .others, n) in
         record {
-          leaves = rw f at (p .leaves);
-          says = sym (take-append-drop k answers)
-              ∙ (ap (λ r. r ++ drop k answers) (sym (append-nil (take k answers)) ∙ rw f at (p .says))
-              ∙ ap (λ r. answerNumbers (history (tableOf s) (boardOf s h) (callsOf c)) ++ r)
-              (p .others ∙ ap (λ i. drop i before) n));
-          accepted = p .accepted;
-          beyond = p .beyond;
-          others = λ i silent. p .rows i (λ m lt. silent m (omega (arith, lt, n)));
+          said = p .said;
+          turns = t;
+          answers = after;
+          leaves = m .0;
+          says = after ∙ ap (λ ns. ns ++ drop (callsLen c) before) (m .1);
+          accepted = m .2;
+          beyond = turns-beyond s h (callsOf c) (p .said) g t;
+          others = λ i silent.
+              turns-others s i (callAt c) 0 (callsLen c) h (p .said) g (λ m lt. silent m (omega (arith, lt))) t;
         }
 
 -- One call by its row

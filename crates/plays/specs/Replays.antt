@@ -13,7 +13,7 @@ use Rattle.model.specs.Effects.{Said, wordOf, valueOf, numberOf}
 use Rattle.model.specs.Pools.{Call, adds, steps, Exchange, afterAll, history}
 use Rattle.columns.specs.Columns.{listFrom}
 use Rattle.boards.specs.Calls.{Held}
-use Rattle.refusals.specs.Calls.{boardOf, refusalOf, Beyond, callerOf, rowAt, Same-row}
+use Rattle.refusals.specs.Calls.{boardOf, refusalOf, Beyond, callerOf, rowAt, Same-row, Plays}
 
 -- the lent calls, a row each: of `calls` the kind, the sender and the channel, of `numbers` the property number
 pub record CallRows : Type 0 where
@@ -69,9 +69,18 @@ pub record Fit (c : CallRows) (room : ℕ) : Type 0 where
   pub numbers-len : length (c .numbers) ≡ callsLen c
   pub answers-all : callsLen c ≤ room
 
+-- rule 7.1: the calls, and what is said to them, from h to h′; each call is played on what the one before left
+abbrev pub Plays-in-turn : List ℕ → Held → List Call → List Said → Held → Type 0
+Plays-in-turn s h [] ws h′ = (ws ≡ []) × (h′ ≡ h)
+Plays-in-turn s h (k ∷ ks) [] h′ = ⊥
+Plays-in-turn s h (k ∷ ks) (w ∷ ws) h′ = (g : Held) × Plays s h k w g × Plays-in-turn s g ks ws h′
+
 -- all calls c played on h leave h′, and turn the lent answers from before to after
 pub record Plays-all (s : List ℕ) (h : Held) (c : CallRows) (before after : List ℕ) (h′ : Held) : Type 0 where
-  -- rule 7.1: each call on what the one before left
+  pub said : List Said
+  pub turns : Plays-in-turn s h (callsOf c) said h′
+  pub answers : after ≡ map answerNumber said ++ drop (callsLen c) before
+  -- so the calls are the model's schedule
   pub leaves : boardOf s h′ ≡ afterAll (tableOf s) (boardOf s h) (callsOf c)
   pub says : after
       ≡ answerNumbers (history (tableOf s) (boardOf s h) (callsOf c)) ++ drop (callsLen c) before

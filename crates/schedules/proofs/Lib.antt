@@ -1,5 +1,8 @@
 -- What a list of public calls comes to.
 pub mod PublicCalls
 pub mod PublicPeace
+pub mod HeldParts
 pub mod PublicMerge
 pub mod Mixed
+pub mod Unseen
+pub mod Outcomes

@@ -11,9 +11,6 @@ use Rattle.model.specs.Demands.{boardAfter}
 use Rattle.model.proofs.Tests.{by-range}
 use Rattle.merging.specs.Merges.{mergeRefusal, mergedBytes, Same-schedule}
 use Rattle.merging.proofs.Theorem.{merges}
-use Rattle.columns.specs.MatchColumns.{matchIn}
-use Rattle.columns.proofs.ListFrom.{length-from}
-use Rattle.columns.proofs.Messages.{length-messages}
 use Rattle.boards.specs.Calls.{Held}
 use Rattle.boards.specs.Layout.{Lists}
 use Rattle.refusals.specs.Held.{heldIn}
@@ -24,17 +21,7 @@ use Rattle.plays.specs.Replays.{callsLen, callsOf, answerNumbers}
 use Rattle.schedules.specs.Schedules.{Calls-in-turn, exchanges, Opened, Reads-as, Keeps-demand-3}
 use Rattle.schedules.specs.Merged.{Alike, Reads-alike, Own-calls, Merged-calls}
 use Rattle.schedules.proofs.PublicCalls.{public-calls}
-
--- the counts of a board as it is held
-module _ (t : List ℕ) (k : Held) (b : Board) (e : boardOf t k ≡ b) where
-  messages-held : length (b .messages) ≡ k .board .messages
-  messages-held =
-      ap (λ (x : Board). length (x .messages)) (sym e) ∙ length-messages (k .columns) 0 (k .board .messages)
-
-  matches-held : length (b .matches) ≡ k .board .matches
-  matches-held =
-      ap (λ (x : Board). length (x .matches)) (sym e)
-      ∙ length-from (matchIn (tableOf t) (k .matches)) 0 (k .board .matches)
+use Rattle.schedules.proofs.HeldParts.{messages-held, matches-held}
 
 -- boards h and g that the same calls lead to, under the first table and under the merged one
 module _ (s z ms : List ℕ) (ks : List Call) (h g : Held) (e : mergeRefusal s z ms ≡ 0) (o : Own-calls s z ms ks)

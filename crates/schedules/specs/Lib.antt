@@ -3,3 +3,4 @@ pub mod Schedules
 pub mod InPeace
 pub mod Merged
 pub mod Mixes
+pub mod Outcomes
