@@ -142,16 +142,17 @@ impl Pair {
         let what = format!("{read:?} with room for {room}");
         same(&what, first, second)?;
         self.unchanged("reads")?;
+        if one != two {
+            return Err(format!("{what}: {one:?} and {two:?}"));
+        }
         if let Read::Match(_) = read
             && first == 0
         {
-            // The numbers past the chord's size are open.
             let len = one[1].clamp(0, 8) as usize;
+            if one[3 + len..].iter().take(8 - len).any(|&x| x != 0) {
+                return Err(format!("{what}: not 0 past the chord's size: {one:?}"));
+            }
             one.truncate(3 + len);
-            two.truncate(3 + len);
-        }
-        if one != two {
-            return Err(format!("{what}: {one:?} and {two:?}"));
         }
         Ok((first, one))
     }
