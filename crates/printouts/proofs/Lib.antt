@@ -1,3 +1,3 @@
 -- What the program prints is the model's printout.
 pub mod SessionLaws
-pub mod Program
+pub mod StageLaws
