@@ -1,7 +1,7 @@
 -- What a chunk of the input, its end and a part of the report add to what was printed.
 use mathlib.Core.Path.{_≡_, refl, sym, ap, subst, _∙_}
 use mathlib.Core.Bool.{Bool, true, false}
-use mathlib.Core.List.{List, [], _++_, append-nil, append-assoc}
+use mathlib.Core.List.{List, [], _∷_, _++_, append-nil, append-assoc}
 use Prim.Native.Nat.{ℕ, _<_, _≤_}
 use native.Mathlib.Omega.{arith}
 use borrow.Author.Tests.{ne-eqb}
@@ -140,3 +140,9 @@ module _ (s : List ℕ) (l : Lists) (g : DS.Stage) (w : Stands s l g) where
         };
         room = room;
       }
+
+-- a read that puts no bytes
+pub end-read : (s : List ℕ) (l : Lists) (g : DS.Stage) (input : List ℕ) (l′ : Lists) (g′ : DS.Stage) (at : ℕ)
+    (out : List ℕ) → length input ≡ 0 → Advances s l g [] l′ g′ at out → Advances s l g input l′ g′ at out
+end-read s l g [] l′ g′ at out e a = a
+end-read s l g (b ∷ bs) l′ g′ at out e a = absurd (omega (arith, e))
