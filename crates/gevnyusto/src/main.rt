@@ -1,6 +1,6 @@
-// The matching board as a program: it reads `rules.bin` and opens a board, then makes the turns of `printouts`: it reads
-// its standard input, has what was read served, and writes what is to be printed. What it cannot read or write it says
-// on standard error; without its input or its output it stops.
+// The matching board as a program: it reads `rules.bin`, opens a board and makes the turns of `printouts`. It reads its
+// standard input, has what was read served, and writes what is to be printed. What it cannot read or write it says on
+// standard error; without its input or its output it stops.
 ghost use mathlib.Core.Path.{_≡_};
 ghost use mathlib.Core.Bool.{false};
 ghost use mathlib.Core.List.{List};

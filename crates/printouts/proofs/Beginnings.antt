@@ -5,13 +5,9 @@ use mathlib.Core.List.{List, []}
 use Prim.Native.Nat.{ℕ}
 use native.Mathlib.Omega.{arith}
 use lib.ListN.{getD}
-use Rattle.model.specs.Boards.{emptyBoard, builtinBackoffs}
-use Rattle.columns.specs.Columns.{Passed}
 use Rattle.columns.proofs.Passed.{passed-none}
 use Rattle.boards.specs.Layout.{Lists, statusesIn}
 use Rattle.rows.specs.Numbers.{boardNumbers}
-use Rattle.refusals.specs.Held.{heldOf, Accepted}
-use Rattle.refusals.specs.Calls.{boardOf}
 use Rattle.calls.specs.Opens.{freshBoard}
 use Rattle.calls.proofs.OpenLaws.{unrefused, opened-empty, opened-accepted}
 use Rattle.schedules.specs.Schedules.{Opened}

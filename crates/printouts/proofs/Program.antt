@@ -13,7 +13,7 @@ use Rattle.model.proofs.Tests.{both}
 use Rattle.boards.specs.Layout.{Lists, boardLen}
 use Rattle.refusals.specs.Held.{heldOf}
 use Rattle.refusals.specs.Calls.{boardOf}
-use Rattle.reports.specs.Parts.{linesOn, lineCount, allLines}
+use Rattle.reports.specs.Parts.{linesOn, lineCount}
 use Rattle.reports.proofs.PartLaws.{written}
 use Rattle.reports.proofs.ListLines.{counted}
 use Rattle.reports.proofs.Whole.{report-whole}
@@ -59,7 +59,8 @@ module _ (s : List ℕ) where
       = eqb-true (g .next) (lineCount (l .board)) (e .1) ∙ sym (counted s l) in
       q .lines ∙ rw (n, report-whole (tableOf s) (boardOf s (heldOf l)), q .board)
 
-  served : (reads : List (List ℕ)) (text : List ℕ) → Serves-all s reads text → text ≡ printedBy 0 s (inputOf false reads)
+  served : (reads : List (List ℕ)) (text : List ℕ) → Serves-all s reads text
+      → text ≡ printedBy 0 s (inputOf false reads)
   served reads text p =
       let q = turns-on (p .first) (p .begun) reads text (p .last) (p .reached) (p .turns) [] []
       (begun-far s (p .first) (p .begun) (p .opened) (p .begins)) in

@@ -23,33 +23,33 @@ use Rattle.printouts.specs.Stages.{readOf, Serving, Reporting, So-far-by
 use Rattle.printouts.proofs.SessionLaws.{after, fed-on, ends-on}
 
 module _ (s before text : List ℕ) {l l′ : Lists} {c : DC.Carry} {at : ℕ} {out : List ℕ} (p : Serving s before text c l)
-    where
-  chunk-on : {c′ : DC.Carry} (input : List ℕ) → Serves-chunk s l c input l′ c′ at out
-      → Serving s (before ++ input) (text ++ take at out) c′ l′
-  chunk-on input e =
-      let x = readOf s before in
-      let q = e .says (x .partial) (p .keeps) in
-      let step : readOf s (before ++ input)
-      ≡ after (x .text) (fed (tableOf s) (session [] (boardOf s (heldOf l)) (x .partial)) input)
-      = rw (p .board) (fed-on (tableOf s) _ before input) in
-      record {
-        answers = rw (step, p .answers, q .0 .text);
-        board = rw step (q .0 .board);
-        keeps = rw step (q .1);
-      }
+  where
+    chunk-on : {c′ : DC.Carry} (input : List ℕ) → Serves-chunk s l c input l′ c′ at out
+        → Serving s (before ++ input) (text ++ take at out) c′ l′
+    chunk-on input e =
+        let x = readOf s before in
+        let q = e .says (x .partial) (p .keeps) in
+        let step : readOf s (before ++ input)
+        ≡ after (x .text) (fed (tableOf s) (session [] (boardOf s (heldOf l)) (x .partial)) input)
+        = rw (p .board) (fed-on (tableOf s) _ before input) in
+        record {
+          answers = rw (step, p .answers, q .0 .text);
+          board = rw step (q .0 .board);
+          keeps = rw step (q .1);
+        }
 
-  end-on : Serves-end s l c l′ at out → Reporting s (before ++ []) (text ++ take at out) 0 l′
-  end-on e =
-      let x = readOf s before in
-      let q = e .says (x .partial) (p .keeps) in
-      let step : sessionOf (tableOf s) before
-      ≡ after (x .text) (inputEnds (tableOf s) (session [] (boardOf s (heldOf l)) (x .partial)) (x .partial))
-      = rw (p .board) (ends-on (tableOf s) x (x .partial)) in
-      rw (append-nil before)
-      (record {
-        lines = rw (step, p .answers, q .text) (sym (append-nil _));
-        board = rw step (q .board);
-      })
+    end-on : Serves-end s l c l′ at out → Reporting s (before ++ []) (text ++ take at out) 0 l′
+    end-on e =
+        let x = readOf s before in
+        let q = e .says (x .partial) (p .keeps) in
+        let step : sessionOf (tableOf s) before
+        ≡ after (x .text) (inputEnds (tableOf s) (session [] (boardOf s (heldOf l)) (x .partial)) (x .partial))
+        = rw (p .board) (ends-on (tableOf s) x (x .partial)) in
+        rw (append-nil before)
+        (record {
+          lines = rw (step, p .answers, q .text) (sym (append-nil _));
+          board = rw step (q .board);
+        })
 
 -- the next part of the report
 part-on : (s before text : List ℕ) {l : Lists} {n m : ℕ} (at : ℕ) (out : List ℕ) → n < m
@@ -118,8 +118,8 @@ module _ (s : List ℕ) (l : Lists) (g : DS.Stage) (w : Stands s l g) where
   unfinished e d =
       omega (arith, w .listed, eqb-no (g .next) (lineCount (l .board)) (other-false (g .ended) _ d e))
 
-  pub part-advances : (m at : ℕ) (out : List ℕ) → g .ended ≡ true → g .next < m → m ≤ lineCount (l .board) → at ≤ length out
-      → take at out ≡ allLines (between (g .next) m (linesOn s l))
+  pub part-advances : (m at : ℕ) (out : List ℕ) → g .ended ≡ true → g .next < m → m ≤ lineCount (l .board)
+      → at ≤ length out → take at out ≡ allLines (between (g .next) m (linesOn s l))
       → (input : List ℕ) → Advances s l g input l (stage (g .carry) (g .start) m (g .ended)) at out
   part-advances m at out e h n room q input =
       let p : (before text : List ℕ) → So-far s before text g l

@@ -1,6 +1,5 @@
 -- `gevnyusto::serve` is safe and ends: each turn leaves what the next asks, and the number of turns left falls.
 use mathlib.Core.Path.{_≡_, refl, sym, _∙_}
-use native.Mathlib.Omega.{arith}
 use borrow.Author.Needs.{needs}
 use lib.ListN.{length}
 use Rattle.boards.specs.Layout.{lists}
@@ -33,12 +32,6 @@ turn-requires c κs =
     let d = e .before in
     (d .before .before .before .loop .inv .0, sym (d .is-done .ensures) ∙ e .if1 .left)
 
-sub-turns : tie.Need-sub-turns Inv-loop μ-loop
-sub-turns c = search needs
-
-loop-less : tie.Need-loop-less Inv-loop μ-loop
-loop-less c = search needs
-
 loop-again : tie.Need-loop-again Inv-loop μ-loop
 loop-again c =
     let w = c .before .before .before .before .before .before .before .before .before .before .before .before in
@@ -66,8 +59,8 @@ serve-spec =
     (λ c. search needs)
     (λ c. search needs)
     (λ c. search needs)
-    sub-turns
-    loop-less
+    (λ c. search needs)
+    (λ c. search needs)
     loop-again
     (λ c. search needs)
     (λ c. search needs)
