@@ -1,28 +1,25 @@
-// The matching board as a program: it reads `rules.bin`, plays the lines of its standard input, and prints what each
-// answers and, at the end, what is on the board. What it cannot read or write it says on standard error; without its
-// input or its output it stops.
+// The matching board as a program: it reads `rules.bin`, opens a board and makes the turns of `printouts`. It reads its
+// standard input, has what was read served, and writes what is to be printed. What it cannot read or write it says on
+// standard error; without its input or its output it stops.
 ghost use mathlib.Core.Path.{_≡_};
-ghost use Prim.Native.Nat.{_≤_};
-ghost use lib.ListN.{length, getD};
-ghost use Rattle.model.specs.Layout.{tableRefusal};
-ghost use Rattle.columns.specs.Columns.{Passed};
-ghost use Rattle.boards.specs.Layout.{lists, statusesIn};
-ghost use Rattle.rows.specs.Numbers.{boardNumbers};
-ghost use Rattle.refusals.specs.Held.{Accepted};
-ghost use Rattle.calls.specs.Opens.{freshBoard};
+ghost use mathlib.Core.Bool.{false};
+ghost use mathlib.Core.List.{List};
+ghost use Prim.Native.Nat.{ℕ, _≤_};
+ghost use lib.ListN.{length};
+ghost use Rattle.boards.specs.Layout.{lists};
+ghost use Rattle.calls.specs.Opens.{openNumber, openedNumbers};
+ghost use Rattle.schedules.specs.Schedules.{Opened};
+ghost use Rattle.printouts.specs.Stages.{Stands, doneOn};
 ghost use Rattle.io.specs.Counts.{Counts};
 use libc::STDIN_FILENO;
 use libc::STDOUT_FILENO;
-use sessions::Carry;
+use printouts::Stage;
 use state::Said;
 
-// The bytes since the last line feed, where the messages start that are not all consumed, whether the input may go on,
-// and whether it has ended.
-struct Fed {
-    carry: Carry,
-    start: u16,
+// The stage after a turn, and whether what it reads and writes could be.
+struct Went {
+    stage: Stage,
     more: bool,
-    ended: bool,
 }
 
 // Whether a read past the bytes of `rules.bin` fails.
@@ -73,182 +70,64 @@ fn refuse(number: u8) {
     say(&out, n);
 }
 
-// A chunk of the input: its lines are served and their answers printed.
-fn serve_read(
-    table: &[u8],
-    board: &mut [u16],
-    bytes: &mut [u8],
-    links: &mut [u16],
-    keys: &mut [u32],
-    cents: &mut [i64],
-    carry: Carry,
-    input: &[u8],
-    start: u16,
-) -> Fed
-    requires { ⌜ Accepted (now table) (lists (now board) (now bytes) (now links) (now keys) (now cents)) ⌝ }
-    requires { ⌜ Passed start (getD (now board) 0 0) (statusesIn (now bytes)) ⌝ }
-    requires { ⌜ (carry .len ≤ 81) × (length (now input) ≤ 4096) ⌝ }
-    ensures { λ _. ⌜ Accepted (now (table .entry))
-        (lists (now (board .exit)) (now (bytes .exit)) (now (links .exit)) (now (keys .exit)) (now (cents .exit))) ⌝ }
-    ensures { λ r. ⌜ Passed (r .start) (getD (now (board .exit)) 0 0) (statusesIn (now (bytes .exit))) ⌝ }
-    ensures { λ r. ⌜ r .carry .len ≤ 81 ⌝ }
-{
-    let mut out = io::large_buffer();
-    let served = sessions::serve_chunk(
-        table,
-        board,
-        bytes,
-        links,
-        keys,
-        cents,
-        carry,
-        input,
-        &mut out,
-        start,
-    );
-    let said = say(&out, served.at);
-    let rest = served.carry;
-    Fed {
-        carry: rest,
-        start: served.start,
-        more: said,
-        ended: false,
+// What a read of standard input puts, 0 once the input has ended; negative where it fails.
+fn read_some(stage: Stage, input: &mut [u8]) -> isize {
+    if printouts::is_ended(stage) {
+        return 0;
     }
-}
-
-// Whether a read that put nothing was at the end, and did not fail.
-fn is_end(got: isize) -> bool {
+    let got = libc::read(STDIN_FILENO, input);
     if got < 0 {
         os::fail(b"standard input");
     }
-    got == 0
+    got
 }
 
-// One read of standard input.
-fn serve_some(
+// One turn: what was read is handed over, and what is to be printed is written.
+fn turn(
     table: &[u8],
     board: &mut [u16],
     bytes: &mut [u8],
     links: &mut [u16],
     keys: &mut [u32],
     cents: &mut [i64],
-    carry: Carry,
-    start: u16,
-) -> Fed
-    requires { ⌜ Accepted (now table) (lists (now board) (now bytes) (now links) (now keys) (now cents)) ⌝ }
-    requires { ⌜ Passed start (getD (now board) 0 0) (statusesIn (now bytes)) ⌝ }
-    requires { ⌜ carry .len ≤ 81 ⌝ }
-    ensures { λ _. ⌜ Accepted (now (table .entry))
-        (lists (now (board .exit)) (now (bytes .exit)) (now (links .exit)) (now (keys .exit)) (now (cents .exit))) ⌝ }
-    ensures { λ r. ⌜ Passed (r .start) (getD (now (board .exit)) 0 0) (statusesIn (now (bytes .exit))) ⌝ }
-    ensures { λ r. ⌜ r .carry .len ≤ 81 ⌝ }
+    stage: Stage,
+) -> Went
+    requires { ⌜ Stands (now table) (lists (now board) (now bytes) (now links) (now keys) (now cents)) stage ⌝ }
+    requires { ⌜ doneOn (now board) stage ≡ false ⌝ }
+    ensures { λ r. ⌜ Stands (now (table .entry))
+        (lists (now (board .exit)) (now (bytes .exit)) (now (links .exit)) (now (keys .exit)) (now (cents .exit)))
+        (r .stage) ⌝ }
 {
     let mut input = [0u8; 4096];
-    let got = libc::read(STDIN_FILENO, &mut input);
-    if got <= 0 {
-        return Fed {
-            carry: carry,
-            start: start,
+    let got = read_some(stage, &mut input);
+    if got < 0 {
+        return Went {
+            stage: stage,
             more: false,
-            ended: is_end(got),
         };
     }
     let n = io::count(got, &input);
-    serve_read(
+    let mut out = io::large_buffer();
+    let made = printouts::advance(
         table,
         board,
         bytes,
         links,
         keys,
         cents,
-        carry,
+        stage,
         &input[..n],
-        start,
-    )
-}
-
-// All of standard input.
-fn serve_all(
-    table: &[u8],
-    board: &mut [u16],
-    bytes: &mut [u8],
-    links: &mut [u16],
-    keys: &mut [u32],
-    cents: &mut [i64],
-) -> Fed
-    requires { ⌜ Accepted (now table) (lists (now board) (now bytes) (now links) (now keys) (now cents)) ⌝ }
-    ensures { λ _. ⌜ Accepted (now (table .entry))
-        (lists (now (board .exit)) (now (bytes .exit)) (now (links .exit)) (now (keys .exit)) (now (cents .exit))) ⌝ }
-    ensures { λ r. ⌜ Passed (r .start) (getD (now (board .exit)) 0 0) (statusesIn (now (bytes .exit))) ⌝ }
-    ensures { λ r. ⌜ r .carry .len ≤ 81 ⌝ }
-{
-    let mut fed = Fed {
-        carry: sessions::no_bytes(),
-        start: 0,
-        more: true,
-        ended: false,
-    };
-    let mut turns = u64::MAX;
-    while turns > 0 {
-        let carry = fed.carry;
-        fed = serve_some(table, board, bytes, links, keys, cents, carry, fed.start);
-        if !fed.more {
-            return fed;
-        }
-        turns -= 1;
-    }
-    fed
-}
-
-// The end of the input; whether its last answer could be written.
-fn finish(
-    table: &[u8],
-    board: &mut [u16],
-    bytes: &mut [u8],
-    links: &mut [u16],
-    keys: &mut [u32],
-    cents: &mut [i64],
-    carry: Carry,
-    start: u16,
-) -> bool
-    requires { ⌜ Accepted (now table) (lists (now board) (now bytes) (now links) (now keys) (now cents)) ⌝ }
-    requires { ⌜ Passed start (getD (now board) 0 0) (statusesIn (now bytes)) ⌝ }
-    requires { ⌜ carry .len ≤ 81 ⌝ }
-    ensures { λ _. ⌜ Accepted (now (table .entry))
-        (lists (now (board .exit)) (now (bytes .exit)) (now (links .exit)) (now (keys .exit)) (now (cents .exit))) ⌝ }
-{
-    let mut out = [0u8; 16];
-    let served = sessions::serve_end(
-        table,
-        board,
-        bytes,
-        links,
-        keys,
-        cents,
-        carry,
         &mut out,
-        start,
     );
-    say(&out, served.at)
-}
-
-// What is on the board, in parts of a buffer each.
-fn report(table: &[u8], board: &[u16], bytes: &[u8], links: &[u16], keys: &[u32], cents: &[i64])
-    requires { ⌜ Accepted (now table) (lists (now board) (now bytes) (now links) (now keys) (now cents)) ⌝ }
-{
-    let mut out = io::buffer();
-    let all = reports::line_count(board);
-    let mut next: u16 = 0;
-    while next < all {
-        let part = reports::report_part(table, board, bytes, links, keys, cents, next, &mut out);
-        if !say(&out, part.at) {
-            return;
-        }
-        next = part.next;
+    let said = say(&out, made.at);
+    let next = made.stage;
+    Went {
+        stage: next,
+        more: said,
     }
 }
 
-// The input on accepted lists, then, if it was read to its end and every answer written, the report.
+// Turns on an opened board, until all is printed or one cannot read or write.
 fn serve(
     table: &[u8],
     board: &mut [u16],
@@ -257,21 +136,27 @@ fn serve(
     keys: &mut [u32],
     cents: &mut [i64],
 )
-    requires { ⌜ Accepted (now table) (lists (now board) (now bytes) (now links) (now keys) (now cents)) ⌝ }
+    requires { ⌜ Opened (now table) (lists (now board) (now bytes) (now links) (now keys) (now cents)) ⌝ }
 {
-    let fed = serve_all(table, board, bytes, links, keys, cents);
-    if !fed.ended {
-        return;
-    }
-    let carry = fed.carry;
-    if finish(table, board, bytes, links, keys, cents, carry, fed.start) {
-        report(table, board, bytes, links, keys, cents);
+    let mut stage = printouts::begin();
+    let mut turns = u64::MAX;
+    while turns > 0 {
+        if printouts::is_done(board, stage) {
+            return;
+        }
+        let went = turn(table, board, bytes, links, keys, cents, stage);
+        if !went.more {
+            return;
+        }
+        stage = went.stage;
+        turns -= 1;
     }
 }
 
-// An accepted table and an opened board.
+// The board's other lists, beside an opened board.
 fn run(table: &[u8], board: &mut [u16])
-    requires { ⌜ (tableRefusal (now table) ≡ 0) × (now board ≡ boardNumbers freshBoard) ⌝ }
+    requires { ⌜ ((before : List ℕ) × (openNumber (now table) before ≡ 0)
+        × (now board ≡ openedNumbers (now table) before)) ⌝ }
 {
     let mut bytes = [0u8; 3072];
     let mut links = [0u16; 10240];

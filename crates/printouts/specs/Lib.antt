@@ -1,2 +1,3 @@
 -- What the program prints.
+pub mod Stages
 pub mod Prints

@@ -1,52 +1,37 @@
--- What the program prints (rules 8.1 to 8.5): the parts that its functions leave in their buffers, one after another,
--- in the order in which `main` calls them. That it calls them so is not proved.
+-- What the program prints (rules 8.1 to 8.5): what the turns that it makes leave in their buffers, one after another.
 use mathlib.Core.Path.{_≡_}
+use mathlib.Core.Bool.{Bool, true, false}
 use mathlib.Core.List.{List, [], _∷_, _++_}
-use Prim.Native.Nat.{ℕ, zero, suc, _<_, _≤_}
+use Prim.Native.Nat.{ℕ, zero, suc, _≤_}
+use lib.Dec.{eqb}
 use lib.ListN.{length, take}
 use Rattle.model.specs.Effects.{Refused}
 use Rattle.model.specs.Printing.{answerLine}
 use Rattle.model.specs.Sessions.{printout}
 use Rattle.boards.specs.Layout.{Lists, boardLen}
 use Rattle.prints.specs.Printed.{Printed}
-use Rattle.sessions.specs.declared.Carry as DC
-use Rattle.sessions.specs.Serves.{Serves-chunk, Serves-end}
-use Rattle.reports.specs.Parts.{linesOn, lineCount, allLines, between}
 use Rattle.calls.specs.Opens.{openNumber}
 use Rattle.schedules.specs.Schedules.{Opened}
+use Rattle.printouts.specs.declared.Stage as DS
+use Rattle.printouts.specs.Stages.{Begins, Advances, doneOn}
 
--- chunks of input, each on the lists and after the bytes that the one before left
-abbrev pub Feeds : List ℕ → Lists → DC.Carry → List (List ℕ) → List ℕ → Lists → DC.Carry → Type 0
-Feeds s l c [] text l′ c′ = (text ≡ []) × (l′ ≡ l) × (c′ ≡ c)
-Feeds s l c (input ∷ inputs) text l′ c′ =
-    (g : Lists) × (b : DC.Carry) × (at : ℕ) × (out : List ℕ) × (rest : List ℕ)
-    × Serves-chunk s l c input g b at out × (text ≡ take at out ++ rest) × Feeds s g b inputs rest l′ c′
+-- turns with the bytes of a read each, every one on the lists and at the stage that the one before left
+abbrev pub Turns : List ℕ → Lists → DS.Stage → List (List ℕ) → List ℕ → Lists → DS.Stage → Type 0
+Turns s l g [] text l′ g′ = (text ≡ []) × (l′ ≡ l) × (g′ ≡ g)
+Turns s l g (input ∷ inputs) text l′ g′ =
+    (m : Lists) × (h : DS.Stage) × (at : ℕ) × (out : List ℕ) × (rest : List ℕ)
+    × Advances s l g input m h at out × (text ≡ take at out ++ rest) × Turns s m h inputs rest l′ g′
 
--- the report from line n on, in parts that go up to the lines ms, of which the last is its end
-abbrev pub Reports : List ℕ → Lists → ℕ → List ℕ → List ℕ → Type 0
-Reports s l n [] text = (text ≡ []) × (n ≡ lineCount (l .board))
-Reports s l n (m ∷ ms) text =
-    (at : ℕ) × (out : List ℕ) × (rest : List ℕ) × (n < m) × (m ≤ lineCount (l .board))
-    × (take at out ≡ allLines (between n m (linesOn s l))) × (text ≡ take at out ++ rest) × Reports s l m ms rest
-
--- on a board that was opened: the chunks, the end of the input, and the report
-pub record Serves-all (s : List ℕ) (chunks : List (List ℕ)) (text : List ℕ) : Type 0 where
+-- on a board that was opened, from the beginning until all is printed
+pub record Serves-all (s : List ℕ) (reads : List (List ℕ)) (text : List ℕ) : Type 0 where
   pub first : Lists
   pub opened : Opened s first
-  pub none : DC.Carry
-  pub no-bytes : none .len ≡ 0
-  pub fed : Lists
-  pub carry : DC.Carry
-  pub answers : List ℕ
-  pub feeds : Feeds s first none chunks answers fed carry
+  pub begun : DS.Stage
+  pub begins : Begins begun
   pub last : Lists
-  pub at : ℕ
-  pub out : List ℕ
-  pub ends : Serves-end s fed carry last at out
-  pub parts : List ℕ
-  pub report : List ℕ
-  pub reports : Reports s last 0 parts report
-  pub whole : text ≡ answers ++ (take at out ++ report)
+  pub reached : DS.Stage
+  pub turns : Turns s first begun reads text last reached
+  pub done : doneOn (last .board) reached ≡ true
 
 -- rule 8.1: a table that is refused, one line
 pub record Says-refused (number : ℕ) (text : List ℕ) : Type 0 where
@@ -58,20 +43,22 @@ pub record Says-refused (number : ℕ) (text : List ℕ) : Type 0 where
   pub whole : text ≡ take at out
 
 abbrev pub Prints-by : ℕ → List ℕ → List (List ℕ) → List ℕ → Type 0
-Prints-by zero s chunks text = Serves-all s chunks text
-Prints-by (suc f) s chunks text = Says-refused (suc f) text
+Prints-by zero s reads text = Serves-all s reads text
+Prints-by (suc f) s reads text = Says-refused (suc f) text
 
 -- the bytes of the file that are read, a board's list of its length, and what is printed after it was opened
 abbrev pub Prints : List ℕ → List (List ℕ) → List ℕ → Type 0
-Prints file chunks text =
+Prints file reads text =
     (before : List ℕ) × (length before ≡ boardLen)
-    × Prints-by (openNumber (take 413 file) before) (take 413 file) chunks text
+    × Prints-by (openNumber (take 413 file) before) (take 413 file) reads text
 
-abbrev pub joinedChunks : List (List ℕ) → List ℕ
-joinedChunks [] = []
-joinedChunks (c ∷ cs) = c ++ joinedChunks cs
+-- the input's bytes, read by read; one that puts none is at its end
+abbrev pub inputOf : Bool → List (List ℕ) → List ℕ
+inputOf ended [] = []
+inputOf true (c ∷ cs) = []
+inputOf false (c ∷ cs) = c ++ inputOf (eqb (length c) 0) cs
 
--- however the input is split into chunks, what is printed is the model's printout
+-- however the input is split into reads, what is printed is the model's printout
 abbrev pub Program-prints : Type 0
-Program-prints = (file : List ℕ) (chunks : List (List ℕ)) (text : List ℕ) → Prints file chunks text
-    → text ≡ printout file (joinedChunks chunks)
+Program-prints = (file : List ℕ) (reads : List (List ℕ)) (text : List ℕ) → Prints file reads text
+    → text ≡ printout file (inputOf false reads)

@@ -1,6 +1,5 @@
 -- `gevnyusto::main` is safe: a board that is not refused is opened.
 use mathlib.Core.Path.{sym, _∙_}
-use Rattle.calls.proofs.OpenLaws.{unrefused}
 use borrow.Author.Needs.{needs}
 use Rattle.gevnyusto.proofs.main.Statement.{statement}
 use Rattle.gevnyusto.proofs.main.Tie as tie
@@ -8,8 +7,7 @@ use Rattle.gevnyusto.proofs.main.Tie as tie
 run-requires : tie.Need-run-requires
 run-requires c κs =
     let e = c .before .before .before .«open» .ensures in
-    let u = unrefused _ _ (sym (e .0) ∙ c .before .if1 .left) in
-    (u .0, e .1 ∙ u .1)
+    (_, sym (e .0) ∙ c .before .if1 .left, e .1)
 
 pub main-spec : {M : Type 1} → statement M
 main-spec =
