@@ -119,7 +119,8 @@ module _ (t : Table) (b : Board) (i : ℕ) (w : Job) where
   looked k a zero e = owes tt (next-chord a (missedRetry t b w k))
   looked k a (suc n) e =
       owes tt (goes-on a _ refl
-      (snoc-all (λ j x. x < length (b .messages)) (w .chosen) n 0 (a .job .chosen-in) (on-board (choice-some t b w k n e)))
+      (snoc-all (λ j x. x < length (b .messages)) (w .chosen) n 0 (a .job .chosen-in)
+      (on-board (choice-some t b w k n e)))
       (by _ (eqb (suc k) (size t (w .chord))) refl))
     where
       on-board : Chosen t b w k n → n < length (b .messages)

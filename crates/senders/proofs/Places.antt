@@ -92,7 +92,8 @@ module _ (s : List ℕ) (accepts : tableRefusal s ≡ 0) where
         && eqb (length (take k ns)) k)) && ltb k (size (tableOf s) chord))
         ≡ (inChord (tableOf s) chord x && ltb k (size (tableOf s) chord))
     unfolding inChord
-    look-is k = and-spare-last (ltb chord (length (tableOf s .chords))) (isIn x (chordAt (tableOf s) chord .channels)) _ _
+    look-is k = and-spare-last (ltb chord (length (tableOf s .chords)))
+        (isIn x (chordAt (tableOf s) chord .channels)) _ _
         (λ e f.
         let few = table-ok s accepts .chord-few chord (ltb-true _ _ e) in
         let l = ltb-true k (size (tableOf s) chord) f in

@@ -62,7 +62,8 @@ phase-ok-requires : tie.Need-phase-ok-requires
 phase-ok-requires c κs =
     let q = c .before .before .before in
     let a = start (q .before) .args in
-    rw (part-at (a .s .now) (a .at) 21 8 0 (omega arith)) at (kind-below (numbers (q .before)) (a .n) (a .k) (all-within q))
+    rw (part-at (a .s .now) (a .at) 21 8 0 (omega arith))
+    at (kind-below (numbers (q .before)) (a .n) (a .k) (all-within q))
 
 returns-2 : tie.Need-returns-2
 returns-2 c b sees =

@@ -43,7 +43,8 @@ owned c e =
 returns : tie.Need-returns
 returns c b sees =
     let a = c .before .before .before .before .before .args in
-    sym (idle-ok (tableOf (a .table .now)) b (row (a .s .now) (a .at)) (part-first (a .s .now) (a .at) 21 0 (omega arith) ∙ c .if1 .taken))
+    sym (idle-ok (tableOf (a .table .now)) b (row (a .s .now) (a .at))
+    (part-first (a .s .now) (a .at) 21 0 (omega arith) ∙ c .if1 .taken))
 
 returns-2 : tie.Need-returns-2
 returns-2 c b sees =
@@ -75,7 +76,8 @@ returns-4 c b sees =
     let g = sender-fits (numbers s) (s .pre .1 .1) .state in
     let one : getD (numbers s) 0 0 ≡ 1 = only-one _ (busy (o .before .before)) (λ e. w .if3 .left (sym f ∙ e)) g in
     let e : d .sender-of .result ≡ senderFrom (numbers s)
-    = sym (sender-back (d .sender-of .result)) ∙ ap senderFrom (rw (add-sub-cancel-left (a .at) 21) at (d .sender-of .ensures .0)) in
+    = sym (sender-back (d .sender-of .result))
+    ∙ ap senderFrom (rw (add-sub-cancel-left (a .at) 21) at (d .sender-of .ensures .0)) in
     rw e at (c .job-ok .ensures b sees) ∙ sym (working-ok (tableOf (a .table .now)) b (numbers s) (owned o) one)
 
 pub state-ok-spec : {M : Type 1} → statement M

@@ -23,8 +23,10 @@ sender-of-requires c κs =
     let s = c .before .before in
     let a = s .args in
     let all = all-numbers (a .s .now) (s .pre .0) in
-    rw (add-sub-cancel-left (2 + 21 * a .i) 21)
-    (part-len (a .s .now) (2 + 21 * a .i) 21 (omega (arith, all .0, s .pre .1)), part-ok (a .i) (a .s .now) (all .1) (s .pre .1))
+    rw (add-sub-cancel-left (2 + 21 * a .i) 21) (
+      part-len (a .s .now) (2 + 21 * a .i) 21 (omega (arith, all .0, s .pre .1)),
+      part-ok (a .i) (a .s .now) (all .1) (s .pre .1),
+    )
 
 returns : tie.Need-returns
 returns c =
