@@ -10,7 +10,7 @@ use borrow.Author.Tests.{eqb-true, ne-eqb, leb-true, le-leb, lt-leb}
 use lib.Dec.{eqb, leb}
 use lib.IntN.{pos}
 use lib.ListN.{length, getD, drop, take, set, length-set, take-append-drop}
-use lib.Seq.{drop-drop, drop-set-lt, take-take, take-suc-set, getD-set-same}
+use lib.Seq.{drop-drop, drop-set-lt, take-take, take-suc-set}
 use Rattle.model.specs.Layout.{tableOf}
 use Rattle.model.specs.Boards.{Board}
 use Rattle.model.specs.Effects.{Said}

@@ -1,14 +1,14 @@
 -- However the input is split into chunks, what the program's functions print is the model's printout.
 use mathlib.Core.Path.{_≡_, refl, sym, ap, subst, _∙_}
 use mathlib.Core.List.{List, [], _∷_, _++_, append-nil, append-assoc}
-use Prim.Native.Nat.{ℕ, zero, suc, _≤_}
+use Prim.Native.Nat.{ℕ, zero, suc}
 use native.Mathlib.Omega.{arith}
 use borrow.Author.Tests.{eq-eqb}
 use lib.ListN.{length, take}
 use Rattle.model.specs.Basics.{firstOf}
 use Rattle.model.specs.Layout.{tableOf, tableRefusal}
-use Rattle.model.specs.Boards.{Board, emptyBoard, builtinBackoffs}
-use Rattle.model.specs.Sessions.{Session, fed, inputEnds, sessionOf, reportText, printedBy, printout}
+use Rattle.model.specs.Boards.{emptyBoard, builtinBackoffs}
+use Rattle.model.specs.Sessions.{Session, fed, inputEnds, reportText, printedBy, printout}
 use Rattle.boards.specs.Layout.{Lists, boardLen}
 use Rattle.refusals.specs.Held.{heldOf}
 use Rattle.refusals.specs.Calls.{boardOf}
