@@ -22,7 +22,7 @@ use Rattle.model.proofs.Tests.{never}
 use Rattle.model.proofs.Jobs.{pass-by}
 use Rattle.model.proofs.Chords.{names-le}
 use Rattle.model.proofs.Passage.{After, same, turned-by}
-use Rattle.model.proofs.Choice.{snoc-all}
+use Rattle.model.proofs.Lists.{snoc-all}
 use Rattle.model.proofs.AtWork.{AtWork}
 use Rattle.alone.proofs.Room.{room}
 use Rattle.alone.proofs.Calm.{Calm, Within, within-more, later, Next, next, working-at, work-step, goes-on, Goes}
@@ -107,7 +107,7 @@ module _ (t : Table) (i h X T : ℕ) (some : 1 ≤ T) (S : Stage t i h X T) (P :
 
             chosen : AllPending b (w .chosen ++ (m ∷ [])) 0
             chosen j lo =
-                snoc-all (λ j x. messageAt b x .status ≡ pending) (w .chosen) m (λ j. all j (omega arith))
+                snoc-all (λ j x. messageAt b x .status ≡ pending) (w .chosen) m 0 (λ j. all j (omega arith))
                 (found-pending t b w k m e (subst⁻¹ (λ (o : ℕ). messageAt b o .status ≡ pending) sub pend)) j
 
             last : (u : Bool) → eqb (suc k) (size t (w .chord)) ≡ u

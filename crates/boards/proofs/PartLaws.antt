@@ -1,22 +1,23 @@
 -- Parts of a list: what one write does to them, and another part in their place, at any place and any width.
-use mathlib.Core.Path.{_≡_, _∙_}
+use mathlib.Core.Path.{_≡_}
 use mathlib.Core.List.{List, _++_}
 use Prim.Native.Nat.{ℕ, _+_, _-_, _<_, _≤_}
 use native.Mathlib.Omega.{arith}
 use lib.ListN.{length, take, drop, getD, set, length-append, length-drop}
-use lib.Seq.{length-take-le, getD-take, getD-drop, take-set-lt, take-set-le, drop-set-add, drop-set-lt}
-use lib.Seq.{take-at, drop-at, take-append-le, drop-append-le, take-take, take-add}
+use lib.Seq.{length-take-le, take-set-lt, take-set-le, drop-set-add, drop-set-lt}
+use lib.Seq.{take-at, drop-at, take-append-le, drop-append-le, take-take}
+use Rattle.model.proofs.Parts.{part-len, part-at, take-drop}
 use Rattle.boards.specs.Parts.{part, splice}
 
 module _ {A : Type 0} (at n : ℕ) (s : List A) where
   pub length-part : at + n ≤ length s → length (part at n s) ≡ n
   unfolding part
-  length-part h = let e = length-drop at s in length-take-le n (drop at s) (omega arith)
+  length-part h = part-len s at n h
 
   -- element j of the part is element i of the list
   pub getD-part : (i j : ℕ) (d : A) → i ≡ at + j → j < n → getD (part at n s) j d ≡ getD s i d
   unfolding part
-  getD-part i j d e h = rw e (getD-take n (drop at s) j d h ∙ getD-drop at s j d)
+  getD-part i j d e h = rw e (part-at s at n j d h)
 
   -- a write to element j of the part, one before the part, and one after it
   pub set-here : (i j : ℕ) (a : A) → i ≡ at + j → j < n → part at n (set s i a) ≡ set (part at n s) j a
@@ -32,9 +33,6 @@ module _ {A : Type 0} (at n : ℕ) (s : List A) where
   set-after i a h =
       let e : i ≡ at + (i - at) = omega arith in
       rw (e, drop-set-add at s (i - at) a) (take-set-le n (drop at s) (i - at) a (omega arith))
-
-drop-take : {A : Type 0} (a k : ℕ) (s : List A) → a ≤ length s → drop a (take (a + k) s) ≡ take k (drop a s)
-drop-take a k s h = rw (take-add a k s) (drop-at (take a s) (take k (drop a s)) a (length-take-le a s h))
 
 -- another part in the place of the one from `at` on
 module _ {A : Type 0} (at n : ℕ) (ys s : List A) (h : at + n ≤ length s) (e : length ys ≡ n) where
@@ -64,4 +62,4 @@ module _ {A : Type 0} (at n : ℕ) (ys s : List A) (h : at + n ≤ length s) (e 
         drop-append-le a (take at s) (ys ++ drop n (drop at s)) (omega arith),
         take-append-le m (drop a (take at s)) (ys ++ drop n (drop at s)) (omega arith),
       )
-      (rw (z, drop-take a (at - a) s (omega arith)) (take-take m (at - a) (drop a s) (omega arith)))
+      (rw (z, ← take-drop a (at - a) s) (take-take m (at - a) (drop a s) (omega arith)))

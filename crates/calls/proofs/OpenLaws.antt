@@ -11,8 +11,9 @@ use lib.ListN.{length, replicate}
 use Rattle.model.specs.Tables.{Table}
 use Rattle.model.specs.Boards.{emptyBoard, builtinBackoffs}
 use Rattle.model.specs.Layout.{tableRefusal, tableOf}
-use Rattle.model.specs.Sound.{sound, senderOk}
+use Rattle.model.specs.Sound.{sound}
 use Rattle.model.proofs.Tests.{refused-first, first-none}
+use Rattle.model.proofs.SoundKept.{empty-sound}
 use Rattle.columns.specs.Columns.{Columns}
 use Rattle.columns.specs.MatchColumns.{MatchColumns}
 use Rattle.state.specs.declared.Sender as DD
@@ -60,10 +61,6 @@ module _ (s board : List ℕ) where
 pub opens-empty : (t : Table) (c : Columns) (m : MatchColumns)
     → boardIn t freshBoard c m ≡ emptyBoard builtinBackoffs
 opens-empty t c m = refl
-
-empty-sound : (t : Table) (rests : List ℕ) → sound t (emptyBoard rests) ≡ true
-unfolding sound senderOk
-empty-sound t rests = refl
 
 none-known : (s : List ℕ) → statusesOk 0 s ≡ true
 unfolding statusesOk

@@ -8,6 +8,7 @@ use lib.ListN.{getD, drop}
 use native.Mathlib.Omega.{arith}
 use Rattle.model.specs.Tables.{Table}
 use Rattle.model.specs.Pools.{quiet}
+use Rattle.model.proofs.Parts.{part-at, part-first}
 use Rattle.columns.specs.Columns.{Columns}
 use Rattle.columns.specs.MatchColumns.{MatchColumns}
 use Rattle.state.specs.Views.{stepsIn}
@@ -15,13 +16,12 @@ use Rattle.boards.specs.Boards.{boardIn, zeroSender}
 use Rattle.reads.proofs.QuietLaws.{quietFrom, quiet-no, quiet-next, quiet-end}
 use Rattle.rows.specs.Decoded.{stateFrom, boardFrom}
 use Rattle.refusals.specs.Rows.{sendersIn}
-use Rattle.rows.proofs.WalkLaws.{part-at, part-first}
 use Rattle.refusals.proofs.RowWalks.{senders-count, nth-sender}
 
 pub reply-at : (s : List ℕ) (i : ℕ) → i < 32
     → getD s (2 + 21 * i + 4) 0 ≡ getD (boardFrom s .senders) i zeroSender .reply
 unfolding boardFrom
-reply-at s i h = rw (nth-sender s i zeroSender h, part-at s (2 + 21 * i) 4 (omega arith))
+reply-at s i h = rw (nth-sender s i zeroSender h, part-at s (2 + 21 * i) 21 4 0 (omega arith))
 
 -- whether the sender of the 21 numbers from a place on may step
 abbrev pub rowSteps : List ℕ → ℕ → Bool
@@ -40,7 +40,11 @@ module _ (t : Table) (s : List ℕ) where
     row-steps : let d = getD (sendersIn s) i zeroSender in
         stepsIn (d .state) (d .signalled) ≡ rowSteps s (2 + 21 * i)
     row-steps =
-        rw (nth-sender s i zeroSender h, part-first s (2 + 21 * i), part-at s (2 + 21 * i) 1 (omega arith))
+        rw (
+          nth-sender s i zeroSender h,
+          part-first s (2 + 21 * i) 21 0 (omega arith),
+          part-at s (2 + 21 * i) 21 1 0 (omega arith),
+        )
 
     pub rest-no : rowSteps s (2 + 21 * i) ≡ true → restQuiet i ≡ false
     rest-no e = quiet-no t (sendersIn s) zeroSender i (omega (arith, senders-count 32 (drop 2 s), h)) (row-steps ∙ e)

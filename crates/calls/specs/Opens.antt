@@ -1,5 +1,4 @@
 -- Open (rule 6.3): the numbers of an empty board (rule 1.10); the other lists may hold anything.
-use mathlib.Core.Bool.{false}
 use mathlib.Core.List.{List}
 use Prim.Native.Nat.{ℕ}
 use lib.Dec.{eqb}

@@ -1,4 +1,2 @@
--- Laws of channels walked from the front,
--- and of the next chord that names one.
-pub mod Walks
+-- Laws of the next chord that names a channel.
 pub mod Naming

@@ -1,4 +1,2 @@
--- Laws of a table as a value: arrays filled from lists,
--- and the value seen as the table.
-pub mod Fills
+-- Laws of a table as a value, seen as the table.
 pub mod Views

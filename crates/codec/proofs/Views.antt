@@ -3,11 +3,12 @@ use mathlib.Core.Path.{_≡_, refl, ap}
 use mathlib.Core.List.{List, [], _∷_, _++_, map}
 use Prim.Native.Nat.{ℕ, zero, suc, _<_, _≤_}
 use native.Mathlib.Omega.{arith}
-use lib.ListN.{length, getD, set, replicate, length-map, length-replicate, take}
+use lib.ListN.{length, getD, replicate, length-map, length-replicate, take}
 use lib.Seq.{sets, sets-eq}
 use Rattle.model.specs.Tables.{Chord, Table, noChord}
 use Rattle.model.specs.Layout.{tableRefusal, tableOf}
 use Rattle.model.proofs.AcceptedChords.{TableOk, table-ok}
+use Rattle.model.proofs.Parts.{map-sets}
 use Rattle.codec.specs.Views.{firsts, chordIn, tableIn, chordFor, tableFor, emptyChord, tableRead}
 
 pub firsts-front : {A : Type 0} (d : A) (xs ys : List A) → firsts d (length xs) (xs ++ ys) ≡ xs
@@ -16,16 +17,6 @@ firsts-front d (x ∷ xs) ys = ap (λ l. x ∷ l) (firsts-front d xs ys)
 
 firsts-stored : {A : Type 0} (d : A) (xs ys : List A) → length xs ≤ length ys → firsts d (length xs) (sets ys 0 xs) ≡ xs
 firsts-stored d xs ys h = rw (sets-eq xs ys 0 (omega arith), firsts-front)
-
-map-set : {A B : Type 0} (f : A → B) (l : List A) (i : ℕ) (x : A) → map f (set l i x) ≡ set (map f l) i (f x)
-map-set f [] i x = refl
-map-set f (y ∷ ys) zero x = refl
-map-set f (y ∷ ys) (suc i) x = ap (λ l. f y ∷ l) (map-set f ys i x)
-
-pub map-sets : {A B : Type 0} (f : A → B) (l : List A) (i : ℕ) (xs : List A)
-    → map f (sets l i xs) ≡ sets (map f l) i (map f xs)
-map-sets f l i [] = refl
-map-sets f l i (x ∷ xs) = rw (map-sets f (set l i x) (suc i) xs, map-set)
 
 chord-seen : (c : Chord) → length (c .channels) ≤ 8 → chordIn (chordFor c) ≡ c
 unfolding chordIn chordFor

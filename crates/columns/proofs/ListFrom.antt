@@ -1,13 +1,10 @@
 -- Lists by number: their length, their elements, what is left of them, and one element more.
 use mathlib.Core.Path.{_≡_, refl, ap, _∙_}
-use mathlib.Core.Logic.{_⊎_, _≢_, inl, inr}
-use mathlib.Core.List.{List, [], _∷_, _++_}
+use mathlib.Core.List.{[], _∷_, _++_}
 use Prim.Native.Nat.{ℕ, zero, suc, _+_, _-_, _<_, _≤_}
 use native.Mathlib.Numerals.{add-one}
 use native.Mathlib.Omega.{arith}
-use lib.ListN.{length, getD, set}
-use lib.Seq.{getD-set-same, getD-set-other}
-use Rattle.model.proofs.Tests.{same?}
+use lib.ListN.{length, getD}
 use Rattle.columns.specs.Columns.{listFrom}
 
 snoc-from : {A : Type 0} (f : ℕ → A) (i n k : ℕ) → i + n ≡ k
@@ -47,12 +44,3 @@ module _ {A : Type 0} (f : ℕ → A) where
       → listFrom g 0 (suc n) ≡ listFrom f 0 n ++ (x ∷ [])
   added-from g n x e q =
       snoc-from g 0 n n (omega arith) ∙ rw (same-from g 0 n (λ j l. e j (omega arith)), q)
-
--- the numbers below i are written, and then number i
-pub set-more : (f : ℕ → ℕ) (s : List ℕ) (i x : ℕ) → i < length s → x ≡ f i → ((k : ℕ) → k < i → getD s k 0 ≡ f k)
-    → (k : ℕ) → k < i + 1 → getD (set s i x) k 0 ≡ f k
-set-more f s i x h e l k m = go (same? k i)
-  where
-    go : (k ≡ i) ⊎ (k ≢ i) → getD (set s i x) k 0 ≡ f k
-    go (inl z) = rw z (getD-set-same s i x 0 h ∙ e)
-    go (inr z) = getD-set-other s i k x 0 z ∙ l k (omega arith)

@@ -1,13 +1,10 @@
--- Walks over what is left from i on of a list of numbers, and the tests of a message by columns.
-use mathlib.Core.Path.{_≡_, refl, sym, _∙_}
+-- Laws of messages walked by their columns: their tests, and the first that passes.
+use mathlib.Core.Path.{_≡_, refl, _∙_}
 use mathlib.Core.Bool.{Bool, true, false, _&&_, _||_, not, and-false, and-true, and-assoc}
 use mathlib.Core.List.{List, []}
 use Prim.Native.Nat.{ℕ, _+_, _-_, _<_, _≤_}
-use native.Mathlib.Numerals.{add-one}
 use lib.Dec.{eqb}
-use lib.ListN.{length, getD, drop, drop-of-length-le}
-use lib.Seq.{drop-cons}
-use borrow.Author.Tests.{eq-eqb, ne-eqb}
+use lib.ListN.{getD}
 use Rattle.model.specs.Basics.{isIn, pick}
 use Rattle.model.specs.Tables.{Chord}
 use Rattle.model.specs.Boards.{Sent, isClaimed}
@@ -16,16 +13,6 @@ use Rattle.columns.specs.Columns.{Columns, messageIn, messagesFrom}
 use Rattle.columns.specs.Firsts.{firstFrom, found, ofKind, taking, suiting, eligible}
 use Rattle.columns.proofs.Firsts.{first-step, first-skip, first-lowest, first-found}
 use Rattle.columns.proofs.Messages.{pending-is, claimed-is}
-
-module _ (s : List ℕ) (i x : ℕ) (h : i < length s) where
-  pub in-here : getD s i 0 ≡ x → isIn x (drop i s) ≡ true
-  in-here e = rw (drop-cons s i 0 h, eq-eqb x (getD s i 0) (sym e))
-
-  pub in-next : (getD s i 0 ≡ x → ⊥) → isIn x (drop i s) ≡ isIn x (drop (i + 1) s)
-  in-next e = rw (drop-cons s i 0 h, add-one i, ne-eqb x (getD s i 0) (λ z. e (sym z)))
-
-pub in-none : (s : List ℕ) (i x : ℕ) → length s ≤ i → isIn x (drop i s) ≡ false
-in-none s i x h = rw (drop-of-length-le s h)
 
 -- equal property numbers, where the chord wants them
 pub alike-is : (c : Chord) (s x : Sent) → alike c s x ≡ (not (c .equal) || eqb (x .property) (s .property))

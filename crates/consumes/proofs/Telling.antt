@@ -4,7 +4,6 @@ use mathlib.Core.Bool.{Bool, true, false, _&&_, not}
 use mathlib.Core.List.{List, [], _++_, append-nil, append-assoc}
 use Prim.Native.Nat.{ℕ, suc, _+_, _<_, _≤_}
 use native.Mathlib.Numerals.{add-one}
-use native.Mathlib.Omega.{arith}
 use lib.Dec.{eqb}
 use lib.ListN.{length, take, drop, getD, set, drop-of-length-le}
 use lib.Seq.{getD-take, length-take-le, take-suc-set, drop-cons}
@@ -40,13 +39,6 @@ module _ (t : Table) (is : List Message) (h : ℕ) (acc ns : List ℕ) (i : ℕ)
 
   pub tell-end : length ns ≤ i → acc ++ toTell t is h (drop i ns) ≡ acc
   tell-end l = rw (drop-of-length-le ns l) (append-nil acc)
-
--- how many there are, of a list kept in an array
-pub count-is : (ys xs : List ℕ) (n : ℕ) → take n xs ≡ ys → n ≤ length xs → length ys ≡ n
-count-is ys xs n e h = rw (← e) (length-take-le n xs h)
-
-pub under-count : (ys xs : List ℕ) (n k : ℕ) → k < length ys → take n xs ≡ ys → n ≤ length xs → k < n
-under-count ys xs n k l e h = let q = count-is ys xs n e h in omega arith
 
 -- the effect, by the list that was found
 module _ (t : Table) (b : Board) (d : DD.Sender) (k n : ℕ) (xs : List ℕ) where

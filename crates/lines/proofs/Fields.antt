@@ -71,16 +71,13 @@ Cut s at i = fieldsOf (drop at s) ≡ take (i - at) (drop at s) ∷ fieldsOf (dr
 
 -- the field from a place on, where i is the first space or the end
 module _ (s : List ℕ) (at i : ℕ) (l : at ≤ length s) (e : i ≡ at + spaceAt (drop at s)) where
-  left : length (drop at s) ≡ length s - at
-  left = length-drop at s
-
   pub field-more : i < length s → Cut s at i
   field-more h =
       let n : i - at ≡ spaceAt (drop at s) = omega arith in
       let m : i + 1 ≡ at + suc (spaceAt (drop at s)) = omega arith in
-      rw (n, m, ← drop-drop (suc (spaceAt (drop at s))) at s) (cut-more (drop at s) (omega (arith, left)))
+      rw (n, m, ← drop-drop (suc (spaceAt (drop at s))) at s) (cut-more (drop at s) (omega (arith, length-drop at s)))
 
   pub field-last : length s ≤ i → fieldsOf (drop at s) ≡ drop at s ∷ []
-  field-last h = cut-last (drop at s) (omega (arith, left))
+  field-last h = cut-last (drop at s) (omega (arith, length-drop at s))
 
 -- a part to the end is what is left

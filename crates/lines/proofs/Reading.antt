@@ -1,6 +1,6 @@
 -- Laws of what the line reader answers, one for each way out of it.
 use mathlib.Core.Path.{_≡_, refl, sym}
-use mathlib.Core.Bool.{Bool, true, false, _&&_}
+use mathlib.Core.Bool.{Bool, true, false, _&&_, and-false}
 use mathlib.Core.List.{List, [], _∷_}
 use Prim.Native.Nat.{ℕ, zero, suc, _-_, _<_, _≤_}
 use native.Mathlib.Omega.{arith}
@@ -30,10 +30,6 @@ unfolding plusOne
 plus-some true n x e h = (refl, omega arith)
 plus-some false n x e h = absurd (h e)
 
-and-no : (a : Bool) {u : Bool} → u ≡ false → (a && u) ≡ false
-and-no true e = e
-and-no false e = refl
-
 -- the sign of cents
 pub to-pos : (n : ℕ) → n ≤ 999999999999999999 → toZ w64 n ≡ pos n
 to-pos n h = rw (lt-ltb n 9223372036854775808 (omega arith))
@@ -57,7 +53,7 @@ minus-none (x ∷ xs) e = absurd (omega arith)
 module _ (s : List ℕ) where
   pub digits-long : 18 < length s → 0 ≡ plusOne (isMagnitude s) (digitsValue s)
   unfolding plusOne
-  digits-long h = rw (and-no (isDecimal s) (lt-leb (length s) 18 h))
+  digits-long h = rw (lt-leb (length s) 18 h, and-false (isDecimal s))
 
   decimal-18 : length s ≤ 18 → isDecimal s ≡ true → digitsValue s ≤ 999999999999999999
   unfolding isDecimal
@@ -104,17 +100,19 @@ module _ (d t p c : List ℕ) where
   no-sender x e z = add-none (rw (plus-none (isNumber 65535 d) (digitsValue d) x e z))
 
   pub no-channel : (x : ℕ) → x ≡ plusOne (isNumber 65535 t) (digitsValue t) → x ≡ 0 → unreadable ≡ addOf d t p c
-  no-channel x e z = add-none (and-no (isNumber 65535 d) (rw (plus-none (isNumber 65535 t) (digitsValue t) x e z)))
+  no-channel x e z =
+      add-none (rw (plus-none (isNumber 65535 t) (digitsValue t) x e z, and-false (isNumber 65535 d)))
 
   pub no-property : (x : ℕ) → x ≡ plusOne (isNumber 4294967295 p) (digitsValue p) → x ≡ 0 → unreadable ≡ addOf d t p c
   no-property x e z =
       let n = plus-none (isNumber 4294967295 p) (digitsValue p) x e z in
-      add-none (and-no (isNumber 65535 d) (and-no (isNumber 65535 t) (rw n)))
+      add-none (rw (n, and-false (isNumber 65535 t), and-false (isNumber 65535 d)))
 
   pub no-cents : (x : ℕ) → x ≡ plusOne (isCents c) (digitsValue (digitsOf c)) → x ≡ 0 → unreadable ≡ addOf d t p c
   no-cents x e z =
       let n = plus-none (isCents c) (digitsValue (digitsOf c)) x e z in
-      add-none (and-no (isNumber 65535 d) (and-no (isNumber 65535 t) (and-no (isNumber 4294967295 p) n)))
+      add-none
+      (rw (n, and-false (isNumber 4294967295 p), and-false (isNumber 65535 t), and-false (isNumber 65535 d)))
 
   pub some-add : (x y z w : ℕ) → x ≡ plusOne (isNumber 65535 d) (digitsValue d)
       → y ≡ plusOne (isNumber 65535 t) (digitsValue t) → z ≡ plusOne (isNumber 4294967295 p) (digitsValue p)

@@ -3,14 +3,14 @@ use mathlib.Core.Path.{_≡_, sym, _∙_}
 use mathlib.Core.Logic.{_⊎_, _≢_, inl, inr}
 use mathlib.Core.List.{List}
 use Prim.Native.Nat.{ℕ, _+_, _<_, _≤_}
-use native.Mathlib.Numerals.{add-one}
 use native.Mathlib.Omega.{arith}
 use lib.Dec.{eqb}
 use lib.ListN.{length, getD, set, take, length-set}
-use lib.Seq.{getD-set-same, getD-set-other, take-suc, take-suc-set, take-all}
+use lib.Seq.{getD-set-same, getD-set-other}
 use borrow.Author.Tests.{eq-eqb, ne-eqb}
 use Rattle.model.specs.Basics.{pick}
 use Rattle.model.proofs.Tests.{same?}
+use Rattle.model.proofs.Walks as walks
 
 module _ (c : List ℕ) (k m : ℕ) where
   nth-anew : (i : ℕ) → i < length c → (i ≡ k) ⊎ (i ≢ k) → getD (set c k m) i 0 ≡ pick (eqb i k) m (getD c i 0)
@@ -23,14 +23,7 @@ module _ (c : List ℕ) (k m : ℕ) where
         → take (i + 1) (set r i (pick (eqb i k) m (getD c i 0))) ≡ take (i + 1) (set c k m)
     anew-step i h e =
         let s = length-set c k m in
-        rw (
-          add-one i,
-          take-suc-set r i (pick (eqb i k) m (getD c i 0)) (omega arith),
-          e,
-          ← nth-anew i h (same? i k),
-        ) (sym (take-suc (set c k m) i 0 (omega arith)))
+        rw (← nth-anew i h (same? i k)) (walks.anew-step (set c k m) r i (l ∙ sym s) e 0 (omega arith))
 
     pub anew-end : (i : ℕ) → length c ≤ i → take i r ≡ take i (set c k m) → r ≡ set c k m
-    anew-end i h e =
-        let s = length-set c k m in
-        sym (take-all i r (omega arith)) ∙ e ∙ take-all i (set c k m) (omega arith)
+    anew-end i h e = let s = length-set c k m in walks.anew-end (set c k m) r i (l ∙ sym s) e (omega arith)

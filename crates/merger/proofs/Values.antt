@@ -1,54 +1,33 @@
 -- The merged value, seen as a table, is the merged table.
 use mathlib.Core.Path.{_≡_, refl, ap}
-use mathlib.Core.List.{List, [], _∷_, _++_, map}
-use Prim.Native.Nat.{ℕ, zero, suc, _+_, _≤_}
+use mathlib.Core.List.{List, [], _∷_, _++_, map, map-congr-left}
+use Prim.Native.Nat.{ℕ, suc, _+_, _≤_}
 use native.Mathlib.Omega.{arith}
-use lib.ListN.{length, getD, take, drop, replicate, length-map, length-append, length-replicate}
-use lib.Seq.{sets, sets-eq, length-take-le, getD-drop}
+use lib.ListN.{length, getD, take, drop, replicate, length-map, length-append}
+use lib.Seq.{sets, sets-eq, length-take-le}
 use Rattle.model.specs.Tables.{Chord, Table, noChord}
 use Rattle.model.specs.Layout.{flag, tableRefusal, tableOf}
+use Rattle.model.proofs.Parts.{map-sets, stored-reads}
 use Rattle.model.proofs.AcceptedChords.{table-ok}
 use Rattle.codec.specs.declared.Table as DT
 use Rattle.codec.specs.Views.{firsts, chordIn, tableIn}
-use Rattle.codec.proofs.Views.{firsts-front, map-sets, chords-seen, firsts-take}
+use Rattle.codec.proofs.Views.{firsts-front, chords-seen, firsts-take}
 use Rattle.writer.proofs.Chords.{length-kinds-in}
 use Rattle.merging.specs.Merges.{isNew, targets, newKinds, mergedChord, mergedTable}
 use Rattle.merging.proofs.WriteLaws.{merged-few}
 use Rattle.merger.specs.Asks.{countNew, chordsFor}
 use Rattle.merger.proofs.Walks.{new-count}
 
--- an array that holds a list from its start, and zeros past it, reads as the list
-zeros : (n j : ℕ) → getD {A = ℕ} (replicate n 0) j 0 ≡ 0
-zeros zero j = refl
-zeros (suc n) zero = refl
-zeros (suc n) (suc j) = zeros n j
-
-padded : (xs zs : List ℕ) → ((j : ℕ) → getD zs j 0 ≡ 0) → (x : ℕ) → getD (xs ++ zs) x 0 ≡ getD xs x 0
-padded [] zs f x = f x
-padded (y ∷ ys) zs f zero = refl
-padded (y ∷ ys) zs f (suc x) = padded ys zs f x
-
-stored-reads : (xs : List ℕ) (n x : ℕ) → length xs ≤ n → getD (sets (replicate n 0) 0 xs) x 0 ≡ getD xs x 0
-stored-reads xs n x h =
-    let l = length-replicate {A = ℕ} n 0 in
-    let z : 0 + length xs ≡ length xs = omega arith in
-    rw (sets-eq xs (replicate n 0) 0 (omega arith), z)
-    (padded xs (drop (length xs) (replicate n 0)) (λ j. rw (getD-drop) (zeros n (length xs + j))) x)
-
 pub length-targets : (n : ℕ) (ms : List ℕ) → length (targets n ms) ≡ length ms
 length-targets n [] = refl
 length-targets n (m ∷ ms) = ap suc (length-targets (n + flag (isNew m)) ms)
 
-map-alike : {A B : Type 0} (f g : A → B) → ((x : A) → f x ≡ g x) → (xs : List A) → map f xs ≡ map g xs
-map-alike f g e [] = refl
-map-alike f g e (x ∷ xs) = rw (e x, map-alike f g e xs)
-
 merged-stored : (ts : List ℕ) (cs : List Chord) → length ts ≤ 16
     → map (mergedChord (sets (replicate 16 0) 0 ts)) cs ≡ map (mergedChord ts) cs
 merged-stored ts cs h =
-    map-alike (mergedChord (sets (replicate 16 0) 0 ts)) (mergedChord ts)
-    (λ c. rw (map-alike (λ x. getD (sets (replicate 16 0) 0 ts) x 0) (λ x. getD ts x 0)
-    (λ x. stored-reads ts 16 x h) (c .channels))) cs
+    map-congr-left {f = mergedChord (sets (replicate 16 0) 0 ts)} {g = mergedChord ts} {l = cs} (λ c m.
+    rw (map-congr-left {f = λ x. getD (sets (replicate 16 0) 0 ts) x 0} {g = λ x. getD ts x 0} {l = c .channels}
+    (λ x k. stored-reads ts 16 x 0 h)))
 
 -- the front of an array, with a list stored after it
 firsts-sets : {A : Type 0} (d : A) (n : ℕ) (ys xs : List A) → n + length xs ≤ length ys

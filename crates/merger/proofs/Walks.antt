@@ -12,7 +12,8 @@ use lib.ListN.{length, getD, set, drop, drop-of-length-le}
 use lib.Seq.{drop-cons, getD-set-same, getD-set-other}
 use Rattle.model.specs.Basics.{isIn, pick}
 use Rattle.model.specs.Layout.{flag}
-use Rattle.model.proofs.Tests.{never, both, same?}
+use Rattle.model.proofs.Tests.{never, both, same?, or-not}
+use Rattle.model.proofs.Written.{flag-le}
 use Rattle.merging.specs.Merges.{isNew, targets, newKinds, joinedOnce, kindsAgree}
 use Rattle.merger.specs.Asks.{countNew}
 
@@ -32,10 +33,6 @@ module _ (ks ms us : List ℕ) (i : ℕ) where
   agree-end h = rw (drop-of-length-le ms h)
 
 -- channels named twice, from the last byte to the first
-by-test : (u v : Bool) → (u || not v) ≡ not (not u && v)
-by-test true v = refl
-by-test false v = refl
-
 twice-after : (ms : List ℕ) (i : ℕ) → joinedOnce ms ≡ true → joinedOnce (drop i ms) ≡ true
 twice-after ms zero e = e
 twice-after [] (suc i) e = refl
@@ -46,7 +43,7 @@ module _ (ms : List ℕ) (i : ℕ) (h : i < length ms) where
   again = not (isNew (getD ms i 0)) && isIn (getD ms i 0) (drop (i + 1) ms)
 
   twice-at : joinedOnce (drop i ms) ≡ (not again && joinedOnce (drop (i + 1) ms))
-  twice-at = rw (drop-cons ms i 0 h, add-one i, by-test)
+  twice-at = rw (drop-cons ms i 0 h, add-one i, or-not)
 
   pub twice-here : again ≡ true → joinedOnce ms ≡ false
   twice-here e = go (joinedOnce ms) refl
@@ -72,10 +69,6 @@ seen-more seen ms i h l b f x k =
     (same? x (getD ms i 0)))
 
 -- new channels
-pub flag-le : (u : Bool) → flag u ≤ 1
-flag-le true = omega arith
-flag-le false = omega arith
-
 pub count-le : (ms : List ℕ) → countNew ms ≤ length ms
 count-le [] = omega arith
 count-le (m ∷ ms) = omega (arith, flag-le (isNew m), count-le ms)

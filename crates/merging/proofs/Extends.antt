@@ -8,13 +8,14 @@ use borrow.Author.Tests.{lt-ltb, le-ltb}
 use lib.Dec.{eqb, ltb}
 use lib.ListN.{length, getD, set, length-set, List·getD-eq-default}
 use native.Mathlib.Omega.{arith}
-use Rattle.model.specs.Basics.{isIn, firstBy}
+use Rattle.model.specs.Basics.{isIn}
 use Rattle.model.specs.Tables.{Table, chordAt, isSync, naming, namingUpTo, firstSync, size, channelAt}
 use Rattle.model.specs.Boards.{Message, noMessage, Sender, isConsumed}
 use Rattle.model.specs.Effects.{Turn, turned}
 use Rattle.model.specs.Jobs.{passFrom, startAt, inJob, job-end, endsBy, syncEnd, wakerEnd}
 use Rattle.model.specs.Steps.{toTell}
 use Rattle.model.proofs.Tests.{by-range}
+use Rattle.model.proofs.Lists.{first-same}
 
 pub record Extends (t v : Table) : Type 0 where
   pub chords-same : (r : ℕ) → r < length (t .chords) → chordAt v r ≡ chordAt t r
@@ -31,15 +32,6 @@ pub record Own (t v : Table) (x : ℕ) : Type 0 where
 
 abbrev pub AllOwn : Table → Table → List Message → Type 0
 AllOwn t v is = (n : ℕ) → n < length is → Own t v (getD is n noMessage .sent .channel)
-
-first-same : (f g : ℕ → Bool) (ms : List ℕ) → ((j : ℕ) → j < length ms → f (getD ms j 0) ≡ g (getD ms j 0))
-    → firstBy f ms ≡ firstBy g ms
-first-same f g [] e = refl
-first-same f g (m ∷ ms) e = go (g m) refl (e 0 (omega arith)) (first-same f g ms (λ j l. e (suc j) (omega arith)))
-  where
-    go : (u : Bool) → g m ≡ u → f m ≡ g m → firstBy f ms ≡ firstBy g ms → firstBy f (m ∷ ms) ≡ firstBy g (m ∷ ms)
-    go true p q ih = rw (q, p, firstBy)
-    go false p q ih = rw (q, p, firstBy) (ap suc ih)
 
 module _ (t v : Table) (e : Extends t v) where
   -- chords that do not name the channel

@@ -13,10 +13,11 @@ use Rattle.model.specs.Tables.{Chord, Table, noChord, isSync}
 use Rattle.model.specs.Boards.{emptyBoard}
 use Rattle.model.specs.Pools.{Call, adds, steps, matchReads}
 use Rattle.model.proofs.Tests.{both, neither}
+use Rattle.model.proofs.SoundKept.{empty-sound}
 use Rattle.model.proofs.AcceptedChords.{TableOk}
 use Rattle.merging.specs.Merges.{newKinds, mergedChords, mergedTable, namedBy, ownChannel, addsTo, Same-schedule}
 use Rattle.merging.proofs.Extends.{Extends, Own}
-use Rattle.merging.proofs.SameSchedule.{CallsOwn, calls-same, empty-sound, all-sound, reads-same}
+use Rattle.merging.proofs.SameSchedule.{CallsOwn, calls-same, all-sound, reads-same}
 
 unnamed-at : (x : ℕ) (cs : List Chord) (j : ℕ) → namedBy x cs ≡ false → isIn x (getD cs j noChord .channels) ≡ false
 unnamed-at x [] j e = refl

@@ -15,6 +15,7 @@ use Rattle.model.specs.Layout.{word, chordOk, chordsOk, membersSum, chor
 use Rattle.model.specs.Layout.{chordBytes, memberBytes, countM, membersOk, tableRefusal}
 use Rattle.model.proofs.Tests.{either, all-four, both}
 use Rattle.model.proofs.Lists.{every-nth}
+use Rattle.model.proofs.Parts.{drop-next}
 use Rattle.model.proofs.Accepted.{Accepted, accepted}
 
 pub record TableOk (t : Table) : Type 0 where
@@ -38,9 +39,6 @@ chord-says next s e =
     let c = all-four (eqb (word 0 s) next) (leb 1 (getD s 2 0)) (leb (getD s 2 0) 8) (leb (getD s 3 0) 1) e in
     search (leb-true, eqb-true)
 
-drop-four : (s : List ℕ) (q : ℕ) → drop (4 * q) (drop 4 s) ≡ drop (4 * suc q) s
-drop-four s q = let e : 4 + 4 * q ≡ 4 * suc q = omega arith in rw (drop-drop, e)
-
 -- chord q begins at the sum of the sizes before it
 pub chords-say : (n next : ℕ) (s : List ℕ) (q : ℕ) → chordsOk n next s ≡ true → q < n
     → ChordSays (next + membersSum q s) (drop (4 * q) s)
@@ -48,14 +46,14 @@ chords-say zero next s q e h = absurd (not-suc-le-zero h)
 chords-say (suc n) next s zero e h = rw add-zero (chord-says next s (both {t = chordOk next s} e .0))
 chords-say (suc n) next s (suc q) e h =
     let z : next + membersSum (suc q) s ≡ next + getD s 2 0 + membersSum q (drop 4 s) = omega arith in
-    rw (z, ← drop-four s q)
+    rw (z, ← drop-next 4 q s)
     (chords-say n (next + getD s 2 0) (drop 4 s) q (both {t = chordOk next s} e .1) (le-of-suc-le-suc h))
 
 pub sum-up-to : (n : ℕ) (s : List ℕ) (q : ℕ) → q < n
     → membersSum q s + getD (drop (4 * q) s) 2 0 ≤ membersSum n s
 sum-up-to zero s q h = absurd (not-suc-le-zero h)
 sum-up-to (suc n) s zero h = omega arith
-sum-up-to (suc n) s (suc q) h = rw (← drop-four s q) (omega (arith, sum-up-to n (drop 4 s) q (le-of-suc-le-suc h)))
+sum-up-to (suc n) s (suc q) h = rw (← drop-next 4 q s) (omega (arith, sum-up-to n (drop 4 s) q (le-of-suc-le-suc h)))
 
 pub length-from : (n : ℕ) (s ms : List ℕ) → length (chordsFrom n s ms) ≡ n
 length-from zero s ms = refl
@@ -66,7 +64,7 @@ pub channels-from : (n : ℕ) (s ms : List ℕ) (q : ℕ) → q < n
 channels-from zero s ms q h = absurd (not-suc-le-zero h)
 channels-from (suc n) s ms zero h = refl
 channels-from (suc n) s ms (suc q) h =
-    rw (← drop-four s q, ← drop-drop (membersSum q (drop 4 s)) (getD s 2 0) ms)
+    rw (← drop-next 4 q s, ← drop-drop (membersSum q (drop 4 s)) (getD s 2 0) ms)
     (channels-from n (drop 4 s) (drop (getD s 2 0) ms) q (le-of-suc-le-suc h))
 
 module _ (s : List ℕ) (a : Accepted s) where

@@ -1,19 +1,19 @@
 -- The look's choice by its two laws, and what a chosen message adds.
 use mathlib.Core.Path.{refl, _≡_, _∙_, sym}
-use mathlib.Core.Logic.{_≢_, _⊎_, inl, inr}
+use mathlib.Core.Logic.{_≢_}
 use mathlib.Core.Bool.{true, not, Bool, _||_, false, _&&_}
 use mathlib.Core.List.{List, _++_, _∷_, []}
 use Prim.Native.Nat.{ℕ, _<_, suc}
 use borrow.Author.Tests.{eq-eqb, eqb-true, eqb-false, not-true}
 use lib.Dec.{eqb}
-use lib.ListN.{length, getD, length-append, List·getD-append}
-use lib.Seq.{getD-append-seam}
+use lib.ListN.{length, getD}
 use native.Mathlib.Omega.{arith}
 use Rattle.model.specs.Tables.{Chord, Table, chordAt, channelAt, size}
 use Rattle.model.specs.Boards.{Sent, Board, Job, messageAt, isPending, Message, noMessage, isClaimed}
 use Rattle.model.specs.Looks.{alike, isFree, choice, subjectPlace, fits, someClaimed}
-use Rattle.model.proofs.Tests.{same?, both}
+use Rattle.model.proofs.Tests.{both}
 use Rattle.model.proofs.Lists.{lowest-none, lowest-at, first-passes, first-before, not-in, none-of}
+use Rattle.model.proofs.Lists.{snoc-all, snoc-one}
 use Rattle.model.proofs.Passage.{on-board}
 use Rattle.model.proofs.Local.{Selection}
 
@@ -72,25 +72,6 @@ choice-some t b w k n e = go (eqb (subjectPlace t b (w .subject) (w .chord)) k) 
         (b .messages) n (rw (q, choice) at e) in
         another (eqb-false _ _ q) (r .0) (r .1)
 
--- lists longer by one
-pub snoc-all : (P : ℕ → ℕ → Type 0) (c : List ℕ) (n : ℕ) → ((j : ℕ) → j < length c → P j (getD c j 0))
-    → P (length c) n → (j : ℕ) → j < length (c ++ (n ∷ [])) → P j (getD (c ++ (n ∷ [])) j 0)
-snoc-all P c n f p j h = go (same? j (length c))
-  where
-    go : (j ≡ length c) ⊎ (j ≢ length c) → P j (getD (c ++ (n ∷ [])) j 0)
-    go (inl e) = rw (e, getD-append-seam c n [] 0) p
-    go (inr e) =
-        let l : j < length c = omega (arith, length-append c (n ∷ [])) in
-        rw (List·getD-append c (n ∷ []) 0 j l) (f j l)
-
-pub snoc-one : (c : List ℕ) (n : ℕ) → ((i j : ℕ) → i < length c → j < length c → getD c i 0 ≡ getD c j 0 → i ≡ j)
-    → ((i : ℕ) → i < length c → getD c i 0 ≢ n) → (i j : ℕ) → i < length (c ++ (n ∷ [])) → j < length (c ++ (n ∷ []))
-    → getD (c ++ (n ∷ [])) i 0 ≡ getD (c ++ (n ∷ [])) j 0 → i ≡ j
-snoc-one c n one fresh i j hi hj =
-    snoc-all (λ i x. x ≡ getD (c ++ (n ∷ [])) j 0 → i ≡ j) c n
-    (λ i l. snoc-all (λ j y. getD c i 0 ≡ y → i ≡ j) c n (λ j m. one i j l m) (λ e. absurd (fresh i l e)) j hj)
-    (snoc-all (λ j y. n ≡ y → length c ≡ j) c n (λ j m e. absurd (fresh j m (sym e))) (λ e. refl) j hj) i hi
-
 pub record Fresh (t : Table) (b : Board) (h r : ℕ) (c : List ℕ) (n : ℕ) : Type 0 where
   pub on-board : n < length (b .messages)
   pub channel : messageAt b n .sent .channel ≡ channelAt t r (length c)
@@ -103,12 +84,12 @@ pub chose-selection : (t : Table) (b : Board) (h r : ℕ) (c : List ℕ) (n : �
 chose-selection t b h r c n q f = record {
   chord-in = q .chord-in;
   names = q .names;
-  inside = snoc-all (λ j x. x < length (b .messages)) c n (q .inside) (f .on-board);
-  kinds = snoc-all (λ j x. messageAt b x .sent .channel ≡ channelAt t r j) c n (q .kinds) (f .channel);
-  props = snoc-all (λ j x. alike (chordAt t r) (messageAt b h .sent) (messageAt b x .sent) ≡ true) c n (q .props)
+  inside = snoc-all (λ j x. x < length (b .messages)) c n 0 (q .inside) (f .on-board);
+  kinds = snoc-all (λ j x. messageAt b x .sent .channel ≡ channelAt t r j) c n 0 (q .kinds) (f .channel);
+  props = snoc-all (λ j x. alike (chordAt t r) (messageAt b h .sent) (messageAt b x .sent) ≡ true) c n 0 (q .props)
       (f .property);
-  one = snoc-one c n (q .one) (f .new);
-  subject-at = snoc-all (λ j x. j ≡ subjectPlace t b h r → x ≡ h) c n (q .subject-at) (f .at-subject);
+  one = snoc-one c n 0 (q .one) (f .new);
+  subject-at = snoc-all (λ j x. j ≡ subjectPlace t b h r → x ≡ h) c n 0 (q .subject-at) (f .at-subject);
 }
 
 pub chosen-fresh : (t : Table) (b : Board) (w : Job) (k n : ℕ) → w .subject < length (b .messages)

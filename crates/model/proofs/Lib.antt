@@ -3,6 +3,8 @@
 -- Tests and lists: laws over the library and the definitions' own list functions
 pub mod Tests
 pub mod Lists
+pub mod Parts
+pub mod Walks
 pub mod CentsTest
 -- Tables: what accepted bytes say, and bytes written and read again
 pub mod Accepted

@@ -1,19 +1,19 @@
--- Laws of lists: members, all that pass, parts, the first that passes, and the lowest that passes.
-use mathlib.Core.Path.{_≡_, refl, sym, _∙_, subst}
+-- Laws of lists: members, all that pass, one element more, the first that passes, and the lowest that passes.
+use mathlib.Core.Path.{_≡_, refl, sym, _∙_, subst, ap}
 use mathlib.Core.Logic.{_⊎_, inl, inr, _≢_}
-use mathlib.Core.Bool.{true, false, Bool}
+use mathlib.Core.Bool.{true, false, Bool, _&&_}
 use mathlib.Core.List.{List, [], _∷_, _++_, map}
-use Prim.Native.Nat.{ℕ, _<_, suc, zero, _+_, _≤_, _-_}
+use Prim.Native.Nat.{ℕ, _<_, suc, zero, _+_, _≤_}
 use borrow.Author.Tests.{eq-eqb, eqb-true}
 use lib.Dec.{eqb}
-use lib.ListN.{length, getD, take, drop, set, length-drop}
-use lib.Seq.{take-all, sets}
+use lib.ListN.{length, getD, take, set, length-append, List·getD-append}
+use lib.Seq.{getD-append-seam}
 use native.Mathlib.Nat.{not-suc-le-zero, le-of-suc-le-suc, zero-add}
 use native.Mathlib.Omega.{arith}
 use Rattle.model.specs.Basics.{isIn, every, firstBy}
 use Rattle.model.specs.Boards.{Message, noMessage}
 use Rattle.model.specs.Looks.{lowest, someMessage}
-use Rattle.model.proofs.Tests.{or-right, never, either, both, and, neither}
+use Rattle.model.proofs.Tests.{or-right, never, either, both, and, neither, same?}
 
 -- members
 pub nth-isIn : (xs : List ℕ) (j : ℕ) → j < length xs → isIn (getD xs j 0) xs ≡ true
@@ -45,10 +45,59 @@ pub nth-every : {A : Type 0} (f : A → Bool) (xs : List A) (d : A)
 nth-every f [] d g = refl
 nth-every f (x ∷ xs) d g = and (g 0 (omega arith)) (nth-every f xs d (λ n l. g (suc n) (omega arith)))
 
+pub every-each : {A : Type 0} (f : A → Bool) (xs ys : List A) → every f (xs ++ ys) ≡ (every f xs && every f ys)
+every-each f [] ys = refl
+every-each f (x ∷ xs) ys = go (f x) (every-each f xs ys)
+  where
+    go : (b : Bool) → every f (xs ++ ys) ≡ (every f xs && every f ys)
+        → (b && every f (xs ++ ys)) ≡ ((b && every f xs) && every f ys)
+    go true e = e
+    go false e = refl
+
 pub every-append : {A : Type 0} (f : A → Bool) (xs ys : List A) → every f xs ≡ true → every f ys ≡ true
     → every f (xs ++ ys) ≡ true
-every-append f [] ys p q = q
-every-append f (x ∷ xs) ys p q = let e = both {t = f x} p in rw (e .0) (every-append f xs ys (e .1) q)
+every-append f xs ys p q = every-each f xs ys ∙ and p q
+
+-- of the first n, with one of them set, and with the next one set
+pub every-set : {A : Type 0} (f : A → Bool) (n : ℕ) (s : List A) (k : ℕ) (x : A) → every f (take n s) ≡ true
+    → f x ≡ true → every f (take n (set s k x)) ≡ true
+every-set f zero s k x e g = refl
+every-set f (suc n) [] k x e g = refl
+every-set f (suc n) (y ∷ ys) zero x e g = and g (both {t = f y} e .1)
+every-set f (suc n) (y ∷ ys) (suc k) x e g =
+    let p = both {t = f y} e in
+    and (p .0) (every-set f n ys k x (p .1) g)
+
+pub every-next : {A : Type 0} (f : A → Bool) (n : ℕ) (s : List A) (x : A) → every f (take n s) ≡ true
+    → f x ≡ true → every f (take (suc n) (set s n x)) ≡ true
+every-next f n [] x e g = refl
+every-next f zero (y ∷ ys) x e g = and g refl
+every-next f (suc n) (y ∷ ys) x e g =
+    let p = both {t = f y} e in
+    and (p .0) (every-next f n ys x (p .1) g)
+
+-- what holds of each in a list holds in the list longer by one
+pub snoc-all : {A : Type 0} (P : ℕ → A → Type 0) (xs : List A) (x d : A)
+    → ((j : ℕ) → j < length xs → P j (getD xs j d)) → P (length xs) x
+    → (j : ℕ) → j < length (xs ++ (x ∷ [])) → P j (getD (xs ++ (x ∷ [])) j d)
+snoc-all P xs x d f p j h = go (same? j (length xs))
+  where
+    go : (j ≡ length xs) ⊎ (j ≢ length xs) → P j (getD (xs ++ (x ∷ [])) j d)
+    go (inl e) = rw (e, getD-append-seam xs x [] d) p
+    go (inr e) =
+        let l : j < length xs = omega (arith, length-append xs (x ∷ [])) in
+        rw (List·getD-append xs (x ∷ []) d j l) (f j l)
+
+-- one to one by place, and longer by one that is new
+pub snoc-one : {A : Type 0} (xs : List A) (x d : A)
+    → ((i j : ℕ) → i < length xs → j < length xs → getD xs i d ≡ getD xs j d → i ≡ j)
+    → ((i : ℕ) → i < length xs → getD xs i d ≢ x)
+    → (i j : ℕ) → i < length (xs ++ (x ∷ [])) → j < length (xs ++ (x ∷ []))
+    → getD (xs ++ (x ∷ [])) i d ≡ getD (xs ++ (x ∷ [])) j d → i ≡ j
+snoc-one xs x d one fresh i j hi hj =
+    snoc-all (λ i y. y ≡ getD (xs ++ (x ∷ [])) j d → i ≡ j) xs x d
+    (λ i l. snoc-all (λ j y. getD xs i d ≡ y → i ≡ j) xs x d (λ j m. one i j l m) (λ e. absurd (fresh i l e)) j hj)
+    (snoc-all (λ j y. x ≡ y → length xs ≡ j) xs x d (λ j m e. absurd (fresh j m (sym e))) (λ e. refl) j hj) i hi
 
 -- a place of a list that was mapped
 pub nth-map : {A B : Type 0} (f : A → B) (xs : List A) (k : ℕ) (x : A) (y : B) → k < length xs
@@ -56,18 +105,6 @@ pub nth-map : {A B : Type 0} (f : A → B) (xs : List A) (k : ℕ) (x : A) (y : 
 nth-map f [] k x y l = absurd (not-suc-le-zero l)
 nth-map f (z ∷ zs) zero x y l = refl
 nth-map f (z ∷ zs) (suc k) x y l = nth-map f zs k x y (le-of-suc-le-suc l)
-
--- the rest of a list, as a part
-pub to-end : (s : List ℕ) (a : ℕ) → take (length s - a) (drop a s) ≡ drop a s
-to-end s a = take-all (length s - a) (drop a s) (simp length-drop (omega arith))
-
--- two lists stored one after the other
-pub sets-append : {A : Type 0} (l : List A) (i : ℕ) (xs ys : List A)
-    → sets l i (xs ++ ys) ≡ sets (sets l i xs) (i + length xs) ys
-sets-append l i [] ys = let z : i + 0 ≡ i = omega arith in rw z
-sets-append l i (x ∷ xs) ys =
-    let z : i + suc (length xs) ≡ suc i + length xs = omega arith in
-    rw z (sets-append (set l i x) (suc i) xs ys)
 
 -- the first that passes
 pub first-before : (f : ℕ → Bool) (ms : List ℕ) (j : ℕ) → j < firstBy f ms → f (getD ms j 0) ≡ false
@@ -98,6 +135,15 @@ first-in f (m ∷ ms) j h e = go (f m) refl j h e (first-in f ms)
     go true q j h e ih = rw (q, firstBy) (omega arith)
     go false q zero h e ih = never (sym q ∙ e)
     go false q (suc j) h e ih = rw (q, firstBy) (omega (arith, ih j (le-of-suc-le-suc h) e))
+
+pub first-same : (f g : ℕ → Bool) (ms : List ℕ) → ((j : ℕ) → j < length ms → f (getD ms j 0) ≡ g (getD ms j 0))
+    → firstBy f ms ≡ firstBy g ms
+first-same f g [] e = refl
+first-same f g (m ∷ ms) e = go (g m) refl (e 0 (omega arith)) (first-same f g ms (λ j l. e (suc j) (omega arith)))
+  where
+    go : (u : Bool) → g m ≡ u → f m ≡ g m → firstBy f ms ≡ firstBy g ms → firstBy f (m ∷ ms) ≡ firstBy g (m ∷ ms)
+    go true p q ih = rw (q, p, firstBy)
+    go false p q ih = rw (q, p, firstBy) (ap suc ih)
 
 -- the lowest that passes
 none-from : (f : ℕ → Message → Bool) (n : ℕ) (is : List Message) → lowest f n is ≡ 0 → (j : ℕ) → j < length is

@@ -1,9 +1,10 @@
 -- The facts that the test of a sound board stands for, by index, and the way from the test to them and back.
 -- A sender past the last one reads as idle, so the facts hold of every number.
 use mathlib.Core.Path.{_≡_, ap, sym, refl, subst}
-use mathlib.Core.Logic.{_⊎_, _≢_, inl, inr}
+use mathlib.Core.Logic.{_⊎_, _≢_}
 use mathlib.Core.Bool.{true, false, Bool, _&&_, not, _||_}
 use mathlib.Core.List.{List, [], _∷_}
+use mathlib.Mathlib.Data.Bool.Basic.{and-elim-left, and-elim-right}
 use Prim.Native.Nat.{ℕ, _<_, _≤_, suc, zero}
 use borrow.Author.Tests.{eqb-true, eq-eqb, ltb-true, lt-ltb, leb-true, not-true, le-leb, ne-eqb}
 use lib.Dec.{eqb, ltb}
@@ -19,7 +20,7 @@ use Rattle.model.specs.Steps.{toTell}
 use Rattle.model.specs.Adds.{centsOk}
 use Rattle.model.specs.Sound.{toWake, allBelow, owns, noneShared, messageOk, noteOk, matchOk, placeOk, stateOk}
 use Rattle.model.specs.Sound.{senderOk, sound}
-use Rattle.model.proofs.Tests.{and, both, either, or-right, never, eqb-no, no-true}
+use Rattle.model.proofs.Tests.{and, both, never, eqb-no, no-true, one-of, of-one}
 use Rattle.model.proofs.Lists.{every-nth, nth-every}
 
 -- each of the numbers is below m
@@ -101,23 +102,6 @@ record Reads (u : Bool) (P : Type 0) : Type 0 where
   to : u ≡ true → P
   from : P → u ≡ true
 
-and-left : (u v : Bool) → (u && v) ≡ true → u ≡ true
-and-left u v e = both {t = u} e .0
-
-and-right : (u v : Bool) → (u && v) ≡ true → v ≡ true
-and-right u v e = both {t = u} e .1
-
-one-of : (h o v : ℕ) → (eqb h o || eqb h v) ≡ true → (h ≡ o) ⊎ (h ≡ v)
-one-of h o v e = go (either e)
-  where
-    go : (eqb h o ≡ true) ⊎ (eqb h v ≡ true) → (h ≡ o) ⊎ (h ≡ v)
-    go (inl e) = inl (eqb-true _ _ e)
-    go (inr e) = inr (eqb-true _ _ e)
-
-of-one : (h o v : ℕ) → (h ≡ o) ⊎ (h ≡ v) → (eqb h o || eqb h v) ≡ true
-of-one h o v (inl e) = rw (eq-eqb h o e)
-of-one h o v (inr e) = or-right (eqb h o) (eq-eqb _ _ e)
-
 module _ {A : Type 0} (f : A → Bool) (P : A → Type 0) (d : A) (r : (x : A) → Reads (f x) (P x)) where
   all : (xs : List A) → Reads (every f xs) ((n : ℕ) → n < length xs → P (getD xs n d))
   all xs = record {
@@ -143,7 +127,7 @@ all-below m ns = below m ns .to
 below-all : (m : ℕ) (ns : List ℕ) → Below m ns → allBelow m ns ≡ true
 below-all m ns = below m ns .from
 
-ruleset reads = (and-left, and-right, ltb-true, leb-true, eqb-true, not-true, all-below, one-of)
+ruleset reads = (and-elim-left, and-elim-right, ltb-true, leb-true, eqb-true, not-true, all-below, one-of)
 
 ruleset shows = (and, lt-ltb, le-leb, eq-eqb, no-true, below-all, of-one)
 

@@ -3,11 +3,10 @@
 use mathlib.Core.Path.{_≡_, ap, _∙_, refl, subst⁻¹, sym}
 use mathlib.Core.Logic.{_≢_, _⊎_, inl, inr}
 use mathlib.Core.Bool.{Bool, false, true}
-use mathlib.Core.List.{List, _∷_, [], _++_}
-use Prim.Native.Nat.{_≤_, _<_, ℕ, suc, zero}
+use mathlib.Core.List.{List, _∷_, []}
+use Prim.Native.Nat.{_≤_, _<_, ℕ, suc}
 use lib.Dec.{eqb}
 use lib.ListN.{length, length-append, getD}
-use native.Mathlib.Nat.{le-of-suc-le-suc}
 use native.Mathlib.Omega.{arith}
 use Rattle.model.specs.Basics.{pick}
 use Rattle.model.specs.Tables.{Table, size}
@@ -20,6 +19,7 @@ use Rattle.model.specs.Steps.{toTell}
 use Rattle.model.specs.Sound.{toWake}
 use Rattle.model.specs.Demands.{Same-but-signal}
 use Rattle.model.proofs.Tests.{same?}
+use Rattle.model.proofs.Lists.{snoc-all}
 use Rattle.model.proofs.Frame.{messages-count, messages-at, messageAfter, own-at, other-at, senders-count}
 use Rattle.model.proofs.Grows.{message-kept, apart}
 use Rattle.model.proofs.SoundFacts.{MatchFacts, Below, MessageFacts, AtChord, PlaceOk, JobFacts, StateFacts}
@@ -142,14 +142,6 @@ module _ (t : Table) {b b′ : Board} (g : Wider b b′) where
     message-after (records k m) n r = turned-if (eqb n k) claims tt
     message-after (signals k) n r = message-wider f
 
--- what holds of each in a list holds in the list longer by one
-pub snoc-at : {A : Type 0} (P : A → Type 0) (xs : List A) (x d : A) → ((k : ℕ) → k < length xs → P (getD xs k d)) → P x
-    → (k : ℕ) → k < length (xs ++ (x ∷ [])) → P (getD (xs ++ (x ∷ [])) k d)
-snoc-at P [] x d f p zero l = p
-snoc-at P [] x d f p (suc k) l = absurd (omega arith)
-snoc-at P (y ∷ ys) x d f p zero l = f 0 (omega arith)
-snoc-at P (y ∷ ys) x d f p (suc k) l = snoc-at P ys x d (λ k l. f (suc k) (omega arith)) p k (le-of-suc-le-suc l)
-
 -- matches after a change in range
 module _ {t : Table} {b b′ : Board} (g : Wider b b′) (s : SoundBoard t b) where
   matches-after : (c : Change) → InRange t b c → (length (matchesAfter c (b .matches)) ≤ 1024)
@@ -160,7 +152,7 @@ module _ {t : Table} {b b′ : Board} (g : Wider b b′) (s : SoundBoard t b) wh
   matches-after (turn n τ) r = (s .matches-few, λ k l. match-wider t g (s .match-at k l))
   matches-after (records n m) r = (
     omega (arith, length-append (b .matches) (m ∷ []), r .1),
-    snoc-at (MatchFacts t b′) (b .matches) m noMatch (λ k l. match-wider t g (s .match-at k l))
+    snoc-all (λ k. MatchFacts t b′) (b .matches) m noMatch (λ k l. match-wider t g (s .match-at k l))
         (match-wider t g (r .2)),
   )
   matches-after (signals n) r = (s .matches-few, λ k l. match-wider t g (s .match-at k l))

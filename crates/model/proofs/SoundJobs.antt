@@ -24,14 +24,14 @@ use Rattle.model.specs.Steps.{job-step, look-step, claim-step, revert-st
 use Rattle.model.specs.Steps.{signal-step, pass-end-step, backoff-step}
 use Rattle.model.specs.Sound.{toWake}
 use Rattle.model.proofs.Tests.{tests}
-use Rattle.model.proofs.Lists.{isIn-nth, nth-isIn}
+use Rattle.model.proofs.Lists.{isIn-nth, nth-isIn, snoc-all}
 use Rattle.model.proofs.Chords.{names-yes, skipped, wakes-first}
 use Rattle.model.proofs.Jobs.{pass-by, job-end-by}
 use Rattle.model.proofs.Frame.{records-count}
 use Rattle.model.proofs.Choice.{Chosen, choice-some, the-subject, another}
 use Rattle.model.proofs.Answering.{tell-chosen}
 use Rattle.model.proofs.SoundFacts.{JobFacts, SenderFacts, StateFacts, Below, PlaceOk, AllChosen, AtChord}
-use Rattle.model.proofs.SoundFrame.{Becomes, Wider, sender-wider, job-wider, StepFacts, owes, snoc-at}
+use Rattle.model.proofs.SoundFrame.{Becomes, Wider, sender-wider, job-wider, StepFacts, owes}
 use Rattle.model.proofs.SoundFrame.{wider-after, wake-wider}
 
 -- a pass begun on subject h
@@ -119,7 +119,8 @@ module _ (t : Table) (b : Board) (i : ℕ) (w : Job) where
   looked k a zero e = owes tt (next-chord a (missedRetry t b w k))
   looked k a (suc n) e =
       owes tt (goes-on a _ refl
-      (snoc-at (λ x. x < length (b .messages)) (w .chosen) n 0 (a .job .chosen-in) (on-board (choice-some t b w k n e)))
+      (snoc-all (λ j x. x < length (b .messages)) (w .chosen) n 0 (a .job .chosen-in)
+      (on-board (choice-some t b w k n e)))
       (by _ (eqb (suc k) (size t (w .chord))) refl))
     where
       on-board : Chosen t b w k n → n < length (b .messages)

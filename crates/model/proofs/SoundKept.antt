@@ -1,29 +1,35 @@
--- A sound board stays sound whatever is called, also one that no schedule reaches, and a step's change is in range.
--- An add's own message is new, so no other sender owns it.
+-- The empty board is sound, and a sound board stays sound whatever is called, also one that no schedule reaches; a
+-- step's change is in range. An add's own message is new, so no other sender owns it.
 use mathlib.Core.Path.{_≡_, refl, subst, ap, subst⁻¹, _∙_, sym}
 use mathlib.Core.Logic.{inl, _⊎_, _≢_, inr}
 use mathlib.Core.Bool.{false, Bool, true}
+use mathlib.Core.List.{List}
 use Prim.Native.Nat.{ℕ, _<_, _-_, suc, _≤_, zero}
 use lib.Dec.{leb}
 use lib.ListN.{length, length-set}
 use native.Mathlib.Omega.{arith}
 use Rattle.model.specs.Tables.{Table}
 use Rattle.model.specs.Boards.{Board, isIdle, senderAt, Sender, Status, pending, blocked, claimed, woken}
-use Rattle.model.specs.Boards.{consumed, idle, State, messageAt, working, Sent, Message, noMessage}
+use Rattle.model.specs.Boards.{consumed, idle, State, messageAt, working, Sent, Message, noMessage, emptyBoard}
 use Rattle.model.specs.Effects.{Outcome, refused, does, Effect}
 use Rattle.model.specs.Steps.{resumed, resumeBy, blockedStep, resume-step, stateStep, senderStep, stepBy}
 use Rattle.model.specs.Adds.{centsOk, added, newMessage, newSender, addRefusal}
-use Rattle.model.specs.Sound.{sound}
+use Rattle.model.specs.Sound.{sound, senderOk}
 use Rattle.model.specs.Pools.{stepAnswer, addAnswer, adds, steps}
 use Rattle.model.specs.Demands.{Sound-kept}
 use Rattle.model.proofs.Tests.{tests, same?}
+use Rattle.model.proofs.Lists.{snoc-all}
 use Rattle.model.proofs.Grows.{apart}
 use Rattle.model.proofs.Adds.{messages-now, matches-now, old-message, sender-now, sender-old, add-accepted}
 use Rattle.model.proofs.SoundFacts.{SoundBoard, SenderFacts, StateFacts, facts-sound, sound-facts}
 use Rattle.model.proofs.SoundFacts.{MessageFacts, Apart}
-use Rattle.model.proofs.SoundFrame.{StepFacts, owes, step-kept, InRange, Wider, sender-wider, snoc-at}
+use Rattle.model.proofs.SoundFrame.{StepFacts, owes, step-kept, InRange, Wider, sender-wider}
 use Rattle.model.proofs.SoundFrame.{message-wider, match-wider}
 use Rattle.model.proofs.SoundJobs.{passes, in-state, goes-idle, job-facts}
+
+pub empty-sound : (t : Table) (rests : List ℕ) → sound t (emptyBoard rests) ≡ true
+unfolding sound senderOk
+empty-sound t rests = refl
 
 abbrev pub OutcomeFacts : Table → Board → ℕ → Outcome → Type 0
 OutcomeFacts t b i (refused f) = Unit {0}
@@ -162,7 +168,7 @@ module _ (t : Table) (b : Board) (i : ℕ) (x : Sent) (s : SoundBoard t b) (l : 
     messages-few = omega (arith, messages-now t b i x);
     matches-few = s .matches-few;
     message-at =
-        snoc-at (MessageFacts t b′) (b .messages) (newMessage x) noMessage
+        snoc-all (λ n. MessageFacts t b′) (b .messages) (newMessage x) noMessage
         (λ n m. message-wider t g (s .message-at n m)) message-new;
     match-at = λ k m. match-wider t g (s .match-at k m);
     sender-at = senders-so;

@@ -1,10 +1,10 @@
 -- Laws of tests and of refusals.
 use mathlib.Core.Path.{_≡_, subst, sym, refl}
-use mathlib.Core.Logic.{_⊎_, inl, inr, _≢_}
+use mathlib.Core.Logic.{_⊎_, inl, inr, _≢_, ⊎-elim}
 use mathlib.Core.Bool.{false, true, Bool, _&&_, _||_, not}
 use Prim.Native.Nat.{ℕ, zero, suc, _<_, _≤_}
-use borrow.Author.Tests.{eqb-true, eqb-false, ltb-true, ltb-false, leb-true, leb-false}
-use lib.Dec.{T, eqb, ltb}
+use borrow.Author.Tests.{eqb-true, eqb-false, ltb-true, ltb-false, leb-true, leb-false, eq-eqb, ne-eqb, lt-leb, le-leb}
+use lib.Dec.{T, eqb, ltb, leb}
 use native.Mathlib.Omega.{arith}
 use Rattle.model.specs.Basics.{unless, firstOf}
 
@@ -46,6 +46,23 @@ neither {t} {u} e = go t u e
     go true u e = never (sym e)
     go false u e = (refl, e)
 
+pub or-not : (t u : Bool) → (t || not u) ≡ not (not t && u)
+or-not true u = refl
+or-not false u = refl
+
+-- a test that holds where those before it, and the last, do
+pub and-spare : (t u e : Bool) → (t ≡ true → e ≡ true) → (t && (u && e)) ≡ (t && u)
+and-spare true true e h = h refl
+and-spare true false e h = refl
+and-spare false u e h = refl
+
+pub and-spare-last : (t u e v : Bool) → (t ≡ true → v ≡ true → e ≡ true) → ((t && (u && e)) && v) ≡ ((t && u) && v)
+and-spare-last true true true v h = refl
+and-spare-last true true false true h = h refl refl
+and-spare-last true true false false h = refl
+and-spare-last true false e v h = refl
+and-spare-last false u e v h = refl
+
 -- a Boolean is true or false, with the equation
 pub tested : (t : Bool) → (t ≡ true) ⊎ (t ≡ false)
 tested true = inl refl
@@ -70,6 +87,29 @@ pub eqb-no : (a b : ℕ) → eqb a b ≡ false → a ≢ b
 eqb-no a b e = eqb-false a b e
 
 pub ruleset tests = (arith, eqb-true, eqb-no, ltb-true, ltb-false, leb-true, leb-false)
+
+-- a number that is one of two
+pub one-of : (n a b : ℕ) → (eqb n a || eqb n b) ≡ true → (n ≡ a) ⊎ (n ≡ b)
+one-of n a b e = ⊎-elim (λ p. inl (eqb-true n a p)) (λ p. inr (eqb-true n b p)) (either e)
+
+pub of-one : (n a b : ℕ) → (n ≡ a) ⊎ (n ≡ b) → (eqb n a || eqb n b) ≡ true
+of-one n a b (inl e) = rw (eq-eqb n a e)
+of-one n a b (inr e) = or-right (eqb n a) (eq-eqb n b e)
+
+-- zero is the least number
+pub leb-zero : (n : ℕ) → leb n 0 ≡ eqb n 0
+leb-zero n = ⊎-elim (λ e. rw e) (λ e. rw (ne-eqb n 0 e, lt-leb n 0 (omega arith))) (same? n 0)
+
+pub zero-fits : (n most : ℕ) → (leb n most && eqb n 0) ≡ eqb n 0
+zero-fits n most = ⊎-elim (λ e. rw (le-leb n most (omega (arith, e)))) (λ e. go (leb n most) e) (same? n 0)
+  where
+    go : (u : Bool) → n ≢ 0 → (u && eqb n 0) ≡ eqb n 0
+    go true e = refl
+    go false e = rw (ne-eqb n 0 e)
+
+pub zero-or-fits : (n most : ℕ) → (eqb n 0 || leb n most) ≡ leb n most
+zero-or-fits n most =
+    ⊎-elim (λ e. rw (eq-eqb n 0 e, le-leb n most (omega (arith, e)))) (λ e. rw (ne-eqb n 0 e)) (same? n 0)
 
 -- a chain of refusals that gives none
 pub unless-none : (u : Bool) (n next : ℕ) → unless u (suc n) next ≡ 0 → (u ≡ true) × (next ≡ 0)

@@ -4,7 +4,7 @@ use mathlib.Core.Path.{_≡_, refl, sym}
 use mathlib.Core.Bool.{true, Bool, false}
 use mathlib.Core.List.{List, [], _∷_, _++_}
 use Prim.Native.Nat.{ℕ, zero, suc, _*_, _+_, _≤_}
-use borrow.Author.Tests.{eq-eqb, leb-true}
+use borrow.Author.Tests.{eq-eqb, leb-true, le-leb}
 use lib.Dec.{T, leb, eqb, ltb}
 use lib.ListN.{length, length-append, take, drop}
 use lib.Seq.{take-append-seam, drop-append-seam, drop-drop}
@@ -37,9 +37,12 @@ chord-kept T c e =
     (p .0, q .0, q .1)
 
 -- a flag as a byte
+pub flag-le : (b : Bool) → flag b ≤ 1
+flag-le true = omega arith
+flag-le false = omega arith
+
 pub flag-small : (b : Bool) → leb (flag b) 1 ≡ true
-flag-small true = refl
-flag-small false = refl
+flag-small b = le-leb (flag b) 1 (flag-le b)
 
 pub flag-read : (b : Bool) → eqb (flag b) 1 ≡ b
 flag-read true = refl

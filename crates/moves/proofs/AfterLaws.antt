@@ -1,14 +1,15 @@
 -- What a change leaves: the statuses, the columns' lengths, what stands past the counts, recorded matches, and the
 -- rows of the other senders.
-use mathlib.Core.Path.{_≡_, refl, sym, ap, _∙_}
+use mathlib.Core.Path.{_≡_, refl, _∙_}
 use mathlib.Core.Logic.{_≢_}
 use mathlib.Core.Bool.{true}
-use mathlib.Core.List.{List, [], _∷_, _++_, map, append-assoc}
+use mathlib.Core.List.{List, [], _∷_, map}
 use Prim.Native.Nat.{ℕ, zero, suc, _+_, _*_, _<_, _≤_}
 use native.Mathlib.Omega.{arith}
-use lib.ListN.{length, getD, take, drop, set, length-set}
-use lib.Seq.{drop-set-lt, getD-set-same, getD-set-other, take-all, take-take, take-at, drop-at, length-take-le}
-use lib.Seq.{paste, take-paste, drop-paste, length-paste}
+use lib.ListN.{length, getD, set, length-set}
+use lib.Seq.{drop-set-lt, getD-set-same, getD-set-other, take-all}
+use lib.Seq.{paste, drop-paste, length-paste}
+use Rattle.model.proofs.Parts.{paste-front, paste-part}
 use Rattle.columns.specs.Columns.{Columns}
 use Rattle.columns.specs.MatchColumns.{MatchColumns}
 use Rattle.state.specs.declared.Turn as DU
@@ -39,23 +40,11 @@ statuses-after (G.Turn k u) n s e = status-written n s (statusBy u) e (status-sm
 statuses-after (G.Record k) n s e = status-written n s 1 e (omega arith) k
 statuses-after (G.Signal k) n s e = e
 
--- a copy, and what stands before it
+-- a copy, as a part
 module _ (d : List ℕ) (at : ℕ) (s : List ℕ) (n : ℕ) (hd : at ≤ length d) where
-  before-paste : n ≤ length s → take at (paste d at s n) ≡ take at d
-  before-paste hs =
-      sym (take-take at (at + n) (paste d at s n) (omega arith)) ∙ ap (take at) (take-paste d at s n hd hs)
-      ∙ take-at (take at d) (take n s) at (length-take-le at d hd)
-
   paste-here : length s ≡ n → part at n (paste d at s n) ≡ s
   unfolding part
-  paste-here e =
-      let rest = drop (at + n) d in
-      rw (
-        append-assoc (take at d) (take n s) rest,
-        drop-at (take at d) (take n s ++ rest) at (length-take-le at d hd),
-        take-at (take n s) rest n (length-take-le n s (omega (arith, e))),
-      )
-      (take-all n s (omega (arith, e)))
+  paste-here e = paste-part d at s n hd n (omega (arith, e)) (omega arith) ∙ take-all n s (omega (arith, e))
 
 module _ (n k : ℕ) where
   -- a change is written to messages that there are, and to the next match
@@ -80,7 +69,7 @@ module _ (n k : ℕ) where
         omega arith,
         drop-set-lt (k + 1) cs k chord (omega arith),
         rw u (drop-paste ms (8 * k) chosen 8 (omega (arith, h .1)) (omega arith)),
-        before-paste ms (8 * k) chosen 8 (omega (arith, h .1)) (omega arith),
+        paste-front ms (8 * k) chosen 8 (omega (arith, h .1)),
       )
   matches-beyond (G.Signal x) chord chosen cs ms h e l = (omega arith, refl, refl, refl)
 

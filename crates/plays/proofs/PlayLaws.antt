@@ -8,7 +8,6 @@ use native.Mathlib.Omega.{arith}
 use Rattle.model.specs.Layout.{tableOf}
 use Rattle.model.specs.Effects.{Said, Refused, numberOf}
 use Rattle.model.specs.Pools.{Call}
-use Rattle.boards.specs.Calls.{Held}
 use Rattle.boards.specs.Layout.{Lists, Sized}
 use Rattle.rows.specs.Numbers.{encodes}
 use Rattle.refusals.specs.Held.{heldOf, Accepted}

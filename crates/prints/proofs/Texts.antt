@@ -8,7 +8,7 @@ use lib.ListN.{length, getD, set, take, length-append}
 use lib.Seq.{length-sets, take-suc}
 use lib.IntN.{ℤ}
 use Rattle.model.specs.Printing.{decimal, signed, spaced, spacedAll, matchText, ruleText, centsText}
-use Rattle.model.proofs.Lists.{sets-append}
+use Rattle.model.proofs.Parts.{sets-append}
 use Rattle.prints.specs.Printed.{Printed}
 
 -- two texts, the second at the place after the first

@@ -1,31 +1,16 @@
--- Laws of a match that is read: its numbers are up to eight, with cents in range, and as they were by value.
-use mathlib.Core.Path.{_≡_, ap, _∙_}
+-- Laws of a match that is read: its numbers are up to eight, with cents in range.
+use mathlib.Core.Path.{_≡_}
 use mathlib.Core.List.{List}
-use Prim.Native.Nat.{ℕ, _+_, _*_, _≤_}
+use Prim.Native.Nat.{ℕ, _*_, _≤_}
 use native.Mathlib.Omega.{arith}
 use lib.IntN.{ℤ}
-use lib.ListN.{length, getD, take, drop, replicate, length-drop}
-use lib.Seq.{paste, take-at, drop-at, take-length, length-take-le}
+use lib.ListN.{length, getD, drop, length-drop}
+use lib.Seq.{length-take-le}
 use Rattle.model.specs.Tables.{size}
 use Rattle.model.specs.Layout.{tableRefusal, tableOf}
 use Rattle.model.proofs.TableLaws.{size-few}
 use Rattle.columns.specs.MatchColumns.{MatchColumns, matchIn}
 use Rattle.reads.specs.Reads.{MatchLent, InRange, Readable}
-
--- numbers by value, and what is past the last
-pub copied-is : (ns : List ℕ) → take (length ns) (paste (replicate 8 0) 0 ns (length ns)) ≡ ns
-copied-is ns =
-    take-at (take (length ns) ns) (drop (0 + length ns) (replicate 8 0)) (length ns)
-    (length-take-le (length ns) ns (omega arith))
-    ∙ take-length ns
-
-pub rest-is : (ns : List ℕ) → drop (length ns) (paste (replicate 8 0) 0 ns (length ns))
-    ≡ drop (length ns) (replicate 8 0)
-rest-is ns =
-    let z : 0 + length ns ≡ length ns = omega arith in
-    drop-at (take (length ns) ns) (drop (0 + length ns) (replicate 8 0)) (length ns)
-    (length-take-le (length ns) ns (omega arith))
-    ∙ ap (λ (k : ℕ). drop k (replicate 8 0)) z
 
 module _ (s : List ℕ) (accepts : tableRefusal s ≡ 0) (m : MatchColumns) (k : ℕ) (held : MatchLent (tableOf s) m k) where
   pub numbers-few : length (matchIn (tableOf s) m k .messages) ≤ 8

@@ -1,19 +1,18 @@
 -- How a call comes to say and leave what it should: refused for the board, refused by the model, or carried out.
 use mathlib.Core.Path.{_≡_, refl, ap, _∙_}
 use mathlib.Core.Logic.{_≢_}
-use mathlib.Core.Bool.{Bool, true}
-use mathlib.Core.List.{List, [], _∷_}
+use mathlib.Core.Bool.{true}
+use mathlib.Core.List.{List}
 use Prim.Native.Nat.{ℕ, zero, suc, _≤_}
 use native.Mathlib.Omega.{arith}
 use borrow.Author.Tests.{le-leb}
 use lib.Dec.{leb}
-use lib.ListN.{take, set}
-use Rattle.model.specs.Basics.{every}
+use lib.ListN.{set}
 use Rattle.model.specs.Layout.{tableRefusal, tableOf}
 use Rattle.model.specs.Sound.{sound}
 use Rattle.model.specs.Effects.{Said, Refused, numberOf}
 use Rattle.model.specs.Pools.{Call, answerTo}
-use Rattle.model.proofs.Tests.{both, and}
+use Rattle.model.proofs.Lists.{every-set, every-next}
 use Rattle.model.proofs.SoundKept.{call-sound}
 use Rattle.columns.specs.Columns.{Columns}
 use Rattle.columns.specs.MatchColumns.{MatchColumns}
@@ -24,23 +23,6 @@ use Rattle.refusals.specs.Calls.{boardOf, refusalOf, Beyond, callerOf, r
 use Rattle.refusals.proofs.Refusals.{table-accepted, board-sound}
 
 -- Statuses
-
-every-set : {A : Type 0} (f : A → Bool) (n : ℕ) (s : List A) (k : ℕ) (x : A) → every f (take n s) ≡ true
-    → f x ≡ true → every f (take n (set s k x)) ≡ true
-every-set f zero s k x e g = refl
-every-set f (suc n) [] k x e g = refl
-every-set f (suc n) (y ∷ ys) zero x e g = and g (both {t = f y} e .1)
-every-set f (suc n) (y ∷ ys) (suc k) x e g =
-    let p = both {t = f y} e in
-    and (p .0) (every-set f n ys k x (p .1) g)
-
-every-next : {A : Type 0} (f : A → Bool) (n : ℕ) (s : List A) (x : A) → every f (take n s) ≡ true
-    → f x ≡ true → every f (take (suc n) (set s n x)) ≡ true
-every-next f n [] x e g = refl
-every-next f zero (y ∷ ys) x e g = and g refl
-every-next f (suc n) (y ∷ ys) x e g =
-    let p = both {t = f y} e in
-    and (p .0) (every-next f n ys x (p .1) g)
 
 module _ (n : ℕ) (s : List ℕ) (x : ℕ) (e : statusesOk n s ≡ true) (l : x ≤ 3) where
   -- a status is written over another, and to the next record

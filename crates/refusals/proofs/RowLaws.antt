@@ -6,8 +6,7 @@ use mathlib.Core.List.{List}
 use Prim.Native.Nat.{ℕ, _+_, _<_, _≤_}
 use borrow.Author.Tests.{le-leb, leb-true, ne-eqb}
 use lib.Dec.{eqb, leb}
-use lib.ListN.{getD, drop, length, length-drop}
-use lib.Seq.{length-take-le}
+use lib.ListN.{getD}
 use native.Mathlib.Omega.{arith}
 use Rattle.model.specs.Basics.{pick}
 use Rattle.model.specs.Tables.{Table}
@@ -23,11 +22,7 @@ use Rattle.rows.specs.Numbers.{encodesPhase, encodesSender}
 use Rattle.rows.specs.Decoded.{senderFrom}
 use Rattle.rows.proofs.PhaseLaws.{kind-fits, place-fits}
 use Rattle.rows.proofs.SenderLaws.{sender-fits}
-use Rattle.refusals.specs.Rows.{row, within, limits, rowSender, rowOk}
-
--- a number of a row is that at its place
-pub row-len : (s : List ℕ) (at : ℕ) → at + 21 ≤ length s → length (row s at) ≡ 21
-row-len s at h = length-take-le 21 (drop at s) (omega (arith, length-drop at s))
+use Rattle.refusals.specs.Rows.{within, limits, rowSender, rowOk}
 
 -- the mark by the numbers
 module _ (a : List ℕ) where

@@ -7,11 +7,12 @@ use native.Mathlib.Nat.{not-suc-le-zero, le-of-suc-le-suc}
 use native.Mathlib.Omega.{arith}
 use borrow.Author.Needs.{needs}
 use lib.ListN.{length, getD, length-map, length-append, List·getD-map, List·getD-append}
-use lib.Seq.{getD-append-add, getD-at}
+use lib.Seq.{getD-at}
 use Rattle.model.specs.Tables.{Table}
 use Rattle.model.specs.Boards as MB
 use Rattle.model.specs.Pools.{MatchRead, readMatch, matchReads, quiet}
 use Rattle.model.specs.Printing.{matchLine, openLine, quietLine}
+use Rattle.model.proofs.Parts.{nth-second}
 use Rattle.columns.specs.Columns.{Columns, messageIn, statusOf}
 use Rattle.columns.specs.MatchColumns.{MatchColumns, matchIn}
 use Rattle.columns.proofs.ListFrom.{length-from}
@@ -56,10 +57,6 @@ module _ {A : Type 0} (f : ℕ → A → List ℕ) where
   numbered-at k (x ∷ xs) zero d i e h = let z : i ≡ k = omega (arith, e) in rw z
   numbered-at k (x ∷ xs) (suc n) d i e h =
       numbered-at (suc k) xs n d i (omega (arith, e)) (le-of-suc-le-suc h)
-
--- a line of the second of two lists
-second-at : (vs ws : List (List ℕ)) (i n : ℕ) → i ≡ length vs + n → getD (vs ++ ws) i [] ≡ getD ws n []
-second-at vs ws i n e = rw e (getD-append-add vs ws n [])
 
 module _ (t : Table) (b : HeldBoard) (c : Columns) (m : MatchColumns) where
   abbrev on : MB.Board
@@ -110,7 +107,7 @@ module _ (t : Table) (b : HeldBoard) (c : Columns) (m : MatchColumns) where
       let l : n < length items = omega (arith, items-count) in
       let k : n < length (on .messages) = omega (arith, l, numbered-count messageLine 0 (on .messages)) in
       sym
-      (second-at firsts (items ++ (quietLine (quiet on) ∷ [])) i n (omega (arith, e, firsts-count))
+      (nth-second firsts (items ++ (quietLine (quiet on) ∷ [])) i n [] (omega (arith, e, firsts-count))
       ∙ List·getD-append items (quietLine (quiet on) ∷ []) [] n l
       ∙ numbered-at messageLine 0 (on .messages) n MB.noMessage n (omega arith) k
       ∙ ap (messageLine n) (nth-message c (b .messages) n h))
@@ -119,5 +116,5 @@ module _ (t : Table) (b : HeldBoard) (c : Columns) (m : MatchColumns) where
   unfolding reportLines
   last-line i e =
       sym
-      (second-at firsts (items ++ (quietLine (quiet on) ∷ [])) i (b .messages) (omega (arith, e, firsts-count))
+      (nth-second firsts (items ++ (quietLine (quiet on) ∷ [])) i (b .messages) [] (omega (arith, e, firsts-count))
       ∙ getD-at items (quietLine (quiet on)) [] [] (b .messages) items-count)

@@ -3,8 +3,9 @@ use mathlib.Core.Path.{_≡_, refl, sym, ap, _∙_}
 use mathlib.Core.List.{List, [], _∷_, _++_, append-nil, append-assoc}
 use Prim.Native.Nat.{ℕ, suc, _+_, _-_, _<_, _≤_}
 use native.Mathlib.Omega.{arith}
-use lib.ListN.{length, getD, set, take, drop, length-drop, length-set}
-use lib.Seq.{sets, take-add, take-suc, take-suc-set, getD-drop}
+use lib.ListN.{length, getD, take, drop, length-drop}
+use lib.Seq.{take-add, take-suc, getD-drop}
+use Rattle.model.proofs.Parts.{take-sets}
 use Rattle.prints.specs.Printed.{Printed}
 use Rattle.prints.proofs.Texts.{then, kept, none}
 use Rattle.reports.specs.Parts.{allLines, between}
@@ -31,14 +32,6 @@ module _ (ws : List (List ℕ)) where
         → Printed mid p (getD ws n []) r done → Printed out 0 (allLines (between k (n + 1) ws)) r done
     line-next p q =
         rw (between-next, joined-append (between k n ws) (getD ws n [] ∷ []), append-nil (getD ws n [])) (then p q)
-
-take-sets : {A : Type 0} (l : List A) (i : ℕ) (xs : List A) → i + length xs ≤ length l
-    → take (i + length xs) (sets l i xs) ≡ take i l ++ xs
-take-sets l i [] h = let z : i + 0 ≡ i = omega arith in rw z (sym (append-nil (take i l)))
-take-sets l i (x ∷ xs) h =
-    let z : i + suc (length xs) ≡ suc i + length xs = omega arith in
-    rw (z, take-sets (set l i x) (suc i) xs (omega (arith, length-set l i x)), take-suc-set l i x (omega arith))
-    (append-assoc (take i l) (x ∷ []) xs)
 
 -- what was printed from the start, up to its end
 pub written : {out done text : List ℕ} {at : ℕ} → Printed out 0 text at done → at ≤ length out → take at done ≡ text

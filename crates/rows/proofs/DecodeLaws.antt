@@ -9,13 +9,14 @@ use lib.ListN.{length, getD, take, drop, length-drop, take-append-drop}
 use lib.Seq.{drop-drop, length-take-le}
 use native.Mathlib.Omega.{arith}
 use Rattle.model.proofs.Tests.{both}
+use Rattle.model.proofs.Parts.{drop-next}
 use Rattle.model.proofs.Written.{flag-byte}
 use Rattle.state.specs.declared.Sender as DD
 use Rattle.rows.specs.Numbers.{stateNumber, phaseNumbers, senderNumbers, sendersNumbers, boardNumbers}
 use Rattle.rows.specs.Numbers.{placeless, encodesPhase, encodesSender, encodesSenders, encodes}
 use Rattle.rows.specs.Decoded.{stateFrom, phaseFrom, senderFrom, sendersFrom, boardFrom}
 use Rattle.rows.specs.Fits.{SenderFits, SendersFit, BoardFits}
-use Rattle.rows.proofs.PhaseLaws.{three-are, kind-fits, no-place, no-second}
+use Rattle.rows.proofs.PhaseLaws.{kind-fits, no-place, no-second}
 use Rattle.rows.proofs.SenderLaws.{sender-fits, sender-is}
 use Rattle.rows.proofs.WalkLaws.{counts-read, all-numbers}
 
@@ -31,10 +32,10 @@ module _ (n k s : ℕ) (e : encodesPhase n k s ≡ true) (p : eqb n 3 ≡ false)
   none = no-second n k s e (eqb-false n 3 p) (eqb-false n 2 q)
 
   placed : n ∷ k ∷ 0 ∷ [] ≡ n ∷ k ∷ s ∷ []
-  placed = three-are refl refl none
+  placed = cc none
 
   bare : placeless n ≡ true → n ∷ 0 ∷ 0 ∷ [] ≡ n ∷ k ∷ s ∷ []
-  bare z = three-are refl (no-place n k s e z) none
+  bare z = cc (no-place n k s e z, none)
 
 phase-from : (n k s : ℕ) → encodesPhase n k s ≡ true → phaseNumbers (phaseFrom n k s) ≡ n ∷ k ∷ s ∷ []
 phase-from zero k s e = placed 0 k s e refl refl
@@ -84,8 +85,7 @@ unfolding sendersFrom
 senders-from zero i s z h = absurd (omega arith)
 senders-from (suc n) zero s z h = refl
 senders-from (suc n) (suc i) s z h =
-    let e : 21 * suc i ≡ 21 + 21 * i = omega arith in
-    rw (e, ← drop-drop (21 * i) 21 s) (senders-from n i (drop 21 s) z (omega arith))
+    rw (← drop-next 21 i s) (senders-from n i (drop 21 s) z (omega arith))
 
 -- the sender at a place
 pub sender-from : (s : List ℕ) (i : ℕ) (z : DD.Sender) → i < 32

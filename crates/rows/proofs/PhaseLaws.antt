@@ -2,20 +2,16 @@
 use mathlib.Core.Path.{_≡_, refl, sym}
 use mathlib.Core.Logic.{_≢_, ⊎-elim}
 use mathlib.Core.Bool.{Bool, true, false, _||_, _&&_, not}
-use mathlib.Core.List.{[], _∷_}
 use Prim.Native.Nat.{ℕ, zero, suc, _+_, _≤_}
 use borrow.Author.Tests.{leb-true, le-leb, eqb-true, ne-eqb}
 use lib.Dec.{eqb, leb}
 use native.Mathlib.Omega.{arith}
-use Rattle.model.proofs.Tests.{all-four, either, both, same?, never}
+use Rattle.model.proofs.Tests.{all-four, either, both, never}
 use Rattle.state.specs.declared.Phase as DP
 use Rattle.state.specs.Views.{stepsIn}
 use Rattle.rows.specs.Decoded.{stateFrom}
 use Rattle.rows.specs.Numbers.{place, encodesPhase, placeless}
 use Rattle.rows.specs.Fits.{PhaseFits}
-
-pub three-are : {n k s n′ k′ s′ : ℕ} → n′ ≡ n → k′ ≡ k → s′ ≡ s → n′ ∷ k′ ∷ s′ ∷ [] ≡ n ∷ k ∷ s ∷ []
-three-are p q r = rw (p, q, r)
 
 module _ (n k s : ℕ) (e : encodesPhase n k s ≡ true) where
   parts : (leb n 9 ≡ true) × (leb k 255 ≡ true) × ((not (placeless n) || eqb k 0) ≡ true)
@@ -46,9 +42,6 @@ module _ (n k s : ℕ) (e : encodesPhase n k s ≡ true) where
       ⊎-elim (λ x. let z = eqb-true s 0 x in omega (arith, z))
       (λ x. leb-true s 255 (both {t = eqb n 2} x .1)) (either g)
 
-past : (n i : ℕ) → i ≤ n → n ≢ i → i + 1 ≤ n
-past n i h e = omega arith
-
 -- no kind but the last is left
 pub last-kind : (n : ℕ) → n ≤ 9 → n ≢ 0 → n ≢ 1 → n ≢ 2 → n ≢ 3 → n ≢ 4 → n ≢ 5 → n ≢ 6 → n ≢ 7 → n ≢ 8 → 9 ≡ n
 last-kind n h e0 e1 e2 e3 e4 e5 e6 e7 e8 =
@@ -56,6 +49,9 @@ last-kind n h e0 e1 e2 e3 e4 e5 e6 e7 e8 =
     let b : 6 ≤ n = past n 5 (past n 4 (past n 3 a e3) e4) e5 in
     ends n h (past n 8 (past n 7 (past n 6 b e6) e7) e8)
   where
+    past : (n i : ℕ) → i ≤ n → n ≢ i → i + 1 ≤ n
+    past n i h e = omega arith
+
     zero≤ : (n : ℕ) → 0 ≤ n
     zero≤ n = omega arith
 

@@ -6,11 +6,11 @@ use Prim.Native.Nat.{ℕ, zero, suc, _+_, _<_, _≤_}
 use borrow.Author.Tests.{leb-true}
 use lib.Dec.{leb}
 use lib.ListN.{length, getD, take, drop, set, length-drop}
-use lib.Seq.{drop-cons, take-all, take-suc, take-suc-set, getD-drop}
-use native.Mathlib.Numerals.{add-one}
+use lib.Seq.{drop-cons, getD-drop}
 use native.Mathlib.Omega.{arith}
 use Rattle.model.specs.Layout.{flag}
 use Rattle.model.proofs.Tests.{both, all-four}
+use Rattle.model.proofs.Walks.{anew-step, anew-end}
 use Rattle.columns.specs.Columns.{listFrom}
 use Rattle.state.specs.declared.Phase as DP
 use Rattle.state.specs.declared.Phase.the-variants as P
@@ -59,16 +59,10 @@ module _ (a cs : List ℕ) (i : ℕ) (l : length a ≡ 21) (m : length cs ≡ 8)
   pub chosen-next : i < 8 → take i cs ≡ take i (drop 13 a)
       → take (i + 1) (set cs i (getD a (13 + i) 0)) ≡ take (i + 1) (drop 13 a)
   chosen-next h e =
-      rw (
-        add-one i,
-        take-suc-set cs i (getD a (13 + i) 0) (omega arith),
-        take-suc (drop 13 a) i 0 (omega (arith, eight)),
-        getD-drop 13 a i 0,
-        e,
-      )
+      rw (← getD-drop 13 a i 0) (anew-step (drop 13 a) cs i (m ∙ sym eight) e 0 (omega (arith, eight)))
 
   pub chosen-end : 8 ≤ i → take i cs ≡ take i (drop 13 a) → cs ≡ drop 13 a
-  chosen-end h e = sym (take-all i cs (omega arith)) ∙ e ∙ take-all i (drop 13 a) (omega (arith, eight))
+  chosen-end h e = anew-end (drop 13 a) cs i (m ∙ sym eight) e (omega (arith, eight))
 
 pub phase-spelled : (p : DP.Phase) (xs : List ℕ)
     → getD (phaseNumbers p) 0 0 ∷ getD (phaseNumbers p) 1 0 ∷ getD (phaseNumbers p) 2 0 ∷ xs ≡ phaseNumbers p ++ xs

@@ -1,12 +1,13 @@
 -- Laws of a sender's numbers, stored one by one.
-use mathlib.Core.Path.{_≡_, refl, _∙_, ap}
-use mathlib.Core.List.{List, [], _∷_, _++_, append-assoc}
+use mathlib.Core.Path.{_≡_, refl, _∙_}
+use mathlib.Core.List.{List, [], _∷_, _++_}
 use Prim.Native.Nat.{ℕ, suc, _+_, _≤_}
-use lib.ListN.{length, take, drop, set, length-append}
-use lib.Seq.{take-all, drop-drop, sets, sets-eq, paste, take-paste, drop-paste}
+use lib.ListN.{length, set}
+use lib.Seq.{sets, paste}
 use native.Mathlib.Numerals.{add-one}
 use native.Mathlib.Omega.{arith}
 use Rattle.model.specs.Layout.{flag}
+use Rattle.model.proofs.Parts.{sets-paste}
 use Rattle.state.specs.declared.Sender as DD
 use Rattle.rows.specs.Numbers.{stateNumber, kind, place, second, senderNumbers}
 use Rattle.rows.proofs.SenderLaws.{numbers-listed}
@@ -21,26 +22,6 @@ stored-sets [] s at k = refl
 stored-sets (x ∷ xs) s at k =
     let e : at + suc k ≡ suc (at + k) = omega arith in
     stored-sets xs (set s (at + k) x) at (suc k) ∙ rw e
-
--- two runs, the second right after the first
-then-paste : (s xs ys : List ℕ) (at n m : ℕ) → length xs ≡ n → length ys ≡ m → at + (n + m) ≤ length s
-    → paste (sets s at xs) (at + n) ys m ≡ paste s at (xs ++ ys) (n + m)
-then-paste s xs ys at n m l k h =
-    let front : sets s at xs ≡ paste s at xs n =
-    sets-eq xs s at (omega (arith, l)) ∙ rw (l, take-all n xs (omega (arith, l))) in
-    let z : at + n + m ≡ at + (n + m) = omega arith in
-    rw (
-      front,
-      take-paste s at xs n (omega arith) (omega (arith, l)),
-      ← drop-drop m (at + n) (paste s at xs n),
-      drop-paste s at xs n (omega arith) (omega (arith, l)),
-      drop-drop m (at + n) s,
-      take-all n xs (omega (arith, l)),
-      take-all m ys (omega (arith, k)),
-      take-all (n + m) (xs ++ ys) (omega (arith, l, k, length-append xs ys)),
-      z,
-    )
-    (ap (λ (x : List ℕ). x ++ drop (at + (n + m)) s) (append-assoc (take at s) xs ys))
 
 -- the sender's fields, stored one by one, and its chosen messages
 pub sender-stored : (d : DD.Sender) (s : List ℕ) (at state signalled n k m retry : ℕ) → at + 21 ≤ length s
@@ -57,4 +38,4 @@ sender-stored d s at state signalled n k m retry h l p q r t u v =
     retry ∷ d .job .retries ∷ [] in
     let e : xs ++ d .job .chosen ≡ senderNumbers d = rw (numbers-listed d, p, q, r, t, u, v) in
     rw (stored-sets _ (set s at state) at 1, add-one at, ← e)
-    (then-paste s xs (d .job .chosen) at 13 8 refl l (omega arith))
+    (sets-paste s xs (d .job .chosen) at 13 8 refl l (omega arith))

@@ -5,28 +5,14 @@ use mathlib.Core.List.{List, [], _∷_, _++_, append-assoc, append-nil}
 use Prim.Native.Nat.{ℕ, zero, suc, _+_, _*_, _-_, _<_, _≤_}
 use borrow.Author.Tests.{eqb-true}
 use lib.Dec.{eqb}
-use lib.ListN.{length, getD, take, drop, set, length-drop}
-use lib.Seq.{length-take-le, drop-drop, getD-take, getD-drop, take-all, take-suc, paste, take-paste}
+use lib.ListN.{length, getD, take, drop, set}
+use lib.Seq.{drop-drop, take-all, take-suc, paste, take-paste}
 use native.Mathlib.Numerals.{add-one}
 use native.Mathlib.Omega.{arith}
 use Rattle.model.proofs.Tests.{both}
+use Rattle.model.proofs.Parts.{drop-next}
 use Rattle.state.specs.declared.Sender as DD
-use Rattle.rows.specs.Fits.{SenderFits, SendersFit}
 use Rattle.rows.specs.Numbers.{senderNumbers, sendersNumbers, encodesSender, encodesSenders, encodes}
-
--- a sender's part of the numbers
-pub span : (at : ℕ) → at + 21 - at ≡ 21
-span at = omega arith
-
-pub part-len : (s : List ℕ) (i : ℕ) → length s ≡ 674 → i < 32 → length (take 21 (drop (2 + 21 * i) s)) ≡ 21
-part-len s i l h =
-    length-take-le 21 (drop (2 + 21 * i) s) (omega (arith, length-drop (2 + 21 * i) s))
-
-pub part-at : (s : List ℕ) (at i : ℕ) → i < 21 → getD (take 21 (drop at s)) i 0 ≡ getD s (at + i) 0
-part-at s at i h = getD-take 21 (drop at s) i 0 h ∙ getD-drop at s i 0
-
-pub part-first : (s : List ℕ) (at : ℕ) → getD (take 21 (drop at s)) 0 0 ≡ getD s at 0
-part-first s at = let z : at + 0 ≡ at = omega arith in rw z at (part-at s at 0 (omega arith))
 
 -- each sender of those that pass
 each-ok : (n i : ℕ) (s : List ℕ) → encodesSenders n s ≡ true → i < n → encodesSender (take 21 (drop (21 * i) s)) ≡ true
@@ -34,8 +20,7 @@ unfolding encodesSenders
 each-ok zero i s e h = absurd (omega arith)
 each-ok (suc n) zero s e h = both {t = encodesSender (take 21 s)} e .0
 each-ok (suc n) (suc i) s e h =
-    let z : 21 * suc i ≡ 21 + 21 * i = omega arith in
-    rw (z, ← drop-drop (21 * i) 21 s)
+    rw (← drop-next 21 i s)
     (each-ok n i (drop 21 s) (both {t = encodesSender (take 21 s)} e .1) (omega arith))
 
 pub part-ok : (i : ℕ) (s : List ℕ) → encodesSenders 32 (drop 2 s) ≡ true → i < 32

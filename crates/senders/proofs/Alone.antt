@@ -1,15 +1,15 @@
 -- Laws of marks walked from the front: each with those after it.
-use mathlib.Core.Path.{_≡_, refl, sym, ap, _∙_}
+use mathlib.Core.Path.{_≡_, refl}
 use mathlib.Core.Logic.{_≢_}
 use mathlib.Core.Bool.{Bool, true, false, _&&_, not}
 use mathlib.Core.List.{List, [], _∷_, map}
-use Prim.Native.Nat.{ℕ, zero, suc, _+_, _<_, _≤_}
+use Prim.Native.Nat.{ℕ, _+_, _<_, _≤_}
 use native.Mathlib.Numerals.{add-one}
 use native.Mathlib.Omega.{arith}
-use borrow.Author.Tests.{eq-eqb, ne-eqb, eqb-true, eqb-false}
-use lib.Dec.{eqb}
-use lib.ListN.{length, getD, set, take, drop, drop-of-length-le}
-use lib.Seq.{drop-cons, take-all}
+use borrow.Author.Tests.{eq-eqb, ne-eqb}
+use lib.Dec.{eqb, eqb·suc-suc}
+use lib.ListN.{length, getD, drop, drop-of-length-le}
+use lib.Seq.{drop-cons}
 use Rattle.model.specs.Basics.{every}
 use Rattle.model.specs.Tables.{Table}
 use Rattle.model.specs.Boards.{Sender}
@@ -52,40 +52,16 @@ module _ (s : List ℕ) where
   pub twice-end : (i : ℕ) → length s ≤ i → noneTwice (drop i s) ≡ true
   twice-end i h = rw (drop-of-length-le s h)
 
--- a list written place by place is the map
-mapped-next : {A B : Type 0} (f : A → B) (z : A) (l : List A) (r : List B) (i : ℕ) → i < length l → length r ≡ length l
-    → take i r ≡ map f (take i l) → take (suc i) (set r i (f (getD l i z))) ≡ map f (take (suc i) l)
-mapped-next f z [] r i h e q = absurd (omega arith)
-mapped-next f z (x ∷ xs) [] i h e q = absurd (omega arith)
-mapped-next f z (x ∷ xs) (y ∷ ys) zero h e q = refl
-mapped-next f z (x ∷ xs) (y ∷ ys) (suc i) h e q =
-    cc (ap (λ s. getD s 0 y) q, mapped-next f z xs ys i (omega arith) (omega arith) (ap (drop 1) q))
-
-module _ {A B : Type 0} (f : A → B) (l : List A) (r : List B) (i : ℕ) (e : length r ≡ length l)
-    (q : take i r ≡ map f (take i l)) where
-  pub mapped-step : (z : A) → i < length l → take (i + 1) (set r i (f (getD l i z))) ≡ map f (take (i + 1) l)
-  mapped-step z h = rw (add-one i) (mapped-next f z l r i h e q)
-
-  pub mapped-end : length l ≤ i → r ≡ map f l
-  mapped-end h = sym (take-all i r (omega arith)) ∙ q ∙ ap (map f) (take-all i l h)
-
 -- Marks of senders
 
 -- a mark is that of message o's sender, if it is not idle and o is its own
-eqb-more : (a b : ℕ) → eqb (a + 1) (b + 1) ≡ eqb a b
-eqb-more a b = go (eqb a b) refl
-  where
-    go : (u : Bool) → eqb a b ≡ u → eqb (a + 1) (b + 1) ≡ eqb a b
-    go true e = rw (e, eq-eqb (a + 1) (b + 1) (ap (λ x. x + 1) (eqb-true a b e)))
-    go false e = rw (e, ne-eqb (a + 1) (b + 1) (λ z. eqb-false a b e (omega (arith, z))))
-
 module _ (t : Table) where
   owns-is : (o : ℕ) (d : DD.Sender) → eqb (markBy d) (o + 1) ≡ owns o (senderIn t d)
   owns-is o d = go (idleIs (d .state)) refl
     where
       go : (u : Bool) → idleIs (d .state) ≡ u → eqb (markBy d) (o + 1) ≡ owns o (senderIn t d)
       go true e = rw (idle-is (d .state) (jobIn t (d .job)), e, ne-eqb 0 (o + 1) (λ z. omega (arith, z)))
-      go false e = rw (idle-is (d .state) (jobIn t (d .job)), e, eqb-more (d .own) o)
+      go false e = rw (idle-is (d .state) (jobIn t (d .job)), e, add-one (d .own), add-one o, eqb·suc-suc (d .own) o)
 
   others-is : (o : ℕ) (ds : List DD.Sender) → every (λ x. not (eqb x (o + 1))) (map markBy ds)
       ≡ every (λ e. not (owns o e)) (map (senderIn t) ds)

@@ -1,5 +1,4 @@
 -- Laws of the test of senders.
-pub mod Walks
 pub mod Places
 pub mod Alone
 pub mod Lent

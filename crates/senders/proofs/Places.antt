@@ -16,7 +16,7 @@ use Rattle.model.specs.Boards.{Board, Message, noMessage, channelOf}
 use Rattle.model.specs.Steps.{keepIf, toTell}
 use Rattle.model.specs.Layout.{tableRefusal, tableOf, flag}
 use Rattle.model.specs.Sound.{placeOk}
-use Rattle.model.proofs.Tests.{both, tested}
+use Rattle.model.proofs.Tests.{both, tested, and-spare, and-spare-last}
 use Rattle.model.proofs.AcceptedChords.{table-ok}
 use Rattle.state.specs.declared.Phase.the-variants as P
 use Rattle.state.specs.declared.Job as DJ
@@ -39,10 +39,6 @@ seen-channel b n m ch sees v = go (tested (ltb v n))
         let d = List·getD-eq-default (b .messages) noMessage {n = v} (omega (arith, sees .count)) in
         rw e (ap (λ (x : Message). x .sent .channel) d)
 
-pub flag-le : (c : Bool) → flag c ≤ 1
-flag-le true = omega arith
-flag-le false = omega arith
-
 keep-length : (c : Bool) (n : ℕ) (ns : List ℕ) → length (keepIf c n ns) ≡ flag c + length ns
 keep-length true n ns = omega arith
 keep-length false n ns = omega arith
@@ -53,19 +49,6 @@ pub tell-length : (t : Table) (b : Board) (n m : ℕ) (ch : List ℕ) → Seen b
 tell-length t b n m ch sees h x xs =
     rw (← seen-channel b n m ch sees x)
     (keep-length (isSync t (channelOf b x) && not (eqb x h)) x (toTell t (b .messages) h xs))
-
--- a test that holds where those before it do
-spare : (u v e : Bool) → (u ≡ true → e ≡ true) → (u && (v && e)) ≡ (u && v)
-spare true true e h = h refl
-spare true false e h = refl
-spare false v e h = refl
-
-spare-last : (u v e l : Bool) → (u ≡ true → l ≡ true → e ≡ true) → ((u && (v && e)) && l) ≡ ((u && v) && l)
-spare-last true true true l h = refl
-spare-last true true false true h = h refl refl
-spare-last true true false false h = refl
-spare-last true false e l h = refl
-spare-last false v e l h = refl
 
 pub in-table : (t : Table) (chord x : ℕ) → inChord t chord x ≡ true → chord < length (t .chords)
 unfolding inChord
@@ -100,7 +83,7 @@ module _ (s : List ℕ) (accepts : tableRefusal s ≡ 0) where
     chord-is : (ltb chord (length (tableOf s .chords)) && (isIn x (chordAt (tableOf s) chord .channels)
         && eqb (length (take (size (tableOf s) chord) ns)) (size (tableOf s) chord))) ≡ inChord (tableOf s) chord x
     unfolding inChord
-    chord-is = spare (ltb chord (length (tableOf s .chords))) (isIn x (chordAt (tableOf s) chord .channels)) _ (λ e.
+    chord-is = and-spare (ltb chord (length (tableOf s .chords))) (isIn x (chordAt (tableOf s) chord .channels)) _ (λ e.
         let few = table-ok s accepts .chord-few chord (ltb-true _ _ e) in
         eq-eqb _ _ (length-take-le (size (tableOf s) chord) ns (omega arith)))
 
@@ -109,7 +92,8 @@ module _ (s : List ℕ) (accepts : tableRefusal s ≡ 0) where
         && eqb (length (take k ns)) k)) && ltb k (size (tableOf s) chord))
         ≡ (inChord (tableOf s) chord x && ltb k (size (tableOf s) chord))
     unfolding inChord
-    look-is k = spare-last (ltb chord (length (tableOf s .chords))) (isIn x (chordAt (tableOf s) chord .channels)) _ _
+    look-is k = and-spare-last (ltb chord (length (tableOf s .chords)))
+        (isIn x (chordAt (tableOf s) chord .channels)) _ _
         (λ e f.
         let few = table-ok s accepts .chord-few chord (ltb-true _ _ e) in
         let l = ltb-true k (size (tableOf s) chord) f in

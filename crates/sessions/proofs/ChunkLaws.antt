@@ -4,12 +4,11 @@ use mathlib.Core.List.{List, [], _∷_, _++_}
 use Prim.Native.Nat.{ℕ, suc, _+_, _*_, _-_, _<_, _≤_}
 use native.Mathlib.Omega.{arith}
 use lib.ListN.{length, take, drop, length-drop}
-use lib.Seq.{drop-drop, sets-eq, take-at, length-take-le}
-use lib.ListN.{length-append}
+use lib.Seq.{drop-drop}
 use Rattle.model.specs.Layout.{tableOf}
 use Rattle.model.specs.Lines.{lineOf}
 use Rattle.model.specs.Sessions.{Session, lineEnds, fed, inputEnds}
-use Rattle.model.proofs.Lists.{to-end}
+use Rattle.model.proofs.Parts.{to-end, take-again, take-none, take-sets}
 use Rattle.boards.specs.Layout.{Lists}
 use Rattle.refusals.specs.Held.{heldOf, Accepted}
 use Rattle.refusals.specs.Calls.{boardOf}
@@ -17,16 +16,14 @@ use Rattle.prints.specs.Printed.{Printed}
 use Rattle.prints.proofs.Texts as texts
 use Rattle.sessions.specs.declared.Carry as DC
 use Rattle.sessions.specs.Serves.{Serves, Serves-chunk, Serves-end, Says, Keeps, carryOf, feedAt, session}
-use Rattle.sessions.proofs.FeedLaws.{fed-line, fed-rest, take-again, line-cut}
+use Rattle.sessions.proofs.FeedLaws.{fed-line, fed-rest, line-cut}
 
 -- what is printed follows what stands before it
 printed-take : {out done w : List ℕ} {at after : ℕ} → Printed out at w after done → after ≤ length out
     → take after done ≡ take at out ++ w
 printed-take {out} {done} {w} {at} {after} p l =
-    let n : length (take at out) ≡ at = length-take-le at out (omega (arith, p .place)) in
-    let m : length (take at out ++ w) ≡ after = omega (arith, length-append (take at out) w, p .place) in
-    rw (p .bytes, sets-eq w out at (omega (arith, p .place)))
-    (take-at (take at out ++ w) (drop (at + length w) out) after m)
+    let e : after ≡ at + length w = p .place in
+    rw (e, p .bytes) (take-sets out at w (omega (arith, p .place)))
 
 -- the model's line end, where the line's bytes read as those that were served
 pub line-served : (s : List ℕ) (h : Lists) (line out : List ℕ) (at : ℕ) (h′ : Lists) (after : ℕ) (done p : List ℕ)
@@ -141,19 +138,13 @@ module _ (s : List ℕ) (h : Lists) (c : DC.Carry) (input out : List ℕ) where
 
 -- The end of input
 
-no-bytes : (p : List ℕ) → take 81 p ≡ [] → p ≡ []
-no-bytes [] e = refl
-no-bytes (x ∷ xs) e =
-    let z = ap (length {A = ℕ}) e in
-    absurd (omega (arith, z))
-
 pub end-none : (s : List ℕ) (h : Lists) (c : DC.Carry) (out : List ℕ) → c .len ≡ 0 → Accepted s h
     → Serves-end s h c h 0 out
 end-none s h c out z a = record { says = ends; accepted = a; room = omega arith }
   where
     ends : (p : List ℕ) → Keeps p c
         → Says (inputEnds (tableOf s) (session [] (boardOf s (heldOf h)) p) p) (boardOf s (heldOf h)) 0 out
-    ends p k = rw (no-bytes p (rw z at k)) (record { text = refl; board = refl })
+    ends p k = rw (take-none 80 p (rw z at k)) (record { text = refl; board = refl })
 
 pub end-line : (s : List ℕ) (h : Lists) (c : DC.Carry) (out : List ℕ) (h′ : Lists) (after : ℕ) (done : List ℕ)
     → 0 < length (carryOf c) → 16 ≤ length out → Serves s h (carryOf c) out 0 h′ after done

@@ -2,7 +2,7 @@
 use mathlib.Core.Path.{_≡_, refl, ap}
 use mathlib.Core.Bool.{Bool, true, false}
 use mathlib.Core.List.{List, [], _∷_, _++_, append-nil}
-use Prim.Native.Nat.{ℕ, zero, suc, _+_, _<_, _≤_}
+use Prim.Native.Nat.{ℕ, suc, _+_, _<_, _≤_}
 use native.Mathlib.Nat.{not-suc-le-zero, le-of-suc-le-suc}
 use native.Mathlib.Omega.{arith}
 use borrow.Author.Tests.{leb-true, leb-false}
@@ -44,12 +44,6 @@ fed-rest t (c ∷ cs) x h = go (eqb c 10) refl h (fed-rest t cs)
     go true e h ih = absurd (not-suc-le-zero (rw (e, firstBy) at h))
     go false e h ih =
         rw (e, ih (grown x (c ∷ [])) (le-of-suc-le-suc (rw (e, firstBy) at h)), append-snoc (x .partial) c cs)
-
--- the first bytes of an append, by the first of its first part
-pub take-again : (n : ℕ) (p s : List ℕ) → take n (p ++ s) ≡ take n (take n p ++ s)
-take-again zero p s = refl
-take-again (suc n) [] s = refl
-take-again (suc n) (x ∷ p) s = cc (take-again n p s)
 
 -- over 80 bytes both are unreadable
 pub line-cut : (p : List ℕ) → lineOf (take 81 p) ≡ lineOf p

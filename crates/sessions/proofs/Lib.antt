@@ -1,6 +1,5 @@
 -- Laws of the input's bytes: fed one after another, cut at line feeds, and by its lines.
 pub mod LineLaws
 pub mod FeedLaws
-pub mod CarryLaws
 pub mod ChunkLaws
 pub mod ByLines

@@ -29,10 +29,6 @@ pub step-is : (t : Table) (b : Board) (d : DD.Sender) (p : DP.Phase) (x : Effect
 step-is t b d p x e q =
     q ∙ ap (λ (y : DP.Phase). job-step t b (senderIn t d) (jobIn t (d .job)) (phaseIn y)) (sym e)
 
--- a place of a list that is kept in the first of an array
-taken : (xs : List ℕ) (k s i : ℕ) → k ≡ s → i < s → getD (take k xs) i 0 ≡ getD xs i 0
-taken xs k s i e h = ap (λ (y : ℕ). getD (take y xs) i 0) e ∙ getD-take s xs i 0 h
-
 module _ (t : Table) (channels properties statuses : List ℕ) (n count : ℕ) (d : DD.Sender)
     (r : Ready t channels properties statuses n count d) where
   pub own-in : d .own ≤ n
@@ -74,11 +70,15 @@ module _ (t : Table) (channels properties statuses : List ℕ) (n count : ℕ) (
     -- a phase with a message chosen for each member
     module _ (all : chosenBy (d .job .phase) (size t (d .job .chord)) ≡ size t (d .job .chord))
         (a : AllChosen t (boardBy channels properties statuses n (r .others)) (jobIn t (d .job))) where
+      taken : (i : ℕ) → i < size t (d .job .chord)
+          → getD (jobIn t (d .job) .chosen) i 0 ≡ getD (d .job .chosen) i 0
+      taken i h =
+          getD-take (chosenBy (d .job .phase) (size t (d .job .chord))) (d .job .chosen) i 0 (rw all h)
+
       pub chosen-in : (i : ℕ) → i < size t (d .job .chord) → getD (d .job .chosen) i 0 < n
       chosen-in i h =
           let l = length-messages (columnsBy channels properties statuses (r .others)) 0 n in
-          let e = taken (d .job .chosen) (chosenBy (d .job .phase) (size t (d .job .chord))) (size t (d .job .chord))
-          i all h in
+          let e = taken i h in
           omega (arith, job-facts .chosen-in i (omega (arith, a .counted)))
 
       pub held : ChoiceLent t (d .job .chosen) channels (size t (d .job .chord)) n
@@ -102,6 +102,5 @@ module _ (t : Table) (channels properties statuses : List ℕ) (n count : ℕ) (
           ≡ eqb (getD statuses (getD (d .job .chosen) k 0) 0) 0
       pending-chosen o k h =
           ap (λ (y : ℕ). isPending (messageAt (boardBy channels properties statuses n o) y .status))
-          (taken (d .job .chosen) (chosenBy (d .job .phase) (size t (d .job .chord))) (size t (d .job .chord)) k all
-          h)
+          (taken k h)
           ∙ pending-read channels properties statuses o n (getD (d .job .chosen) k 0) (chosen-in k h)

@@ -1,27 +1,14 @@
--- Laws of bytes walked from the front: what is left from i on, and a chord's four bytes at a place.
+-- Laws of chords walked from the front: a chord's four bytes at a place, and what is left from there on.
 use mathlib.Core.Path.{_≡_}
-use mathlib.Core.Bool.{Bool, true, false, _&&_}
+use mathlib.Core.Bool.{_&&_}
 use mathlib.Core.List.{List}
-use Prim.Native.Nat.{ℕ, suc, _+_, _-_, _*_, _<_, _≤_}
+use Prim.Native.Nat.{ℕ, suc, _+_, _-_, _*_, _<_}
 use native.Mathlib.Nat.{add-zero}
-use native.Mathlib.Numerals.{add-one}
 use native.Mathlib.Omega.{arith}
 use lib.Dec.{eqb, leb}
-use lib.ListN.{length, getD, drop, drop-of-length-le}
-use lib.Seq.{drop-cons, drop-drop, getD-drop}
-use Rattle.model.specs.Basics.{every}
+use lib.ListN.{getD, drop}
+use lib.Seq.{drop-drop, getD-drop}
 use Rattle.model.specs.Layout.{chordOk, chordsOk, membersSum, word}
-
--- every byte passes
-module _ (p : ℕ → Bool) (s : List ℕ) (i : ℕ) where
-  pub all-no : i < length s → p (getD s i 0) ≡ false → every p (drop i s) ≡ false
-  all-no h e = rw (drop-cons s i 0 h, e)
-
-  pub all-yes : i < length s → p (getD s i 0) ≡ true → every p (drop i s) ≡ every p (drop (i + 1) s)
-  all-yes h e = rw (drop-cons s i 0 h, add-one i, e)
-
-  pub all-end : length s ≤ i → every p (drop i s) ≡ true
-  all-end h = rw (drop-of-length-le s h)
 
 -- a word, and a chord's bytes, at a place
 word-from : (s : List ℕ) (at : ℕ) → word 0 (drop at s) ≡ getD s at 0 + 256 * getD s (at + 1) 0

@@ -1,7 +1,7 @@
 -- Which number a written table is refused with: the layout's own rules always hold of it,
 -- so only its counts, its kinds, its chords' sizes and its members decide.
 use mathlib.Core.Path.{_≡_, refl, _∙_}
-use mathlib.Core.Bool.{Bool, true, false, _&&_, and-true}
+use mathlib.Core.Bool.{true, false, _&&_, and-true, and-false}
 use mathlib.Core.List.{List, [], _∷_, _++_}
 use Prim.Native.Nat.{ℕ, _+_, _<_, _≤_}
 use native.Mathlib.Nat.{mod-add-div}
@@ -15,21 +15,13 @@ use Rattle.model.specs.Layout.{word, chordOk, chordsOk, membersOk, kindsOk, wri
 use Rattle.model.specs.Layout.{tableRefusal, countsOk, offsetsOk, countT, countR, countM, chordsStart, membersStart}
 use Rattle.model.specs.Layout.{writeRefusal, written}
 use Rattle.model.proofs.Tests.{and, unless-none, all-four, refused-first}
+use Rattle.model.proofs.Lists.{every-each}
 use Rattle.model.proofs.Written.{flag-small, header, whole-written, kinds-written, chords-written, members-written}
 use Rattle.model.proofs.Written.{sum-written}
 use Rattle.codec.specs.declared.Table as DT
 use Rattle.codec.specs.Views.{tableIn}
 use Rattle.writer.specs.Writes.{countsIn, sized, membersWritten, stored}
 use Rattle.writer.proofs.Chords.{length-kinds-in, length-chords-in}
-
-every-each : {A : Type 0} (f : A → Bool) (xs ys : List A) → every f (xs ++ ys) ≡ (every f xs && every f ys)
-every-each f [] ys = refl
-every-each f (x ∷ xs) ys = go (f x) (every-each f xs ys)
-  where
-    go : (b : Bool) → every f (xs ++ ys) ≡ (every f xs && every f ys)
-        → (b && every f (xs ++ ys)) ≡ ((b && every f xs) && every f ys)
-    go true e = e
-    go false e = refl
 
 entries-sized : (rest : List ℕ) (next : ℕ) (cs : List Chord)
     → chordsOk (length cs) next (writtenChords next cs ++ rest) ≡ every sized cs
@@ -93,11 +85,6 @@ module _ (t : Table) where
       )
 
 -- the counts of a value, as the code tests them
-none-pass : (a b c : Bool) → (a && (b && (false && c))) ≡ false
-none-pass true true c = refl
-none-pass true false c = refl
-none-pass false b c = refl
-
 module _ (t : DT.Table) where
   counts-are : countsIn (tableIn t)
       ≡ (leb 1 (t .«kinds_len») && (leb (t .«kinds_len») 16 && (leb (t .«chords_len») 32 &&
@@ -106,7 +93,11 @@ module _ (t : DT.Table) where
   counts-are = rw (length-kinds-in t, length-chords-in t)
 
   pub counts-many : 32 < t .«chords_len» → countsIn (tableIn t) ≡ false
-  counts-many h = counts-are ∙ rw (lt-leb (t .«chords_len») 32 h, none-pass)
+  counts-many h = counts-are ∙ rw (
+    lt-leb (t .«chords_len») 32 h,
+    and-false (leb (t .«kinds_len») 16),
+    and-false (leb 1 (t .«kinds_len»)),
+  )
 
   pub counts-few : (m : ℕ) → m ≡ length (writtenMembers (tableIn t .chords)) → t .«chords_len» ≤ 32
       → countsIn (tableIn t) ≡ (leb 1 (t .«kinds_len») && (leb (t .«kinds_len») 16 && leb m 256))

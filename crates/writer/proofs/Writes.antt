@@ -9,7 +9,7 @@ use lib.Seq.{sets, sets-eq}
 use Rattle.model.specs.Tables.{Chord, Table}
 use Rattle.model.specs.Layout.{tableBytes, writtenHeader, writtenChords, writtenMembers}
 use Rattle.model.proofs.Written.{whole-written, length-entries}
-use Rattle.model.proofs.Lists.{sets-append}
+use Rattle.model.proofs.Parts.{sets-append}
 use Rattle.codec.specs.declared.Chord as DC
 use Rattle.codec.specs.declared.Table as DT
 use Rattle.codec.specs.Views.{chordIn, tableIn}

@@ -13,12 +13,13 @@ use Rattle.writes.specs.Writes.{signalBy, signalledBy, matchesBy}
 use Rattle.writes.specs.declared.Move as DM
 use Rattle.writes.specs.Moves.{messagesBy, movedBoard}
 use Rattle.writes.proofs.ChangeLaws.{signal-none, signal-some, moved-by}
+use Rattle.model.proofs.Parts.{paste-behind}
 use Rattle.rows.specs.Fits.{SenderFits, SendersFit, BoardFits}
 use Rattle.rows.specs.Numbers.{senderNumbers, sendersNumbers, boardNumbers, encodes}
 use Rattle.rows.specs.Decoded.{boardFrom}
 use Rattle.rows.proofs.DecodeLaws.{from-back}
 use Rattle.writes.specs.Signals.{signalledBoard}
-use Rattle.writes.proofs.PlaceLaws.{paste-behind, senders-paste}
+use Rattle.writes.proofs.PlaceLaws.{senders-paste}
 use Rattle.writes.proofs.SignalLaws.{IsBoard, is-board}
 
 -- the board with another sender at a place, and other counts

@@ -1,28 +1,15 @@
 -- Laws of one sender's place among the numbers of all: read, set, pasted.
 use mathlib.Core.Path.{_≡_, _∙_, ap}
-use mathlib.Core.List.{List, [], _∷_, _++_, append-assoc}
+use mathlib.Core.List.{List, [], _∷_, _++_}
 use Prim.Native.Nat.{ℕ, zero, suc, _+_, _*_, _<_}
-use lib.ListN.{length, getD, take, drop, set, List·getD-append}
-use lib.Seq.{take-all, drop-at, take-append-add, drop-append-add, getD-append-add, set-append-left, paste}
+use lib.ListN.{length, getD, set, List·getD-append}
+use lib.Seq.{take-all, drop-at, getD-append-add, set-append-left, paste}
 use native.Mathlib.Omega.{arith}
+use Rattle.model.proofs.Parts.{paste-behind, set-behind}
 use Rattle.state.specs.declared.Sender as DD
 use Rattle.rows.specs.Fits.{SenderFits, SendersFit}
 use Rattle.rows.specs.Numbers.{senderNumbers, sendersNumbers}
 use Rattle.rows.proofs.SenderLaws.{sender-long}
-
--- past a front
-pub paste-behind : (p xs ys : List ℕ) (at n : ℕ) → paste (p ++ xs) (length p + at) ys n ≡ p ++ paste xs at ys n
-paste-behind p xs ys at n =
-    let z : length p + at + n ≡ length p + (at + n) = omega arith in
-    rw (z, take-append-add p xs at, drop-append-add p xs (at + n))
-    (ap (λ (x : List ℕ). x ++ drop (at + n) xs) (append-assoc p (take at xs) (take n ys))
-    ∙ append-assoc p (take at xs ++ take n ys) (drop (at + n) xs))
-
-pub set-behind : (p xs : List ℕ) (at x : ℕ) → set (p ++ xs) (length p + at) x ≡ p ++ set xs at x
-set-behind [] xs at x = let z : 0 + at ≡ at = omega arith in rw z
-set-behind (y ∷ p) xs at x =
-    let z : suc (length p) + at ≡ suc (length p + at) = omega arith in
-    rw (z, set-behind p xs at x)
 
 -- the senders' numbers, with those of another at place i
 pub senders-paste : (ds : List DD.Sender) (i : ℕ) (d : DD.Sender) → i < length ds → SendersFit ds → SenderFits d

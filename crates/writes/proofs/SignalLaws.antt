@@ -1,6 +1,6 @@
 -- Laws of the signal, set in the numbers of each sender.
 use mathlib.Core.Path.{_≡_, refl, _∙_, ap}
-use mathlib.Core.Bool.{Bool, true, false, _||_, _&&_, not}
+use mathlib.Core.Bool.{Bool, true, false, _||_, _&&_, not, or-false, or-true}
 use mathlib.Core.List.{List, [], _∷_, _++_, map}
 use Prim.Native.Nat.{ℕ, zero, suc, _+_, _*_, _<_, _≤_}
 use lib.Dec.{eqb}
@@ -9,20 +9,21 @@ use lib.Seq.{set-getD, getD-append-add}
 use native.Mathlib.Numerals.{add-one}
 use native.Mathlib.Omega.{arith}
 use Rattle.model.specs.Basics.{pick}
+use Rattle.model.proofs.Parts.{set-behind}
+use Rattle.model.proofs.Walks.{in-place-step, in-place-end}
 use Rattle.state.specs.declared.State as DS
 use Rattle.state.specs.declared.State.the-variants as S
 use Rattle.state.specs.declared.Sender as DD
 use Rattle.state.specs.Views.{idleIs}
 use Rattle.boards.specs.Boards.{HeldBoard, zeroSender}
 use Rattle.writes.specs.Writes.{signalledBy}
-use Rattle.writes.proofs.SignalledSenders.{mapped-step, mapped-end}
 use Rattle.rows.specs.Fits.{SenderFits, SendersFit, BoardFits}
 use Rattle.rows.specs.Numbers.{stateNumber, senderNumbers, sendersNumbers, boardNumbers, encodes}
 use Rattle.rows.specs.Decoded.{boardFrom}
 use Rattle.rows.proofs.SenderLaws.{numbers-listed}
 use Rattle.rows.proofs.Encoded.{encoded-ok, board-back}
 use Rattle.writes.specs.Signals.{signalAt, signalledBoard}
-use Rattle.writes.proofs.PlaceLaws.{set-behind, number-at, number-set}
+use Rattle.writes.proofs.PlaceLaws.{number-at, number-set}
 
 -- numbers that are those of a board
 abbrev pub IsBoard : List ℕ → HeldBoard → Type 0
@@ -44,18 +45,10 @@ withSignal u d = record {
 }
 
 signal-no : (d : DD.Sender) → withSignal false d ≡ d
-signal-no d = rw (or-no (d .signalled))
-  where
-    or-no : (t : Bool) → (t || false) ≡ t
-    or-no true = refl
-    or-no false = refl
+signal-no d = rw (or-false (d .signalled))
 
 signal-yes : (d : DD.Sender) → senderNumbers (withSignal true d) ≡ set (senderNumbers d) 1 1
-signal-yes d = rw (numbers-listed (withSignal true d), numbers-listed d, or-yes (d .signalled))
-  where
-    or-yes : (t : Bool) → (t || true) ≡ true
-    or-yes true = refl
-    or-yes false = refl
+signal-yes d = rw (numbers-listed (withSignal true d), numbers-listed d, or-true (d .signalled))
 
 state-idle : (s : DS.State) → eqb (stateNumber s) 0 ≡ idleIs s
 state-idle S.Idle = refl
@@ -129,7 +122,7 @@ module _ (n : ℕ) where
   signal-next b i own s s′ f h e p q =
       let g = to-fits b i f in
       let ds = map (signalledBy n) (take i (b .senders)) ++ drop i (b .senders) in
-      let step = mapped-step (signalledBy n) zeroSender (b .senders) i (omega (arith, f .all)) in
+      let step = in-place-step (signalledBy n) zeroSender (b .senders) i (omega (arith, f .all)) in
       q ∙ ap (λ (x : List ℕ). signalAt x (2 + 21 * i) own) p
       ∙ signal-here (b .messages) (b .matches) ds i (omega (arith, g .all)) (g .each) n own e
       ∙ rw (step, add-one i)
@@ -138,5 +131,5 @@ module _ (n : ℕ) where
   pub signal-end : (b : HeldBoard) (i : ℕ) (s : List ℕ) → BoardFits b → 32 ≤ i
       → s ≡ boardNumbers (signalledTo n i b) → IsBoard s (signalledBoard n b)
   signal-end b i s f h e =
-      let all = mapped-end (signalledBy n) (b .senders) i (omega (arith, f .all)) in
+      let all = in-place-end (signalledBy n) (b .senders) i (omega (arith, f .all)) in
       rw all at (is-board s (signalledTo n i b) (to-fits b i f) e)

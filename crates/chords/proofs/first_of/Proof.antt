@@ -8,7 +8,7 @@ use lib.Dec.{eqb}
 use lib.ListN.{length, drop}
 use Rattle.model.specs.Basics.{firstBy}
 use Rattle.model.proofs.AcceptedChords.{table-ok}
-use Rattle.chords.proofs.Walks.{first-here, first-next, first-none}
+use Rattle.model.proofs.Walks.{first-here, first-next, first-end}
 use borrow.Author.Needs.{needs}
 use Rattle.chords.proofs.first_of.Statement.{statement}
 use Rattle.chords.proofs.first_of.Tie as tie
@@ -55,7 +55,7 @@ returns-2 c =
     let p = c .before in
     let a = p .before .before .before .args in
     let s = p .before .members .result .now in
-    let e = first-none (eqb (a .channel)) s (p .loop .i) (omega arith) in
+    let e = first-end (eqb (a .channel)) s (p .loop .i) (omega arith) in
     rw (← p .before .members .ensures) (sym (p .loop .inv .2 ∙ e))
 
 pub first-of-spec : {M : Type 1} → statement M

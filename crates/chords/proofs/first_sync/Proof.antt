@@ -8,7 +8,7 @@ use Rattle.model.specs.Tables.{isSync, firstSync}
 use lib.ListN.{length, drop}
 use Rattle.model.specs.Basics.{firstBy}
 use Rattle.model.proofs.AcceptedChords.{table-ok}
-use Rattle.chords.proofs.Walks.{first-here, first-next, first-none}
+use Rattle.model.proofs.Walks.{first-here, first-next, first-end}
 use borrow.Author.Needs.{needs}
 use Rattle.chords.proofs.first_sync.Statement.{statement}
 use Rattle.chords.proofs.first_sync.Tie as tie
@@ -68,7 +68,7 @@ returns-2 c =
     let p = c .before in
     let a = p .before .before .before .args in
     let s = p .before .members .result .now in
-    let e = first-none (isSync (tableOf (a .table .now))) s (p .loop .i) (omega arith) in
+    let e = first-end (isSync (tableOf (a .table .now))) s (p .loop .i) (omega arith) in
     rw (← p .before .members .ensures) (sym (p .loop .inv .2 ∙ e))
 
 pub first-sync-spec : {M : Type 1} → statement M

@@ -5,7 +5,7 @@ use Prim.Native.Nat.{_≤_, _-_}
 use native.Mathlib.Omega.{arith}
 use lib.ListN.{length, drop}
 use Rattle.model.specs.Basics.{isIn}
-use Rattle.chords.proofs.Walks.{in-here, in-next, in-none}
+use Rattle.model.proofs.Walks.{in-here, in-next, in-none}
 use borrow.Author.Needs.{needs}
 use Rattle.chords.proofs.is_in.Statement.{statement}
 use Rattle.chords.proofs.is_in.Tie as tie

@@ -7,7 +7,7 @@ use lib.ListN.{length, drop, replicate}
 use lib.Seq.{sets}
 use Rattle.model.proofs.AcceptedChords.{table-ok}
 use Rattle.codec.specs.Views.{chordFor}
-use Rattle.codec.proofs.Fills.{fill-next, fill-end}
+use Rattle.model.proofs.Walks.{fill-next, fill-end}
 use borrow.Author.Needs.{needs}
 use Rattle.codec.proofs.chord_read.Statement.{statement}
 use Rattle.codec.proofs.chord_read.Tie as tie

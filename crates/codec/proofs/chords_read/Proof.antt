@@ -10,7 +10,7 @@ use Rattle.model.specs.Tables.{noChord}
 use Rattle.model.specs.Layout.{tableOf}
 use Rattle.model.proofs.AcceptedChords.{table-ok}
 use Rattle.codec.specs.Views.{chordFor, emptyChord}
-use Rattle.codec.proofs.Fills.{fill-next, fill-end}
+use Rattle.model.proofs.Walks.{fill-next, fill-end}
 use borrow.Author.Needs.{needs}
 use Rattle.codec.proofs.chords_read.Statement.{statement}
 use Rattle.codec.proofs.chords_read.Tie as tie

@@ -10,7 +10,7 @@ use Rattle.model.specs.Layout.{tableRefusal, tableOf, countT}
 use Rattle.model.proofs.Accepted.{accepted}
 use Rattle.model.proofs.AcceptedChords.{length-kinds}
 use Rattle.table.proofs.Places.{kind-at}
-use Rattle.codec.proofs.Fills.{fill-next, fill-end}
+use Rattle.model.proofs.Walks.{fill-next, fill-end}
 use borrow.Author.Needs.{needs}
 use Rattle.codec.proofs.kinds_read.Statement.{statement}
 use Rattle.codec.proofs.kinds_read.Tie as tie

@@ -5,7 +5,7 @@ use native.Mathlib.Omega.{arith}
 use lib.ListN.{length, drop}
 use borrow.Author.Needs.{needs}
 use Rattle.model.specs.Basics.{isIn}
-use Rattle.columns.proofs.Walks.{in-here, in-next, in-none}
+use Rattle.model.proofs.Walks.{in-here, in-next, in-none}
 use Rattle.columns.proofs.is_in.Statement.{statement}
 use Rattle.columns.proofs.is_in.Tie as tie
 

@@ -6,7 +6,7 @@ use lib.ListN.{length, getD}
 use borrow.Author.Needs.{needs}
 use Rattle.columns.specs.Firsts.{ofKind}
 use Rattle.columns.specs.Words.{bit}
-use Rattle.columns.proofs.ListFrom.{set-more}
+use Rattle.model.proofs.Walks.{set-more}
 use Rattle.columns.proofs.kinds.Statement.{statement}
 use Rattle.columns.proofs.kinds.Tie as tie
 
@@ -26,7 +26,7 @@ loop-again c =
       search needs,
       search needs,
       set-more (λ k. bit (ofKind (a .channels .now) (a .statuses .now) (a .wanted) (a .status) (a .at + k)))
-          (p .loop .y) (p .loop .i) _ (omega arith) refl (p .loop .inv .2),
+          (p .loop .y) (p .loop .i) _ 0 (omega arith) refl (p .loop .inv .2),
     )
 
 returns : tie.Need-returns Inv-loop μ-loop

@@ -11,7 +11,7 @@ use Rattle.model.specs.Steps.{toTell}
 use Rattle.model.proofs.AcceptedChords.{table-ok}
 use Rattle.state.specs.declared.Phase.the-variants as P
 use Rattle.state.specs.Views.{chosenBy, jobIn}
-use Rattle.consumes.proofs.Telling.{count-is}
+use Rattle.model.proofs.Parts.{front-len}
 use Rattle.consumes.proofs.Consuming.{goes-on, last-by}
 use borrow.Author.Needs.{needs}
 use Rattle.consumes.proofs.consumed_to.Statement.{statement}
@@ -83,7 +83,7 @@ returns-2 c =
     let ys = toTell t is (j .subject) (jobIn t j .chosen) in
     rw (last-by t j (a .k) n _ (all s) e (few s) (eight s) (eq-eqb (a .k + 1) n (i .if1 .left)))
     (c .consumed-end .ensures is ys
-    (rw (all s, ← e) (count-is _ (r .messages) (r .len) (w .to-tell .ensures .2 is tr)
+    (rw (all s, ← e) (front-len _ (r .messages) (r .len) (w .to-tell .ensures .2 is tr)
     (omega (arith, w .to-tell .ensures .0, w .to-tell .ensures .1)))) es ew eg)
 
 pub consumed-to-spec : {M : Type 1} → statement M

@@ -8,7 +8,8 @@ use Rattle.model.specs.Layout.{tableOf}
 use Rattle.model.proofs.AcceptedChords.{table-ok}
 use Rattle.columns.specs.Columns.{columnsBy, boardBy}
 use Rattle.columns.proofs.Messages.{nth-channel}
-use Rattle.consumes.proofs.Telling.{under-count, tells-is}
+use Rattle.model.proofs.Parts.{under-front}
+use Rattle.consumes.proofs.Telling.{tells-is}
 use borrow.Author.Needs.{needs}
 use Rattle.consumes.proofs.tell_step.Statement.{statement}
 use Rattle.consumes.proofs.tell_step.Tie as tie
@@ -27,7 +28,7 @@ under w =
     let s = g .before .before .before .before in
     let left = s .pre .1 .2 in
     let r = w .to-tell .result in
-    under-count _ (r .messages) (r .len) (s .args .k) (left .more)
+    under-front _ (r .messages) (r .len) (s .args .k) (left .more)
     (rw (g .chord-len .ensures) at (w .to-tell .ensures .2 (left .messages) (left .same)))
     (omega (arith, w .to-tell .ensures .0, w .to-tell .ensures .1))
 

@@ -1,5 +1,5 @@
 -- `lines::read_add` meets its contract: four fields, cut one after the other.
-use Rattle.model.proofs.Lists.{to-end}
+use Rattle.model.proofs.Parts.{to-end}
 use mathlib.Core.Path.{sym}
 use mathlib.Core.List.{List}
 use Prim.Native.Nat.{ℕ, _+_, _≤_}

@@ -3,7 +3,7 @@ use mathlib.Core.Path.{_≡_, sym}
 use mathlib.Core.List.{[], _∷_}
 use lib.ListN.{drop}
 use Rattle.model.specs.Lines.{fieldsOf}
-use Rattle.model.proofs.Lists.{to-end}
+use Rattle.model.proofs.Parts.{to-end}
 use Rattle.lines.proofs.Fields.{field-more, field-last, step-more}
 use Rattle.lines.proofs.Reading.{step-none, step-some}
 use borrow.Author.Needs.{needs}

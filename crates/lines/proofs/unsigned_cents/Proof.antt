@@ -2,7 +2,7 @@
 use mathlib.Core.Path.{_≡_, sym, _∙_}
 use mathlib.Core.Bool.{true}
 use Rattle.model.specs.Lines.{isMinus}
-use Rattle.model.proofs.Lists.{to-end}
+use Rattle.model.proofs.Parts.{to-end}
 use Rattle.lines.proofs.Reading.{minus-some, cents-minus, cents-plain}
 use borrow.Author.Needs.{needs}
 use Rattle.lines.proofs.unsigned_cents.Statement.{statement}

@@ -11,7 +11,7 @@ use Rattle.model.specs.Layout.{tableOf}
 use Rattle.model.proofs.AcceptedChords.{table-ok}
 use Rattle.model.proofs.Lists.{nth-map}
 use Rattle.codec.specs.Views.{chordFor}
-use Rattle.codec.proofs.Fills.{fill-next, fill-end}
+use Rattle.model.proofs.Walks.{fill-next, fill-end}
 use borrow.Author.Needs.{needs}
 use Rattle.merger.proofs.chord_after.Statement.{statement}
 use Rattle.merger.proofs.chord_after.Tie as tie

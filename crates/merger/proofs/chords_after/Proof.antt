@@ -10,7 +10,7 @@ use Rattle.model.specs.Tables.{noChord}
 use Rattle.model.specs.Layout.{tableOf}
 use Rattle.merging.specs.Merges.{mergedChord}
 use Rattle.codec.specs.Views.{chordFor}
-use Rattle.codec.proofs.Fills.{fill-next, fill-end}
+use Rattle.model.proofs.Walks.{fill-next, fill-end}
 use Rattle.merger.specs.Asks.{chordsFor}
 use borrow.Author.Needs.{needs}
 use Rattle.merger.proofs.chords_after.Statement.{statement}

@@ -7,7 +7,8 @@ use lib.ListN.{getD, length, drop}
 use Rattle.model.proofs.TableLaws.{byte-flag}
 use Rattle.merging.specs.Merges.{isNew}
 use Rattle.merger.specs.Asks.{countNew}
-use Rattle.merger.proofs.Walks.{count-at, count-end, flag-le}
+use Rattle.model.proofs.Written.{flag-le}
+use Rattle.merger.proofs.Walks.{count-at, count-end}
 use borrow.Author.Needs.{needs}
 use Rattle.merger.proofs.count_new.Statement.{statement}
 use Rattle.merger.proofs.count_new.Tie as tie

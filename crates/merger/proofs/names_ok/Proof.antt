@@ -8,7 +8,7 @@ use lib.Dec.{ltb}
 use lib.ListN.{length, drop}
 use Rattle.model.specs.Basics.{every}
 use Rattle.merging.specs.Merges.{isNew}
-use Rattle.table.proofs.Walks.{all-no, all-yes, all-end}
+use Rattle.model.proofs.Walks.{all-no, all-yes, all-end}
 use borrow.Author.Needs.{needs}
 use Rattle.merger.proofs.names_ok.Statement.{statement}
 use Rattle.merger.proofs.names_ok.Tie as tie
@@ -25,7 +25,7 @@ returns c =
     let p = c .before .before .before in
     let a = p .before .args in
     sym (p .loop .inv .1
-    ∙ all-no (λ m. isNew m || ltb m (a .n)) (a .map .now) (p .loop .i) (omega arith) (not-true _ (c .if1 .taken)))
+    ∙ all-no (λ m. isNew m || ltb m (a .n)) (a .map .now) (p .loop .i) 0 (omega arith) (not-true _ (c .if1 .taken)))
 
 loop-again : tie.Need-loop-again Inv-loop μ-loop
 loop-again c =
@@ -33,7 +33,7 @@ loop-again c =
     let a = p .before .args in (
       search needs,
       p .loop .inv .1
-          ∙ all-yes (λ m. isNew m || ltb m (a .n)) (a .map .now) (p .loop .i) (omega arith)
+          ∙ all-yes (λ m. isNew m || ltb m (a .n)) (a .map .now) (p .loop .i) 0 (omega arith)
           (not-false _ (c .if1 .left)),
     )
 

@@ -8,7 +8,8 @@ use lib.ListN.{length, getD, drop, replicate}
 use lib.Seq.{sets}
 use Rattle.model.proofs.TableLaws.{byte-flag}
 use Rattle.merging.specs.Merges.{isNew, targets}
-use Rattle.merger.proofs.Walks.{targets-at, targets-end, flag-le}
+use Rattle.model.proofs.Written.{flag-le}
+use Rattle.merger.proofs.Walks.{targets-at, targets-end}
 use borrow.Author.Needs.{needs}
 use Rattle.merger.proofs.targets.Statement.{statement}
 use Rattle.merger.proofs.targets.Tie as tie

@@ -3,15 +3,14 @@ use mathlib.Core.Path.{_≡_, sym, ap, _∙_}
 use Prim.Native.Nat.{_<_, _≤_}
 use native.Mathlib.Omega.{arith}
 use borrow.Author.Needs.{needs}
-use lib.ListN.{length, getD}
+use lib.ListN.{getD}
 use Rattle.model.specs.Layout.{tableOf}
 use Rattle.state.specs.Views.{saidIn}
 use Rattle.boards.specs.Calls.{Held, callIn}
 use Rattle.boards.specs.Layout.{Lists, lists, statusesIn}
 use Rattle.rows.specs.Decoded.{boardFrom}
 use Rattle.rows.proofs.WalkLaws.{all-numbers}
-use Rattle.refusals.specs.Held.{heldOf, Accepted}
-use Rattle.refusals.specs.Calls.{callerOf}
+use Rattle.refusals.specs.Held.{Accepted}
 use Rattle.refusals.proofs.Refusals.{table-accepted, messages-few, matches-few}
 use Rattle.moves.specs.Refused.{callRefusal}
 use Rattle.moves.proofs.RefusedLaws.{caller-in}

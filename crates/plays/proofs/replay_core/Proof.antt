@@ -1,6 +1,6 @@
 -- `plays::replay_core` meets its contract: each turn plays one call more, in place.
 -- The measure is the number of calls left.
-use mathlib.Core.Path.{_≡_, sym, _∙_}
+use mathlib.Core.Path.{sym, _∙_}
 use Prim.Native.Nat.{_-_, _*_, _^_, _<_}
 use native.Mathlib.Omega.{arith}
 use borrow.Author.Needs.{needs, scaled-fits}

@@ -1,12 +1,13 @@
 -- `reads::match_read` meets its contract.
 use Prim.Native.Nat.{_≤_}
 use native.Mathlib.Omega.{arith}
-use lib.ListN.{length}
+use lib.ListN.{length, replicate}
 use mir.ValLaws.{toZ-ofZ}
 use mir.Syntax.{w64}
 use Rattle.model.specs.Boards.{messageAt}
+use Rattle.model.proofs.Parts.{paste-whole, paste-rest}
 use Rattle.columns.specs.MatchColumns.{matchIn, matchesOf}
-use Rattle.reads.proofs.MatchLaws.{numbers-few, copied-is, rest-is}
+use Rattle.reads.proofs.MatchLaws.{numbers-few}
 use borrow.Author.Needs.{needs}
 use Rattle.reads.proofs.match_read.Statement.{statement}
 use Rattle.reads.proofs.match_read.Tie as tie
@@ -33,11 +34,11 @@ returns c =
       λ b h. rw (
         toZ-ofZ w64 (c .match-cents .result) (record { sfits = c .match-cents .ok }),
         q .copied .ensures,
-        copied-is ns,
+        paste-whole (replicate 8 0) ns,
         p .match-numbers .ensures,
         c .match-cents .ensures (λ i. messageAt b i .sent) h,
       ),
-      (len-few p, rw (q .copied .ensures) (rest-is ns)),
+      (len-few p, rw (q .copied .ensures) (paste-rest (replicate 8 0) ns)),
     )
 
 pub match-read-spec : {M : Type 1} → statement M

@@ -4,7 +4,7 @@ use Prim.Native.Nat.{ℕ, _+_}
 use borrow.Author.Needs.{needs}
 use native.Mathlib.Omega.{arith}
 use Rattle.refusals.specs.Rows.{row}
-use Rattle.rows.proofs.WalkLaws.{part-at, part-first}
+use Rattle.model.proofs.Parts.{part-at, part-first}
 use Rattle.refusals.proofs.RowLaws.{mark-idle, mark-own}
 use Rattle.refusals.proofs.mark_at.Statement.{statement}
 use Rattle.refusals.proofs.mark_at.Tie as tie
@@ -12,7 +12,7 @@ use Rattle.refusals.proofs.mark_at.Tie as tie
 returns : tie.Need-returns
 returns c =
     let a = c .before .before .args in
-    sym (mark-idle (row (a .s .now) (a .at)) (part-first (a .s .now) (a .at) ∙ c .if1 .taken))
+    sym (mark-idle (row (a .s .now) (a .at)) (part-first (a .s .now) (a .at) 21 0 (omega arith) ∙ c .if1 .taken))
 
 cast-result : tie.Need-cast-result
 cast-result c = omega (arith, c .shared-slice-known2 .given (c .before .before .before .args .at + 2))
@@ -23,8 +23,8 @@ add-result-2 c = omega (arith, c .shared-slice-known2 .given (c .before .before 
 returns-2 : tie.Need-returns-2
 returns-2 c =
     let a = c .before .before .before .args in
-    let e = part-first (a .s .now) (a .at) in
-    ap (λ (x : ℕ). x + 1) (sym (part-at (a .s .now) (a .at) 2 (omega arith)))
+    let e = part-first (a .s .now) (a .at) 21 0 (omega arith) in
+    ap (λ (x : ℕ). x + 1) (sym (part-at (a .s .now) (a .at) 21 2 0 (omega arith)))
     ∙ sym (mark-own (row (a .s .now) (a .at)) (λ z. c .before .if1 .left (sym e ∙ z)))
 
 pub mark-at-spec : {M : Type 1} → statement M

@@ -6,7 +6,7 @@ use borrow.Author.Needs.{needs}
 use lib.ListN.{length, take, drop, getD, length-set}
 use native.Mathlib.Omega.{arith}
 use Rattle.boards.specs.Boards.{zeroSender}
-use Rattle.senders.proofs.Alone.{mapped-step, mapped-end}
+use Rattle.model.proofs.Walks.{mapped-step, mapped-end}
 use Rattle.senders.specs.Seen.{markBy}
 use Rattle.refusals.specs.Rows.{sendersIn}
 use Rattle.refusals.proofs.RowWalks.{senders-count, nth-sender}

@@ -10,7 +10,7 @@ use native.Mathlib.Omega.{arith}
 use Rattle.model.specs.Layout.{tableOf}
 use Rattle.rows.specs.Numbers.{encodesPhase}
 use Rattle.refusals.specs.Rows.{row, within, limits}
-use Rattle.rows.proofs.WalkLaws.{part-at}
+use Rattle.model.proofs.Parts.{part-at}
 use Rattle.refusals.proofs.RowLaws.{kind-below, numbers-ok, row-yes, row-no, phase-no}
 use Rattle.refusals.proofs.row_ok.Statement.{statement}
 use Rattle.refusals.proofs.row_ok.Tie as tie
@@ -26,7 +26,7 @@ numbers c = row (start c .args .s .now) (start c .args .at)
 small : (c : tie.After-within) (i : ℕ) → i < 21 → getD (numbers c) i 0 ≤ 65535
 small c i h =
     let a = start c .args in
-    rw (part-at (a .s .now) (a .at) i h) (omega (arith, c .before .before .shared-slice-known2 .given (a .at + i)))
+    rw (part-at (a .s .now) (a .at) 21 i 0 h) (omega (arith, c .before .before .shared-slice-known2 .given (a .at + i)))
 
 -- the limits and the phase, as the two functions say
 within-says : (c : tie.After-within)
@@ -48,8 +48,8 @@ phase-says : (c : tie.After-phase-ok)
     encodesPhase (getD a 8 0) (getD a 9 0) (getD a 10 0) ≡ c .phase-ok .result
 phase-says c =
     let a = start (limited c .before) .args in
-    let at = part-at (a .s .now) (a .at) in
-    rw (at 8 (omega arith), at 9 (omega arith), at 10 (omega arith)) (sym (c .phase-ok .ensures))
+    let at = part-at (a .s .now) (a .at) 21 in
+    rw (at 8 0 (omega arith), at 9 0 (omega arith), at 10 0 (omega arith)) (sym (c .phase-ok .ensures))
 
 returns : tie.Need-returns
 returns c b sees =
@@ -62,7 +62,8 @@ phase-ok-requires : tie.Need-phase-ok-requires
 phase-ok-requires c κs =
     let q = c .before .before .before in
     let a = start (q .before) .args in
-    rw (part-at (a .s .now) (a .at) 8 (omega arith)) at (kind-below (numbers (q .before)) (a .n) (a .k) (all-within q))
+    rw (part-at (a .s .now) (a .at) 21 8 0 (omega arith))
+    at (kind-below (numbers (q .before)) (a .n) (a .k) (all-within q))
 
 returns-2 : tie.Need-returns-2
 returns-2 c b sees =

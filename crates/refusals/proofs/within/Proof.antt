@@ -9,7 +9,7 @@ use native.Mathlib.Omega.{arith}
 use Rattle.soundness.proofs.Each.{each-none, each-one}
 use Rattle.soundness.specs.Tests.{eachBelow}
 use Rattle.refusals.specs.Rows.{row, within}
-use Rattle.rows.proofs.WalkLaws.{part-at}
+use Rattle.model.proofs.Parts.{part-at}
 use Rattle.refusals.proofs.within.Statement.{statement}
 use Rattle.refusals.proofs.within.Tie as tie
 
@@ -27,7 +27,7 @@ loop-again : tie.Need-loop-again Inv-loop μ-loop
 loop-again c =
     let p = c .before .before .before in
     let a = p .before .args in
-    let e = part-at (a .s .now) (a .at) (p .loop .i) (omega arith) in
+    let e = part-at (a .s .now) (a .at) 21 (p .loop .i) 0 (omega arith) in
     (search needs, rw (each-one _ (p .loop .i), p .loop .inv .1, e))
 
 returns : tie.Need-returns Inv-loop μ-loop

@@ -1,5 +1,5 @@
 -- `rows::is_idle` meets its contract: the number of the sender's state is read.
-use mathlib.Core.Path.{_≡_, refl, sym, _∙_}
+use mathlib.Core.Path.{_≡_, refl}
 use mathlib.Core.Bool.{Bool, true, false}
 use mathlib.Core.List.{List}
 use Prim.Native.Nat.{ℕ, _+_, _*_, _<_}
@@ -12,7 +12,8 @@ use Rattle.state.specs.declared.State.the-variants as S
 use Rattle.state.specs.Views.{idleIs}
 use Rattle.boards.specs.Boards.{zeroSender}
 use Rattle.rows.specs.Decoded.{boardFrom}
-use Rattle.rows.proofs.WalkLaws.{all-numbers, part-first}
+use Rattle.model.proofs.Parts.{part-first}
+use Rattle.rows.proofs.WalkLaws.{all-numbers}
 use Rattle.rows.proofs.DecodeLaws.{sender-from}
 use Rattle.rows.proofs.is_idle.Statement.{statement}
 use Rattle.rows.proofs.is_idle.Tie as tie
@@ -25,7 +26,7 @@ idle-by false false = refl
 idle-is : (s : List ℕ) (i : ℕ) → i < 32
     → eqb (getD s (2 + 21 * i) 0) 0 ≡ idleIs (getD (boardFrom s .senders) i zeroSender .state)
 idle-is s i h =
-    rw (sender-from s i zeroSender h, part-first s (2 + 21 * i))
+    rw (sender-from s i zeroSender h, part-first s (2 + 21 * i) 21 0 (omega arith))
     (idle-by (eqb (getD s (2 + 21 * i) 0) 0) (eqb (getD s (2 + 21 * i) 0) 1))
 
 shared-slice-read-result : tie.Need-shared-slice-read-result

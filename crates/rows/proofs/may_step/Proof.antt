@@ -9,7 +9,8 @@ use native.Mathlib.Omega.{arith}
 use Rattle.state.specs.Views.{stepsIn, senderSteps}
 use Rattle.boards.specs.Boards.{zeroSender}
 use Rattle.rows.specs.Decoded.{stateFrom, boardFrom}
-use Rattle.rows.proofs.WalkLaws.{all-numbers, part-at, part-first}
+use Rattle.model.proofs.Parts.{part-at, part-first}
+use Rattle.rows.proofs.WalkLaws.{all-numbers}
 use Rattle.rows.proofs.DecodeLaws.{sender-from}
 use Rattle.rows.proofs.may_step.Statement.{statement}
 use Rattle.rows.proofs.may_step.Tie as tie
@@ -19,7 +20,11 @@ steps-are : (s : List ℕ) (i : ℕ) → i < 32
     → stepsIn (stateFrom (getD s (2 + 21 * i) 0)) (eqb (getD s (2 + 21 * i + 1) 0) 1)
     ≡ senderSteps (getD (boardFrom s .senders) i zeroSender)
 steps-are s i h =
-    rw (sender-from s i zeroSender h, part-first s (2 + 21 * i), part-at s (2 + 21 * i) 1 (omega arith))
+    rw (
+      sender-from s i zeroSender h,
+      part-first s (2 + 21 * i) 21 0 (omega arith),
+      part-at s (2 + 21 * i) 21 1 0 (omega arith),
+    )
 
 shared-slice-read-steps-at : tie.Need-shared-slice-read-steps-at
 shared-slice-read-steps-at c =

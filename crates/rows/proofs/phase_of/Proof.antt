@@ -1,9 +1,14 @@
 -- `rows::phase_of` meets its contract: one way for each phase; none but the last is left at the end.
-use mathlib.Core.Path.{refl, sym}
+use mathlib.Core.Path.{_≡_, refl, sym}
+use mathlib.Core.List.{[], _∷_}
+use Prim.Native.Nat.{ℕ}
 use native.Mathlib.Omega.{arith}
-use Rattle.rows.proofs.PhaseLaws.{last-kind, three-are, kind-fits, place-fits, no-place, no-second, second-fits}
+use Rattle.rows.proofs.PhaseLaws.{last-kind, kind-fits, place-fits, no-place, no-second, second-fits}
 use Rattle.rows.proofs.phase_of.Statement.{statement}
 use Rattle.rows.proofs.phase_of.Tie as tie
+
+three-are : {n k s n′ k′ s′ : ℕ} → n′ ≡ n → k′ ≡ k → s′ ≡ s → n′ ∷ k′ ∷ s′ ∷ [] ≡ n ∷ k ∷ s ∷ []
+three-are p q r = rw (p, q, r)
 
 byte-of-requires : tie.Need-byte-of-requires
 byte-of-requires c κs = place-fits _ _ _ (c .pre)

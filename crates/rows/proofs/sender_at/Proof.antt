@@ -2,10 +2,12 @@
 use mathlib.Core.Path.{sym, _∙_, ap}
 use Prim.Native.Nat.{_+_, _*_}
 use borrow.Author.Needs.{needs}
+use native.Mathlib.Nat.{add-sub-cancel-left}
 use native.Mathlib.Omega.{arith}
 use Rattle.boards.specs.Boards.{zeroSender}
 use Rattle.rows.specs.Decoded.{senderFrom}
-use Rattle.rows.proofs.WalkLaws.{span, part-len, part-ok, all-numbers}
+use Rattle.model.proofs.Parts.{part-len}
+use Rattle.rows.proofs.WalkLaws.{part-ok, all-numbers}
 use Rattle.rows.proofs.Encoded.{sender-back}
 use Rattle.rows.proofs.DecodeLaws.{sender-from}
 use Rattle.rows.proofs.sender_at.Statement.{statement}
@@ -21,14 +23,16 @@ sender-of-requires c κs =
     let s = c .before .before in
     let a = s .args in
     let all = all-numbers (a .s .now) (s .pre .0) in
-    rw (span (2 + 21 * a .i))
-    (part-len (a .s .now) (a .i) (all .0) (s .pre .1), part-ok (a .i) (a .s .now) (all .1) (s .pre .1))
+    rw (add-sub-cancel-left (2 + 21 * a .i) 21) (
+      part-len (a .s .now) (2 + 21 * a .i) 21 (omega (arith, all .0, s .pre .1)),
+      part-ok (a .i) (a .s .now) (all .1) (s .pre .1),
+    )
 
 returns : tie.Need-returns
 returns c =
     let s = c .before .before .before in
     let a = s .args in
-    let e = rw (span (2 + 21 * a .i)) at (c .sender-of .ensures .0) in
+    let e = rw (add-sub-cancel-left (2 + 21 * a .i) 21) at (c .sender-of .ensures .0) in
     sym (sender-back (c .sender-of .result)) ∙ ap senderFrom e
     ∙ sym (sender-from (a .s .now) (a .i) zeroSender (s .pre .1))
 

@@ -5,7 +5,7 @@ use Prim.Native.Nat.{ℕ}
 use native.Mathlib.Omega.{arith}
 use lib.ListN.{length, length-map}
 use Rattle.model.specs.Sound.{allBelow}
-use Rattle.senders.proofs.Walks.{take-more}
+use Rattle.model.proofs.Parts.{take-more}
 use borrow.Author.Needs.{needs}
 use Rattle.senders.proofs.all_chosen_below.Statement.{statement}
 use Rattle.senders.proofs.all_chosen_below.Tie as tie

@@ -7,7 +7,7 @@ use borrow.Author.Tests.{lt-ltb, le-ltb}
 use lib.Dec.{ltb}
 use lib.ListN.{length, take, drop}
 use Rattle.model.specs.Sound.{allBelow}
-use Rattle.senders.proofs.Walks.{left-whole, every-no, every-yes, every-end}
+use Rattle.model.proofs.Walks.{left-whole, every-no, every-yes, every-end}
 use borrow.Author.Needs.{needs}
 use Rattle.senders.proofs.chosen_below.Statement.{statement}
 use Rattle.senders.proofs.chosen_below.Tie as tie

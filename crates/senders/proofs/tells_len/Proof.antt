@@ -7,9 +7,10 @@ use lib.ListN.{length, getD, take, drop}
 use Rattle.model.specs.Boards.{Board}
 use Rattle.model.specs.Layout.{tableOf, flag}
 use Rattle.model.specs.Steps.{toTell}
+use Rattle.model.proofs.Walks.{left-whole, left-step, left-none}
+use Rattle.model.proofs.Written.{flag-le}
 use Rattle.senders.specs.Seen.{Seen, isTold}
-use Rattle.senders.proofs.Walks.{left-whole, left-step, left-none}
-use Rattle.senders.proofs.Places.{tell-length, flag-le}
+use Rattle.senders.proofs.Places.{tell-length}
 use borrow.Author.Needs.{needs}
 use Rattle.senders.proofs.tells_len.Statement.{statement}
 use Rattle.senders.proofs.tells_len.Tie as tie

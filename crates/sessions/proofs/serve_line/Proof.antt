@@ -28,7 +28,7 @@ returns-2 c =
     let e = sym (l .read-line .ensures) ∙ ap lineIn (k .l .given .1) in
     let r = w .put-answer2 .ensures in
     let p = y .play .ensures in
-    (serves-read _ _ _ _ _ _ _ (start l .pre .0) (r .1) _ _ _ e (p .0) (r .0), p .1)
+    (serves-read _ _ _ _ _ _ _ (start l .pre .0) (r .1) _ _ _ e (p .0) (r .0), p .1 .1)
 
 pub serve-line-spec : {M : Type 1} → statement M
 serve-line-spec =

@@ -5,7 +5,7 @@ use mathlib.Core.List.{_++_}
 use Prim.Native.Nat.{_-_, _<_, _≤_}
 use native.Mathlib.Omega.{arith}
 use lib.ListN.{length, take, drop, length-map}
-use Rattle.sessions.proofs.CarryLaws.{carry-next, carry-full, carry-all}
+use Rattle.model.proofs.Walks.{carry-next, carry-full, carry-all}
 use borrow.Author.Needs.{needs}
 use Rattle.sessions.proofs.with_bytes.Statement.{statement}
 use Rattle.sessions.proofs.with_bytes.Tie as tie
@@ -25,7 +25,7 @@ returns : tie.Need-returns Inv-loop μ-loop
 returns c =
     let p = c .before .before in
     let i = p .loop in (
-      sym (i .inv .3 ∙ carry-full _ (i .bytes) (i .n) (i .i) (omega (arith, i .inv .0, i .inv .2)) (c .if1 .taken)),
+      sym (i .inv .3 ∙ carry-full _ (i .bytes) (i .n) (i .i) 81 (omega (arith, i .inv .0, i .inv .2)) (c .if1 .taken)),
       search needs,
     )
 
@@ -39,7 +39,7 @@ loop-again c =
       search needs,
       search needs,
       search needs,
-      i .inv .3 ∙ sym (ap (λ q. take 81 q) (carry-next s (i .bytes) (i .n) (i .i) room more)),
+      i .inv .3 ∙ sym (ap (λ q. take 81 q) (carry-next s (i .bytes) (i .n) (i .i) 0 room more)),
     )
 
 returns-2 : tie.Need-returns-2 Inv-loop μ-loop
@@ -47,7 +47,7 @@ returns-2 c =
     let i = c .before .loop in
     let s = c .before .before .before .args .s .now in
     let room : i .n ≤ length (i .bytes) = omega (arith, i .inv .0, i .inv .2) in (
-      sym (i .inv .3 ∙ carry-all s (i .bytes) (i .n) (i .i) room (i .inv .0) (omega (arith, c .loop-test .left))),
+      sym (i .inv .3 ∙ carry-all s (i .bytes) (i .n) (i .i) 81 room (i .inv .0) (omega (arith, c .loop-test .left))),
       i .inv .0,
     )
 

@@ -2,7 +2,7 @@
 use native.Mathlib.Omega.{arith}
 use lib.ListN.{length-drop}
 use Rattle.model.proofs.TableLaws.{size-few}
-use Rattle.model.proofs.Lists.{to-end}
+use Rattle.model.proofs.Parts.{to-end}
 use borrow.Author.Needs.{needs}
 use Rattle.soundness.proofs.match_ok.Statement.{statement}
 use Rattle.soundness.proofs.match_ok.Tie as tie

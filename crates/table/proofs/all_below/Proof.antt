@@ -7,7 +7,7 @@ use borrow.Author.Tests.{lt-ltb, le-ltb}
 use lib.Dec.{ltb}
 use lib.ListN.{length, drop}
 use Rattle.model.specs.Basics.{every}
-use Rattle.table.proofs.Walks.{all-no, all-yes, all-end}
+use Rattle.model.proofs.Walks.{all-no, all-yes, all-end}
 use borrow.Author.Needs.{needs}
 use Rattle.table.proofs.all_below.Statement.{statement}
 use Rattle.table.proofs.all_below.Tie as tie
@@ -23,7 +23,7 @@ returns c =
     let p = c .before .before .before in
     let a = p .before .args in
     sym (p .loop .inv .1
-    ∙ all-no (λ x. ltb x (a .n)) (a .s .now) (p .loop .i) (omega arith) (le-ltb _ _ (c .if1 .taken)))
+    ∙ all-no (λ x. ltb x (a .n)) (a .s .now) (p .loop .i) 0 (omega arith) (le-ltb _ _ (c .if1 .taken)))
 
 loop-again : tie.Need-loop-again Inv-loop μ-loop
 loop-again c =
@@ -31,7 +31,7 @@ loop-again c =
     let a = p .before .args in (
       search needs,
       p .loop .inv .1
-          ∙ all-yes (λ x. ltb x (a .n)) (a .s .now) (p .loop .i) (omega arith) (lt-ltb _ _ (c .if1 .left)),
+          ∙ all-yes (λ x. ltb x (a .n)) (a .s .now) (p .loop .i) 0 (omega arith) (lt-ltb _ _ (c .if1 .left)),
     )
 
 returns-2 : tie.Need-returns-2 Inv-loop μ-loop

@@ -1,5 +1,5 @@
 -- `table::chords_found` meets its contract: the part that is tested starts at the chords' entries.
-use Rattle.model.proofs.Lists.{to-end}
+use Rattle.model.proofs.Parts.{to-end}
 use borrow.Author.Needs.{needs}
 use Rattle.table.proofs.chords_found.Statement.{statement}
 use Rattle.table.proofs.chords_found.Tie as tie

@@ -1,6 +1,6 @@
 -- `table::members_ok` meets its contract: the part that is tested holds the members.
 use Rattle.model.specs.Layout.{membersOk}
-use Rattle.model.proofs.Lists.{to-end}
+use Rattle.model.proofs.Parts.{to-end}
 use borrow.Author.Needs.{needs}
 use Rattle.table.proofs.members_ok.Statement.{statement}
 use Rattle.table.proofs.members_ok.Tie as tie

@@ -40,10 +40,10 @@ use denote.Builtin.{usize}
 use denote.Array.{Array, arrayVal, array-vals, array-tells, array-typed, array-makes}
 use denote.ArrayMemory.{array-apart, array-whole}
 use denote.Ref.{RefT}
-use denote.Slice.{sliceTy, sliceVal, MutSlice, Room, finally}
+use denote.Slice.{sliceTy, sliceVal, MutSlice, Room}
 use denote.Lend.{Held, lends-slice, slice-back}
 use denote.Struct.Laws as LL
-use denote.Steps.{owned, peeks, heard, nothing}
+use denote.Steps.{owned, peeks, nothing}
 use denote.Triple.Entry.{Vals, onEntry}
 use denote.Triple.Spec.{Meets, tripleOf}
 use denote.Triple.Statement.{Contract, Triple}
