@@ -1,7 +1,7 @@
 -- Laws of a table's chords: those that name a channel, the first synchronous member, and the places other than it.
 use mathlib.Core.Path.{_≡_, refl}
 use mathlib.Core.Logic.{_⊎_, _≢_, inl, inr}
-use mathlib.Core.Bool.{not, false, Bool, true}
+use mathlib.Core.Bool.{not, false, Bool, true, _&&_}
 use Prim.Native.Nat.{_-_, ℕ, _≤_, _<_, zero, suc, _+_}
 use borrow.Author.Tests.{lt-ltb, ltb-true, not-true, ltb-false}
 use lib.Dec.{ltb}
@@ -74,7 +74,10 @@ first-waits t r l = first-passes (isSync t) (chordAt t r .channels) l
 pub wakes-if : (t : Table) (r channel : ℕ) → isSync t channel ≡ false → firstSync t r < size t r
     → wakes t r channel ≡ true
 unfolding wakes
-wakes-if t r channel s f = rw (s, lt-ltb (firstSync t r) (size t r) f)
+wakes-if t r channel s f =
+    let e : (not (isSync t channel) && ltb (firstSync t r) (size t r)) ≡ true
+    = rw (s, lt-ltb (firstSync t r) (size t r) f) in
+    e
 
 pub wakes-first : (t : Table) (r channel : ℕ) → wakes t r channel ≡ true
     → (firstSync t r < size t r) × (isSync t channel ≡ false)

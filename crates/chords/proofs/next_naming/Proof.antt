@@ -1,6 +1,6 @@
 -- `chords::next_naming` meets its contract: the next one from the start is the next one from here on.
 -- The measure is the number of chords left.
-use mathlib.Core.Path.{_≡_, sym, _∙_}
+use mathlib.Core.Path.{_≡_, refl, sym, _∙_}
 use Prim.Native.Nat.{_-_}
 use native.Mathlib.Omega.{arith}
 use Rattle.model.specs.Layout.{tableOf}
@@ -15,6 +15,14 @@ Inv-loop table channel from n i₀ i = nextNaming (tableOf table) channel from �
 
 abbrev μ-loop : tie.MeasureT-loop
 μ-loop table channel from n i₀ i = n - i
+
+loop-holds : tie.Need-loop-holds Inv-loop μ-loop
+loop-holds c =
+    let a = c .before .before .args in
+    let begins : nextNaming (tableOf (a .table .now)) (a .channel) (a .from)
+    ≡ nextNaming (tableOf (a .table .now)) (a .channel) (a .from)
+    = refl in
+    begins
 
 names-requires : tie.Need-names-requires Inv-loop μ-loop
 names-requires c κs = (c .before .before .before .before .pre, omega (arith, c .before .before .chords-len .ensures))
@@ -46,7 +54,7 @@ next-naming-spec =
     Inv-loop
     μ-loop
     (λ c κs. search needs)
-    (λ c. search needs)
+    loop-holds
     names-requires
     returns
     (λ c. search needs)

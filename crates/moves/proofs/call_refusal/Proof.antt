@@ -1,15 +1,21 @@
 -- `moves::call_refusal` meets its contract: each kind of call by its own test.
 use mathlib.Core.Path.{_≡_, refl, sym, subst, ap, _∙_}
+use mathlib.Core.Bool.{Bool}
+use Prim.Native.Nat.{ℕ}
 use native.Mathlib.Omega.{arith}
 use borrow.Author.Needs.{needs}
 use lib.ListN.{getD}
+use Rattle.model.specs.Tables.{Table}
 use Rattle.model.specs.Layout.{tableOf}
+use Rattle.model.specs.Boards.{Sent}
+use Rattle.model.specs.Pools.{adds}
 use Rattle.state.specs.Views.{idleIs}
 use Rattle.boards.specs.declared.Call as DC
-use Rattle.boards.specs.Boards.{zeroSender}
+use Rattle.boards.specs.Boards.{HeldBoard, zeroSender}
 use Rattle.boards.specs.Calls.{sentIn, callIn}
 use Rattle.rows.specs.Decoded.{boardFrom}
 use Rattle.rows.proofs.WalkLaws.{all-numbers}
+use Rattle.adds.specs.Refusals.{refusalBy}
 use Rattle.moves.specs.Refused.{placeOf, callRefusal}
 use Rattle.moves.proofs.RefusedLaws.{add-by}
 use Rattle.moves.proofs.call_refusal.Statement.{statement}
@@ -27,6 +33,12 @@ idle-is c =
     let b = boardFrom (start c .args .board .now) in
     c .is-idle .ensures ∙ ap (λ j. idleIs (getD (b .senders) j zeroSender .state)) (c .before .place-of .ensures .0)
 
+-- an add is refused by the number of messages
+by-add : (t : Table) (b : HeldBoard) (i : ℕ) (x : Sent) (idle : Bool) (n number : ℕ)
+    → idle ≡ idleIs (getD (b .senders) (placeOf i) zeroSender .state) → n ≡ b .messages
+    → number ≡ refusalBy t i idle (x .channel) (x .cents) n → number ≡ callRefusal t b (adds i x)
+by-add t b i x idle n number e k r = r ∙ add-by t b i x idle n e k
+
 shared-slice-read-add-refusal : tie.Need-shared-slice-read-add-refusal
 shared-slice-read-add-refusal c =
     let s = start (c .before) in
@@ -43,7 +55,8 @@ returns c =
     let b = boardFrom (a .board .now) in
     let g = k .call .given in
     subst (λ (x : DC.Call). c .add-refusal .result ≡ callRefusal t b (callIn x)) (sym (g .1))
-    (c .add-refusal .ensures ∙ add-by t b (g .0 .0) (sentIn (g .0 .1 .0)) _ _ (idle-is d) refl)
+    (by-add t b (g .0 .0) (sentIn (g .0 .1 .0)) (d .is-idle .result) (getD (a .board .now) 0 0) (c .add-refusal .result)
+    (idle-is d) refl (c .add-refusal .ensures))
 
 returns-2 : tie.Need-returns-2
 returns-2 c =
