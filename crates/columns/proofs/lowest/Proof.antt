@@ -26,8 +26,8 @@ returns c =
     let a = c .before .before .before .before .before .args in
     let e = c .first .ensures in (
       rw e (first-most _ (a .n)),
-      λ o k s f g. by-first (columnsBy (a .channels .now) (a .properties .now) (a .statuses .now) o) (a .n) (a .wanted) k
-          s (a .equal) (a .property) f g (a .chosen .now) (c .first .result) e,
+      λ o k s f g. by-first (columnsBy (a .channels .now) (a .properties .now) (a .statuses .now) o) (a .n) (a .wanted)
+          k s (a .equal) (a .property) f g (a .chosen .now) (c .first .result) e,
     )
 
 pub lowest-spec : {M : Type 1} → statement M

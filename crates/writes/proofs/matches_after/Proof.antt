@@ -1,3 +1,4 @@
+-- `writes::matches_after` meets its contract.
 use borrow.Author.Needs.{needs}
 use Rattle.writes.proofs.matches_after.Statement.{statement}
 use Rattle.writes.proofs.matches_after.Tie as tie

@@ -1,3 +1,4 @@
+-- `writes::signals` meets its contract.
 use mathlib.Core.Path.{subst}
 use Prim.Native.Nat.{_<_}
 use native.Mathlib.Omega.{arith}

@@ -1,3 +1,4 @@
+-- `writes::waker_after` meets its contract: a waker is plus 1, and fits.
 use mathlib.Core.Path.{subst}
 use Prim.Native.Nat.{_<_}
 use borrow.Author.Needs.{needs}
