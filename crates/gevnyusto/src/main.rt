@@ -2,7 +2,7 @@
 // standard input, has what was read served, and writes what is to be printed. What it cannot read or write it says on
 // standard error; without its input or its output it stops.
 ghost use mathlib.Core.Path.{_≡_};
-ghost use mathlib.Core.Bool.{false};
+ghost use mathlib.Core.Bool.{true, false};
 ghost use mathlib.Core.List.{List};
 ghost use Prim.Native.Nat.{ℕ, _≤_};
 ghost use lib.ListN.{length};
@@ -10,6 +10,7 @@ ghost use Rattle.boards.specs.Layout.{lists};
 ghost use Rattle.calls.specs.Opens.{openNumber, openedNumbers};
 ghost use Rattle.schedules.specs.Schedules.{Opened};
 ghost use Rattle.printouts.specs.Stages.{Stands, doneOn};
+ghost use Rattle.printouts.specs.Prints.{Advanced, Serves-all};
 ghost use Rattle.io.specs.Counts.{Counts};
 use libc::STDIN_FILENO;
 use libc::STDOUT_FILENO;
@@ -97,6 +98,11 @@ fn turn(
     ensures { λ r. ⌜ Stands (now (table .entry))
         (lists (now (board .exit)) (now (bytes .exit)) (now (links .exit)) (now (keys .exit)) (now (cents .exit)))
         (r .stage) ⌝ }
+    ensures { λ r. ⌜ (r .more ≡ true → Advanced (now (table .entry))
+        (lists (now (board .entry)) (now (bytes .entry)) (now (links .entry)) (now (keys .entry)) (now (cents .entry)))
+        stage
+        (lists (now (board .exit)) (now (bytes .exit)) (now (links .exit)) (now (keys .exit)) (now (cents .exit)))
+        (r .stage)) ⌝ }
 {
     let mut input = [0u8; 4096];
     let got = read_some(stage, &mut input);
@@ -127,7 +133,7 @@ fn turn(
     }
 }
 
-// Turns on an opened board, until all is printed or one cannot read or write.
+// Turns on an opened board; whether all is printed, and not one of them could not read or write.
 fn serve(
     table: &[u8],
     board: &mut [u16],
@@ -135,22 +141,25 @@ fn serve(
     links: &mut [u16],
     keys: &mut [u32],
     cents: &mut [i64],
-)
+) -> bool
     requires { ⌜ Opened (now table) (lists (now board) (now bytes) (now links) (now keys) (now cents)) ⌝ }
+    ensures { λ r. ⌜ (r ≡ true → (reads : List (List ℕ)) × (text : List ℕ)
+        × Serves-all (now (table .entry)) reads text) ⌝ }
 {
     let mut stage = printouts::begin();
     let mut turns = u64::MAX;
     while turns > 0 {
         if printouts::is_done(board, stage) {
-            return;
+            return true;
         }
         let went = turn(table, board, bytes, links, keys, cents, stage);
         if !went.more {
-            return;
+            return false;
         }
         stage = went.stage;
         turns -= 1;
     }
+    false
 }
 
 // The board's other lists, beside an opened board.

@@ -2,4 +2,5 @@
 pub mod SessionLaws
 pub mod StageLaws
 pub mod Beginnings
+pub mod TurnLaws
 pub mod Program

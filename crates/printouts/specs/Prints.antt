@@ -22,6 +22,14 @@ Turns s l g (input ∷ inputs) text l′ g′ =
     (m : Lists) × (h : DS.Stage) × (at : ℕ) × (out : List ℕ) × (rest : List ℕ)
     × Advances s l g input m h at out × (text ≡ take at out ++ rest) × Turns s m h inputs rest l′ g′
 
+-- a turn with the bytes of some read
+abbrev pub Advanced : List ℕ → Lists → DS.Stage → Lists → DS.Stage → Type 0
+Advanced s l g l′ g′ = (input : List ℕ) × (at : ℕ) × (out : List ℕ) × Advances s l g input l′ g′ at out
+
+-- turns with some reads
+abbrev pub Turned : List ℕ → Lists → DS.Stage → Lists → DS.Stage → Type 0
+Turned s l g l′ g′ = (reads : List (List ℕ)) × (text : List ℕ) × Turns s l g reads text l′ g′
+
 -- on a board that was opened, from the beginning until all is printed
 pub record Serves-all (s : List ℕ) (reads : List (List ℕ)) (text : List ℕ) : Type 0 where
   pub first : Lists
