@@ -38,7 +38,7 @@ module _ (t : Table) (b : HeldBoard) (i : ℕ) (x : Sent) (d : DD.Sender) (c : C
 
   pub added-is : (ch pr : List ℕ) (ce : List ℤ) (st ma wa : List ℕ)
       → ((ms : List Message) → getD ms n noMessage .sent .channel ≡ x .channel → senderIn t d ≡ newSender t ms n)
-      → ch ≡ set (c .channels) n (x .channel) → pr ≡ set (c .properties) n (x .property)
+      → ch ≡ set (c .channels) n (x .channel) → pr ≡ set (c .keys) n (x .property)
       → ce ≡ set (c .cents) n (x .cents) → st ≡ set (c .statuses) n 0 → ma ≡ set (c .matched) n 0
       → wa ≡ set (c .wakers) n 0
       → boardIn t (withMessage b i d) (columnsOf ch pr ce st ma wa) m ≡ added t (boardIn t b c m) i x

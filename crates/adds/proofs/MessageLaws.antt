@@ -13,7 +13,7 @@ use Rattle.columns.proofs.ListFrom.{added-from}
 -- columns long enough for message n
 pub record Room (c : Columns) (n : ℕ) : Type 0 where
   pub channels : n < length (c .channels)
-  pub properties : n < length (c .properties)
+  pub keys : n < length (c .keys)
   pub cents : n < length (c .cents)
   pub statuses : n < length (c .statuses)
   pub matched : n < length (c .matched)
@@ -23,7 +23,7 @@ pub record Room (c : Columns) (n : ℕ) : Type 0 where
 abbrev pub written : Columns → ℕ → Sent → Columns
 written c n x = record {
   channels = set (c .channels) n (x .channel);
-  properties = set (c .properties) n (x .property);
+  keys = set (c .keys) n (x .property);
   cents = set (c .cents) n (x .cents);
   statuses = set (c .statuses) n 0;
   matched = set (c .matched) n 0;
@@ -35,7 +35,7 @@ module _ (c : Columns) (n : ℕ) (x : Sent) where
   unfolding messageIn
   earlier j h = rw (
     getD-set-other (c .channels) n j (x .channel) 0 (λ z. omega arith),
-    getD-set-other (c .properties) n j (x .property) 0 (λ z. omega arith),
+    getD-set-other (c .keys) n j (x .property) 0 (λ z. omega arith),
     getD-set-other (c .cents) n j (x .cents) _ (λ z. omega arith),
     getD-set-other (c .statuses) n j 0 0 (λ z. omega arith),
     getD-set-other (c .matched) n j 0 0 (λ z. omega arith),
@@ -46,7 +46,7 @@ module _ (c : Columns) (n : ℕ) (x : Sent) where
   unfolding messageIn
   at-end h = rw (
     getD-set-same (c .channels) n (x .channel) 0 (h .channels),
-    getD-set-same (c .properties) n (x .property) 0 (h .properties),
+    getD-set-same (c .keys) n (x .property) 0 (h .keys),
     getD-set-same (c .cents) n (x .cents) _ (h .cents),
     getD-set-same (c .statuses) n 0 0 (h .statuses),
     getD-set-same (c .matched) n 0 0 (h .matched),

@@ -24,12 +24,12 @@ unfolding messageIn
 nth-channel c n k h = ap (λ (x : Message). x .sent .channel) (nth-message c n k h)
 
 -- columns long enough for n messages are for fewer
-pub lent-less : {channels properties statuses : List ℕ} (k n : ℕ) → k ≤ n → Lent n channels properties statuses
-    → Lent k channels properties statuses
+pub lent-less : {channels keys statuses : List ℕ} (k n : ℕ) → k ≤ n → Lent n channels keys statuses
+    → Lent k channels keys statuses
 lent-less k n h l = record {
   few = omega arith;
   channels-all = omega arith;
-  properties-all = omega arith;
+  keys-all = omega arith;
   statuses-all = omega arith;
 }
 

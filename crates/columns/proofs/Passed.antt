@@ -23,14 +23,14 @@ consumed-kind channels statuses wanted status k e h =
     rw (e, ne-eqb 3 status (λ z. omega arith)) (and-false (eqb (getD channels k 0) wanted))
 
 -- the first of all is the first from start on
-pub passed-skip : (channels properties statuses : List ℕ) (wanted status : ℕ) (equal : Bool) (property : ℕ)
+pub passed-skip : (channels keys statuses : List ℕ) (wanted status : ℕ) (equal : Bool) (property : ℕ)
     (chosen : List ℕ) (start n : ℕ) → Passed start n statuses → status < 3 →
-    let q = eligible channels properties statuses wanted status equal property chosen in
+    let q = eligible channels keys statuses wanted status equal property chosen in
     firstFrom q 0 n ≡ firstFrom q start (n - start)
-passed-skip channels properties statuses wanted status equal property chosen start n p h =
+passed-skip channels keys statuses wanted status equal property chosen start n p h =
     let z : n ≡ n - 0 = omega arith in
     let none = first-empty (ofKind channels statuses wanted status) 0 (start - 0)
     (λ k l. consumed-kind channels statuses wanted status k (p .consumed k (omega arith)) h) in
     ap (firstFrom _ 0) z
-    ∙ kind-skip channels properties statuses wanted status equal property chosen 0 start n (omega arith)
+    ∙ kind-skip channels keys statuses wanted status equal property chosen 0 start n (omega arith)
     (p .within) none

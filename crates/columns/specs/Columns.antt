@@ -1,18 +1,23 @@
 -- The lent messages, a list for each field, as the model's messages (rule 1.11).
 use mathlib.Core.List.{List, [], _∷_}
 use mathlib.Core.Path.{_≡_}
-use Prim.Native.Nat.{ℕ, zero, suc, _<_, _≤_}
+use Prim.Native.Nat.{ℕ, zero, suc, _+_, _<_, _≤_}
 use lib.IntN.{ℤ, pos}
 use lib.ListN.{getD, length}
 use Rattle.model.specs.Boards.{Status, pending, claimed, woken, consumed, Message, Match, Sender, Board}
 
+-- keys: the properties, then the days
 pub record Columns : Type 0 where
   pub channels : List ℕ
-  pub properties : List ℕ
+  pub keys : List ℕ
   pub cents : List ℤ
   pub statuses : List ℕ
   pub matched : List ℕ
   pub wakers : List ℕ
+
+-- where the days begin
+abbrev pub daysAt : ℕ
+daysAt = 1024
 
 -- rule 1.4, by a byte; one over 3 is no status, and refused 30 (rule 6.2)
 abbrev pub statusOf : ℕ → Status
@@ -25,8 +30,9 @@ unfoldable pub messageIn : Columns → ℕ → Message
 messageIn c n = record {
   sent = record {
     channel = getD (c .channels) n 0;
-    property = getD (c .properties) n 0;
+    property = getD (c .keys) n 0;
     cents = getD (c .cents) n (pos 0);
+    day = getD (c .keys) (daysAt + n) 0;
   };
   status = statusOf (getD (c .statuses) n 0);
   match = getD (c .matched) n 0;
@@ -42,9 +48,9 @@ abbrev pub messagesFrom : Columns → ℕ → ℕ → List Message
 messagesFrom c i n = listFrom (messageIn c) i n
 
 abbrev pub columnsOf : List ℕ → List ℕ → List ℤ → List ℕ → List ℕ → List ℕ → Columns
-columnsOf channels properties cents statuses matched wakers = record {
+columnsOf channels keys cents statuses matched wakers = record {
   channels = channels;
-  properties = properties;
+  keys = keys;
   cents = cents;
   statuses = statuses;
   matched = matched;
@@ -61,23 +67,23 @@ pub record Unread : Type 0 where
   pub backoffs : List ℕ
 
 abbrev pub columnsBy : List ℕ → List ℕ → List ℕ → Unread → Columns
-columnsBy channels properties statuses o =
-    columnsOf channels properties (o .cents) statuses (o .matched) (o .wakers)
+columnsBy channels keys statuses o =
+    columnsOf channels keys (o .cents) statuses (o .matched) (o .wakers)
 
 -- a board of n messages, by the columns that a look reads and what it does not read
 abbrev pub boardBy : List ℕ → List ℕ → List ℕ → ℕ → Unread → Board
-boardBy channels properties statuses n o = record {
-  messages = messagesFrom (columnsBy channels properties statuses o) 0 n;
+boardBy channels keys statuses n o = record {
+  messages = messagesFrom (columnsBy channels keys statuses o) 0 n;
   matches = o .matches;
   senders = o .senders;
   backoffs = o .backoffs;
 }
 
 -- columns long enough for n messages
-pub record Lent (n : ℕ) (channels properties statuses : List ℕ) : Type 0 where
+pub record Lent (n : ℕ) (channels keys statuses : List ℕ) : Type 0 where
   pub few : n ≤ 1024
   pub channels-all : n ≤ length channels
-  pub properties-all : n ≤ length properties
+  pub keys-all : daysAt + n ≤ length keys
   pub statuses-all : n ≤ length statuses
 
 -- the messages below number start are consumed, so that no look takes one of them, nor finds one claimed

@@ -22,15 +22,15 @@ ofKind channels statuses wanted status k = eqb (getD channels k 0) wanted && eqb
 
 -- message k is of both, and has the property number where equal ones are wanted
 abbrev pub suiting : List ℕ → List ℕ → List ℕ → ℕ → ℕ → Bool → ℕ → ℕ → Bool
-suiting channels properties statuses wanted status equal property k =
-    (eqb (getD channels k 0) wanted && (not equal || eqb (getD properties k 0) property))
+suiting channels keys statuses wanted status equal property k =
+    (eqb (getD channels k 0) wanted && (not equal || eqb (getD keys k 0) property))
     && eqb (getD statuses k 0) status
 
 -- message k has the property number where equal ones are wanted, and is not chosen
 unfoldable pub taking : List ℕ → Bool → ℕ → List ℕ → ℕ → Bool
-taking properties equal property chosen k = (not equal || eqb (getD properties k 0) property) && not (isIn k chosen)
+taking keys equal property chosen k = (not equal || eqb (getD keys k 0) property) && not (isIn k chosen)
 
 -- message k suits, and is not chosen
 unfoldable pub eligible : List ℕ → List ℕ → List ℕ → ℕ → ℕ → Bool → ℕ → List ℕ → ℕ → Bool
-eligible channels properties statuses wanted status equal property chosen k =
-    suiting channels properties statuses wanted status equal property k && not (isIn k chosen)
+eligible channels keys statuses wanted status equal property chosen k =
+    suiting channels keys statuses wanted status equal property k && not (isIn k chosen)

@@ -30,7 +30,7 @@ fn is_in(x: u16, s: &[u16]) -> bool
 // Message k is of the channel and of the status, and has the property number where equal ones are wanted.
 fn suits(
     channels: &[u8],
-    properties: &[u32],
+    keys: &[u32],
     statuses: &[u8],
     k: usize,
     wanted: u8,
@@ -38,9 +38,9 @@ fn suits(
     equal: bool,
     property: u32,
 ) -> bool
-    requires { ⌜ (k < length (now channels)) × (k < length (now properties)) × (k < length (now statuses)) ⌝ }
+    requires { ⌜ (k < length (now channels)) × (k < length (now keys)) × (k < length (now statuses)) ⌝ }
     ensures { λ r. ⌜ r ≡ ((eqb (getD (now (channels .entry)) k 0) wanted
-        && (not equal || eqb (getD (now (properties .entry)) k 0) property))
+        && (not equal || eqb (getD (now (keys .entry)) k 0) property))
         && eqb (getD (now (statuses .entry)) k 0) status) ⌝ }
 {
     if channels[k] != wanted {
@@ -49,7 +49,7 @@ fn suits(
     if statuses[k] != status {
         return false;
     }
-    !equal | (properties[k] == property)
+    !equal | (keys[k] == property)
 }
 
 // One of the messages of the numbers `from` up to `to` is of the channel and of the status.
@@ -99,7 +99,7 @@ fn block_end(at: u16, n: u16) -> u16
 // The first message of the numbers `from` up to `to` that is eligible: its number plus 1, 0 for none.
 fn first_in(
     channels: &[u8],
-    properties: &[u32],
+    keys: &[u32],
     statuses: &[u8],
     from: u16,
     to: u16,
@@ -109,8 +109,8 @@ fn first_in(
     property: u32,
     chosen: &[u16],
 ) -> u16
-    requires { ⌜ (from ≤ to) × Lent to (now channels) (now properties) (now statuses) ⌝ }
-    ensures { λ r. ⌜ r ≡ firstFrom (eligible (now (channels .entry)) (now (properties .entry)) (now (statuses .entry))
+    requires { ⌜ (from ≤ to) × Lent to (now channels) (now keys) (now statuses) ⌝ }
+    ensures { λ r. ⌜ r ≡ firstFrom (eligible (now (channels .entry)) (now (keys .entry)) (now (statuses .entry))
         wanted status equal property (now (chosen .entry))) from (to - from) ⌝ }
 {
     let mut i = from;
@@ -118,7 +118,7 @@ fn first_in(
         let k = i as usize;
         if suits(
             channels,
-            properties,
+            keys,
             statuses,
             k,
             wanted,
@@ -183,12 +183,12 @@ fn word_at(channels: &[u8], statuses: &[u8], at: usize, wanted: u8, status: u8) 
 }
 
 // Message n has the property number where equal ones are wanted, and is not chosen.
-fn takes(properties: &[u32], n: u16, equal: bool, property: u32, chosen: &[u16]) -> bool
-    requires { ⌜ n < length (now properties) ⌝ }
-    ensures { λ r. ⌜ r ≡ taking (now (properties .entry)) equal property (now (chosen .entry)) n ⌝ }
+fn takes(keys: &[u32], n: u16, equal: bool, property: u32, chosen: &[u16]) -> bool
+    requires { ⌜ n < length (now keys) ⌝ }
+    ensures { λ r. ⌜ r ≡ taking (now (keys .entry)) equal property (now (chosen .entry)) n ⌝ }
 {
     let k = n as usize;
-    if !equal | (properties[k] == property) {
+    if !equal | (keys[k] == property) {
         return !is_in(n, chosen);
     }
     false
@@ -197,21 +197,21 @@ fn takes(properties: &[u32], n: u16, equal: bool, property: u32, chosen: &[u16])
 // The first message of a word that has the property where equal ones are wanted, and is not chosen: its number plus 1,
 // 0 for none.
 fn first_of(
-    properties: &[u32],
+    keys: &[u32],
     word: u64,
     at: u16,
     equal: bool,
     property: u32,
     chosen: &[u16],
 ) -> u16
-    requires { ⌜ (at + 64 ≤ 1024) × (at + 64 ≤ length (now properties)) ⌝ }
-    ensures { λ r. ⌜ r ≡ firstBit (taking (now (properties .entry)) equal property (now (chosen .entry))) word at 64 ⌝ }
+    requires { ⌜ (at + 64 ≤ 1024) × (at + 64 ≤ length (now keys)) ⌝ }
+    ensures { λ r. ⌜ r ≡ firstBit (taking (now (keys .entry)) equal property (now (chosen .entry))) word at 64 ⌝ }
 {
     let mut w = word;
     while w != 0 {
         let t = u64::trailing_zeros(w);
         let n = at + (t as u16);
-        if takes(properties, n, equal, property, chosen) {
+        if takes(keys, n, equal, property, chosen) {
             return n + 1;
         }
         w = w - (1 << t);
@@ -222,7 +222,7 @@ fn first_of(
 // The first eligible message of a block: by its word where it is whole, one by one where it is what is left over.
 fn in_block(
     channels: &[u8],
-    properties: &[u32],
+    keys: &[u32],
     statuses: &[u8],
     from: u16,
     to: u16,
@@ -232,17 +232,17 @@ fn in_block(
     property: u32,
     chosen: &[u16],
 ) -> u16
-    requires { ⌜ (from ≤ to) × Lent to (now channels) (now properties) (now statuses) ⌝ }
-    ensures { λ r. ⌜ r ≡ firstFrom (eligible (now (channels .entry)) (now (properties .entry)) (now (statuses .entry))
+    requires { ⌜ (from ≤ to) × Lent to (now channels) (now keys) (now statuses) ⌝ }
+    ensures { λ r. ⌜ r ≡ firstFrom (eligible (now (channels .entry)) (now (keys .entry)) (now (statuses .entry))
         wanted status equal property (now (chosen .entry))) from (to - from) ⌝ }
 {
     if to - from == 64 {
         let w = word_at(channels, statuses, from as usize, wanted, status);
-        return first_of(properties, w, from, equal, property, chosen);
+        return first_of(keys, w, from, equal, property, chosen);
     }
     first_in(
         channels,
-        properties,
+        keys,
         statuses,
         from,
         to,
@@ -257,7 +257,7 @@ fn in_block(
 // The first eligible of the first n messages, block by block from number `start` on: those below it are consumed.
 fn first(
     channels: &[u8],
-    properties: &[u32],
+    keys: &[u32],
     statuses: &[u8],
     start: u16,
     n: u16,
@@ -267,9 +267,9 @@ fn first(
     property: u32,
     chosen: &[u16],
 ) -> u16
-    requires { ⌜ Lent n (now channels) (now properties) (now statuses) ⌝ }
+    requires { ⌜ Lent n (now channels) (now keys) (now statuses) ⌝ }
     requires { ⌜ Passed start n (now statuses) × (status < 3) ⌝ }
-    ensures { λ r. ⌜ r ≡ firstFrom (eligible (now (channels .entry)) (now (properties .entry)) (now (statuses .entry))
+    ensures { λ r. ⌜ r ≡ firstFrom (eligible (now (channels .entry)) (now (keys .entry)) (now (statuses .entry))
         wanted status equal property (now (chosen .entry))) 0 n ⌝ }
 {
     let mut at = start;
@@ -278,7 +278,7 @@ fn first(
         let to = block_end(from, n);
         let r = in_block(
             channels,
-            properties,
+            keys,
             statuses,
             from,
             to,
@@ -300,7 +300,7 @@ fn first(
 // for none.
 pub fn lowest(
     channels: &[u8],
-    properties: &[u32],
+    keys: &[u32],
     statuses: &[u8],
     start: u16,
     n: u16,
@@ -309,15 +309,15 @@ pub fn lowest(
     property: u32,
     chosen: &[u16],
 ) -> u16
-    requires { ⌜ Lent n (now channels) (now properties) (now statuses) ⌝ }
+    requires { ⌜ Lent n (now channels) (now keys) (now statuses) ⌝ }
     requires { ⌜ Passed start n (now statuses) ⌝ }
     ensures { λ r. ⌜ (r ≤ n) × ((o : Unread) (c : Chord) (s : Sent) → c .equal ≡ equal → s .property ≡ property
         → r ≡ lowest (isFree c wanted s (now (chosen .entry))) 0
-        (messagesFrom (columnsBy (now (channels .entry)) (now (properties .entry)) (now (statuses .entry)) o) 0 n)) ⌝ }
+        (messagesFrom (columnsBy (now (channels .entry)) (now (keys .entry)) (now (statuses .entry)) o) 0 n)) ⌝ }
 {
     first(
         channels,
-        properties,
+        keys,
         statuses,
         start,
         n,
@@ -332,7 +332,7 @@ pub fn lowest(
 // One of the first n messages would fit a member and is claimed, chosen or not.
 pub fn some_claimed(
     channels: &[u8],
-    properties: &[u32],
+    keys: &[u32],
     statuses: &[u8],
     start: u16,
     n: u16,
@@ -340,16 +340,16 @@ pub fn some_claimed(
     equal: bool,
     property: u32,
 ) -> bool
-    requires { ⌜ Lent n (now channels) (now properties) (now statuses) ⌝ }
+    requires { ⌜ Lent n (now channels) (now keys) (now statuses) ⌝ }
     requires { ⌜ Passed start n (now statuses) ⌝ }
     ensures { λ r. ⌜ ((o : Unread) (c : Chord) (s : Sent) → c .equal ≡ equal → s .property ≡ property
         → r ≡ someClaimed c wanted s
-        (messagesFrom (columnsBy (now (channels .entry)) (now (properties .entry)) (now (statuses .entry)) o) 0 n)) ⌝ }
+        (messagesFrom (columnsBy (now (channels .entry)) (now (keys .entry)) (now (statuses .entry)) o) 0 n)) ⌝ }
 {
     let chosen = [0u16; 1];
     let r = first(
         channels,
-        properties,
+        keys,
         statuses,
         start,
         n,

@@ -24,7 +24,7 @@ use Rattle.state.specs.Views.{jobIn, senderIn, effectIn}
 use Rattle.state.specs.Builders.{worksBy}
 
 pub nth-property : (c : Columns) (n k : ℕ) → k < n
-    → getD (messagesFrom c 0 n) k noMessage .sent .property ≡ getD (c .properties) k 0
+    → getD (messagesFrom c 0 n) k noMessage .sent .property ≡ getD (c .keys) k 0
 unfolding messageIn
 nth-property c n k h = ap (λ (x : Message). x .sent .property) (nth-message c n k h)
 

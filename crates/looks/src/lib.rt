@@ -31,21 +31,21 @@ fn choice(
     start: u16,
     n: u16,
     channels: &[u8],
-    properties: &[u32],
+    keys: &[u32],
     statuses: &[u8],
     chosen: &[u16],
 ) -> u16
     requires { ⌜ (tableRefusal (now table) ≡ 0) × (chord < length (tableOf (now table) .chords)) ⌝ }
     requires { ⌜ (k < MT.size (tableOf (now table)) chord) × (subject < n) ⌝ }
-    requires { ⌜ Lent n (now channels) (now properties) (now statuses) ⌝ }
+    requires { ⌜ Lent n (now channels) (now keys) (now statuses) ⌝ }
     requires { ⌜ Passed start n (now statuses) ⌝ }
     ensures { λ r. ⌜ ((o : Unread) (w : MB.Job) → w .subject ≡ subject → w .chord ≡ chord
         → w .chosen ≡ now (chosen .entry) → r ≡ ML.choice (tableOf (now (table .entry)))
-        (boardBy (now (channels .entry)) (now (properties .entry)) (now (statuses .entry)) n o) w k) ⌝ }
+        (boardBy (now (channels .entry)) (now (keys .entry)) (now (statuses .entry)) n o) w k) ⌝ }
 {
     let at = subject as usize;
     let channel = channels[at];
-    let property = properties[at];
+    let property = keys[at];
     if chords::first_of(table, chord, channel) == k {
         return subject + 1;
     }
@@ -53,7 +53,7 @@ fn choice(
     let equal = table::is_equal(table, chord);
     columns::lowest(
         channels,
-        properties,
+        keys,
         statuses,
         start,
         n,
@@ -72,27 +72,27 @@ fn missed(
     start: u16,
     n: u16,
     channels: &[u8],
-    properties: &[u32],
+    keys: &[u32],
     statuses: &[u8],
 ) -> Effect
     requires { ⌜ (tableRefusal (now table) ≡ 0) × (d .job .chord < length (tableOf (now table) .chords)) ⌝ }
     requires { ⌜ (k < MT.size (tableOf (now table)) (d .job .chord)) × (d .job .subject < n) ⌝ }
-    requires { ⌜ Lent n (now channels) (now properties) (now statuses) ⌝ }
+    requires { ⌜ Lent n (now channels) (now keys) (now statuses) ⌝ }
     requires { ⌜ Passed start n (now statuses) ⌝ }
     ensures { λ r. ⌜ ((o : Unread) → effectIn (tableOf (now (table .entry))) r
         ≡ MS.lookedBy (tableOf (now (table .entry)))
-        (boardBy (now (channels .entry)) (now (properties .entry)) (now (statuses .entry)) n o)
+        (boardBy (now (channels .entry)) (now (keys .entry)) (now (statuses .entry)) n o)
         (senderIn (tableOf (now (table .entry))) d) (jobIn (tableOf (now (table .entry))) (d .job)) k 0) ⌝ }
 {
     let j = d.job;
     let at = j.subject as usize;
     let channel = channels[at];
-    let property = properties[at];
+    let property = keys[at];
     let wanted = chords::channel_at(table, j.chord, k);
     let equal = table::is_equal(table, j.chord);
     let claimed = columns::some_claimed(
         channels,
-        properties,
+        keys,
         statuses,
         start,
         n,
@@ -169,16 +169,16 @@ pub fn look_step(
     start: u16,
     n: u16,
     channels: &[u8],
-    properties: &[u32],
+    keys: &[u32],
     statuses: &[u8],
 ) -> Effect
     requires { ⌜ (tableRefusal (now table) ≡ 0) × (d .job .chord < length (tableOf (now table) .chords)) ⌝ }
     requires { ⌜ (d .job .phase ≡ P.Look k) × (k < MT.size (tableOf (now table)) (d .job .chord)) ⌝ }
-    requires { ⌜ (d .job .subject < n) × Lent n (now channels) (now properties) (now statuses) ⌝ }
+    requires { ⌜ (d .job .subject < n) × Lent n (now channels) (now keys) (now statuses) ⌝ }
     requires { ⌜ Passed start n (now statuses) ⌝ }
     ensures { λ r. ⌜ ((o : Unread) → effectIn (tableOf (now (table .entry))) r
         ≡ MS.look-step (tableOf (now (table .entry)))
-        (boardBy (now (channels .entry)) (now (properties .entry)) (now (statuses .entry)) n o)
+        (boardBy (now (channels .entry)) (now (keys .entry)) (now (statuses .entry)) n o)
         (senderIn (tableOf (now (table .entry))) d) (jobIn (tableOf (now (table .entry))) (d .job)) k) ⌝ }
 {
     let j = d.job;
@@ -191,12 +191,12 @@ pub fn look_step(
         start,
         n,
         channels,
-        properties,
+        keys,
         statuses,
         &chosen[..k as usize],
     );
     if taken == 0 {
-        return missed(table, d, k, start, n, channels, properties, statuses);
+        return missed(table, d, k, start, n, channels, keys, statuses);
     }
     let size = table::chord_len(table, j.chord);
     found(d, size, k, taken - 1)

@@ -18,6 +18,7 @@ pub record Sent : Type 0 where
   pub channel : ℕ
   pub property : ℕ
   pub cents : ℤ
+  pub day : ℕ
 
 -- rule 1.4. It notes the match that consumed it and the subject that woke it (its waker).
 pub record Message : Type 0 where
@@ -79,7 +80,7 @@ pub record Board : Type 0 where
   pub backoffs : List ℕ
 
 abbrev pub noSent : Sent
-noSent = record { channel = 0; property = 0; cents = pos 0 }
+noSent = record { channel = 0; property = 0; cents = pos 0; day = 0 }
 
 abbrev pub noMessage : Message
 noMessage = record { sent = noSent; status = pending; match = 0; waker = 0 }

@@ -48,11 +48,13 @@ runAs s cs said = record { table = s; calls = cs; refusal = 0; said = said }
 
 -- rule 8.3: the call of a line `a`
 abbrev pub send : ℕ → ℕ → ℕ → ℕ → Call
-send i channel property cents = adds i (record { channel = channel; property = property; cents = pos cents })
+send i channel property cents =
+    adds i (record { channel = channel; property = property; cents = pos cents; day = 0 })
 
 -- the same with cents below 0
 abbrev pub sendBack : ℕ → ℕ → ℕ → ℕ → Call
-sendBack i channel property cents = adds i (record { channel = channel; property = property; cents = negℤ (pos cents) })
+sendBack i channel property cents =
+    adds i (record { channel = channel; property = property; cents = negℤ (pos cents); day = 0 })
 
 -- Tables
 

@@ -32,7 +32,7 @@ module _ {A : Type 0} (xs ys : List A) (n : ℕ) (a : A) (e : ys ≡ set xs n a)
 -- what an add writes: record n of each column
 pub record Wrote (c c′ : Columns) (n : ℕ) (x : Sent) : Type 0 where
   pub channels : c′ .channels ≡ set (c .channels) n (x .channel)
-  pub properties : c′ .properties ≡ set (c .properties) n (x .property)
+  pub keys : c′ .keys ≡ set (c .keys) n (x .property)
   pub cents : c′ .cents ≡ set (c .cents) n (x .cents)
   pub statuses : c′ .statuses ≡ set (c .statuses) n 0
   pub matched : c′ .matched ≡ set (c .matched) n 0
@@ -62,7 +62,7 @@ module _ (s : List ℕ) (h : Held) (i : ℕ) (x : Sent) (z : refusalOf s h ≡ 0
         let l = lent-whole s _ _ _ z in
         record {
           channels-len = long (o .channels) _ n (x .channel) (w .channels) (l .channels-len);
-          properties-len = long (o .properties) _ n (x .property) (w .properties) (l .properties-len);
+          keys-len = long (o .keys) _ n (x .property) (w .keys) (l .keys-len);
           cents-len = long (o .cents) _ n (x .cents) (w .cents) (l .cents-len);
           statuses-len = long (o .statuses) _ n 0 (w .statuses) (l .statuses-len);
           matched-len = long (o .matched) _ n 0 (w .matched) (l .matched-len);
@@ -76,7 +76,7 @@ module _ (s : List ℕ) (h : Held) (i : ℕ) (x : Sent) (z : refusalOf s h ≡ 0
       messages-grow = omega (arith, q);
       matches-grow = omega (arith, k);
       channels = past (o .channels) _ n (x .channel) (w .channels) (b′ .messages) q;
-      properties = past (o .properties) _ n (x .property) (w .properties) (b′ .messages) q;
+      keys = past (o .keys) _ n (x .property) (w .keys) (b′ .messages) q;
       cents = past (o .cents) _ n (x .cents) (w .cents) (b′ .messages) q;
       statuses = past (o .statuses) _ n 0 (w .statuses) (b′ .messages) q;
       matched = past (o .matched) _ n 0 (w .matched) (b′ .messages) q;

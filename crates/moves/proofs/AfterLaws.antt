@@ -95,7 +95,7 @@ module _ (n k : ℕ) where
       → Lengths
       (record {
         channels = c .channels;
-        properties = c .properties;
+        keys = c .keys;
         cents = c .cents;
         statuses = statusesBy g (c .statuses);
         matched = matchedBy g (c .matched);
@@ -110,7 +110,7 @@ module _ (n k : ℕ) where
       let q = matches-long g chord chosen (m .chords) (m .messages) h e (l .messages-len) in
       record {
         channels-len = l .channels-len;
-        properties-len = l .properties-len;
+        keys-len = l .keys-len;
         cents-len = l .cents-len;
         statuses-len = p .0 ∙ l .statuses-len;
         matched-len = p .1 ∙ l .matched-len;

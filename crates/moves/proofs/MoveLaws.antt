@@ -74,7 +74,7 @@ module _ (s : List ℕ) (h : Held) (z : refusalOf s h ≡ 0) where
       let y = sentIn x in
       let room : Room o n = record {
         channels = omega (arith, full, lent .channels-len);
-        properties = omega (arith, full, lent .properties-len);
+        keys = omega (arith, full, lent .keys-len);
         cents = omega (arith, full, lent .cents-len);
         statuses = omega (arith, full, lent .statuses-len);
         matched = omega (arith, full, lent .matched-len);
@@ -82,7 +82,7 @@ module _ (s : List ℕ) (h : Held) (z : refusalOf s h ≡ 0) where
       } in
       let wrote : Wrote o (written o n y) n y = record {
         channels = refl;
-        properties = refl;
+        keys = refl;
         cents = refl;
         statuses = refl;
         matched = refl;
@@ -126,7 +126,7 @@ module _ (s : List ℕ) (h : Held) (z : refusalOf s h ≡ 0) where
           messages-grow = omega arith;
           matches-grow = b .0;
           channels = refl;
-          properties = refl;
+          keys = refl;
           cents = refl;
           statuses = a .0;
           matched = a .1;

@@ -115,14 +115,14 @@ module _ (s : List ℕ) (b : HeldBoard) (c : Columns) (m : MatchColumns) (e : bo
     backoffs = builtinBackoffs;
   }
 
-  lent-all : Lent (b .messages) (c .channels) (c .properties) (c .statuses)
+  lent-all : Lent (b .messages) (c .channels) (c .keys) (c .statuses)
   lent-all =
       let l = lent-whole s b c m e in
       let f = (messages-few s b c m e) in
       record {
         few = f;
         channels-all = omega (arith, l .channels-len);
-        properties-all = omega (arith, l .properties-len);
+        keys-all = omega (arith, l .keys-len);
         statuses-all = omega (arith, l .statuses-len);
       }
 
@@ -133,7 +133,7 @@ module _ (s : List ℕ) (b : HeldBoard) (c : Columns) (m : MatchColumns) (e : bo
 
   module _ (i : ℕ) (d : DD.Sender) (at : SenderIs b i d) where
     -- what a step of the sender takes for granted
-    pub is-ready : Ready t (c .channels) (c .properties) (c .statuses) (b .messages) (b .matches) d
+    pub is-ready : Ready t (c .channels) (c .keys) (c .statuses) (b .messages) (b .matches) d
     is-ready = record {
       others = others;
       counted = length-from (matchIn t m) 0 (b .matches);

@@ -38,22 +38,22 @@ pub struct MatchRead {
 pub fn message_read(
     n: u16,
     channels: &[u8],
-    properties: &[u32],
+    keys: &[u32],
     cents: &[i64],
     statuses: &[u8],
     matched: &[u16],
     wakers: &[u16],
 ) -> MessageRead
-    requires { ⌜ (n < length (now channels)) × (n < length (now properties)) × (n < length (now cents)) ⌝ }
+    requires { ⌜ (n < length (now channels)) × (n < length (now keys)) × (n < length (now cents)) ⌝ }
     requires { ⌜ (n < length (now statuses)) × (n < length (now matched)) × (n < length (now wakers)) ⌝ }
-    ensures { λ r. ⌜ messageOf r ≡ messageIn (columnsOf (now (channels .entry)) (now (properties .entry))
+    ensures { λ r. ⌜ messageOf r ≡ messageIn (columnsOf (now (channels .entry)) (now (keys .entry))
         (now (cents .entry)) (now (statuses .entry)) (now (matched .entry)) (now (wakers .entry))) n ⌝ }
     ensures { λ r. ⌜ r .status ≡ getD (now (statuses .entry)) n 0 ⌝ }
 {
     let i = n as usize;
     MessageRead {
         channel: channels[i],
-        property: properties[i],
+        property: keys[i],
         cents: cents[i],
         status: statuses[i],
         matched: matched[i],

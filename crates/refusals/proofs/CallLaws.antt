@@ -41,7 +41,7 @@ unfolding lentOk
 lengths-ok c m l =
     rw (
       l .channels-len,
-      l .properties-len,
+      l .keys-len,
       l .cents-len,
       l .statuses-len,
       l .matched-len,
@@ -68,7 +68,7 @@ module _ (s : List ℕ) (h : Held) where
     messages-grow = omega arith;
     matches-grow = omega arith;
     channels = refl;
-    properties = refl;
+    keys = refl;
     cents = refl;
     statuses = refl;
     matched = refl;

@@ -24,7 +24,7 @@ module _ (c : Columns) (m : MatchColumns) where
   unfolding lentOk
   lengths-by e =
       let e1 = both {t = eqb (length (c .channels)) 1024} e in
-      let e2 = both {t = eqb (length (c .properties)) 1024} (e1 .1) in
+      let e2 = both {t = eqb (length (c .keys)) 1024} (e1 .1) in
       let e3 = both {t = eqb (length (c .cents)) 1024} (e2 .1) in
       let e4 = both {t = eqb (length (c .statuses)) 1024} (e3 .1) in
       let e5 = both {t = eqb (length (c .matched)) 1024} (e4 .1) in
@@ -32,7 +32,7 @@ module _ (c : Columns) (m : MatchColumns) where
       let e7 = both {t = eqb (length (m .chords)) 1024} (e6 .1) in
       record {
         channels-len = eqb-true _ _ (e1 .0);
-        properties-len = eqb-true _ _ (e2 .0);
+        keys-len = eqb-true _ _ (e2 .0);
         cents-len = eqb-true _ _ (e3 .0);
         statuses-len = eqb-true _ _ (e4 .0);
         matched-len = eqb-true _ _ (e5 .0);

@@ -40,7 +40,7 @@ pub record Beyond (h h′ : Held) : Type 0 where
   pub messages-grow : h .board .messages ≤ h′ .board .messages
   pub matches-grow : h .board .matches ≤ h′ .board .matches
   pub channels : SameFrom (h′ .board .messages) (h′ .columns .channels) (h .columns .channels)
-  pub properties : SameFrom (h′ .board .messages) (h′ .columns .properties) (h .columns .properties)
+  pub keys : SameFrom (h′ .board .messages) (h′ .columns .keys) (h .columns .keys)
   pub cents : SameFrom (h′ .board .messages) (h′ .columns .cents) (h .columns .cents)
   pub statuses : SameFrom (h′ .board .messages) (h′ .columns .statuses) (h .columns .statuses)
   pub matched : SameFrom (h′ .board .messages) (h′ .columns .matched) (h .columns .matched)

@@ -17,7 +17,7 @@ unfoldable pub lentOk : Columns → MatchColumns → Bool
 lentOk c m =
     allOf
     (eqb (length (c .channels)) 1024 ∷
-    eqb (length (c .properties)) 1024 ∷
+    eqb (length (c .keys)) 1024 ∷
     eqb (length (c .cents)) 1024 ∷
     eqb (length (c .statuses)) 1024 ∷
     eqb (length (c .matched)) 1024 ∷
@@ -39,7 +39,7 @@ boardRefusal s b c m =
 -- the lengths of lent columns that are accepted
 pub record Lengths (c : Columns) (m : MatchColumns) : Type 0 where
   pub channels-len : length (c .channels) ≡ 1024
-  pub properties-len : length (c .properties) ≡ 1024
+  pub keys-len : length (c .keys) ≡ 1024
   pub cents-len : length (c .cents) ≡ 1024
   pub statuses-len : length (c .statuses) ≡ 1024
   pub matched-len : length (c .matched) ≡ 1024

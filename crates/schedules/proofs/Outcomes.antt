@@ -123,18 +123,18 @@ module _ (s : List ℕ) (h : Held) (k : Call) (v w : Said) (f g : Held) (z : ref
           → SameFrom (f .board .messages) xs zs → SameFrom (g .board .messages) ys zs → xs ≡ ys
       each d xs ys zs = column d (f .board .messages) (g .board .messages) xs ys zs messages-count
 
-      go : columnsOf (f .columns .channels) (f .columns .properties) (f .columns .cents) (f .columns .statuses)
+      go : columnsOf (f .columns .channels) (f .columns .keys) (f .columns .cents) (f .columns .statuses)
           (f .columns .matched) (f .columns .wakers)
-          ≡ columnsOf (g .columns .channels) (g .columns .properties) (g .columns .cents) (g .columns .statuses)
+          ≡ columnsOf (g .columns .channels) (g .columns .keys) (g .columns .cents) (g .columns .statuses)
           (g .columns .matched) (g .columns .wakers)
       go =
           cc (
             each 0 _ _ _ (a .channels-len) (b .channels-len)
                 (λ i l. ap (λ (x : Message). x .sent .channel) (message-same i l)) (p .beyond .channels)
                 (q .beyond .channels),
-            each 0 _ _ _ (a .properties-len) (b .properties-len)
-                (λ i l. ap (λ (x : Message). x .sent .property) (message-same i l)) (p .beyond .properties)
-                (q .beyond .properties),
+            each 0 _ _ _ (a .keys-len) (b .keys-len)
+                (λ i l. ap (λ (x : Message). x .sent .property) (message-same i l)) (p .beyond .keys)
+                (q .beyond .keys),
             each (pos 0) _ _ _ (a .cents-len) (b .cents-len)
                 (λ i l. ap (λ (x : Message). x .sent .cents) (message-same i l)) (p .beyond .cents)
                 (q .beyond .cents),

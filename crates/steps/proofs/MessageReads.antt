@@ -25,38 +25,38 @@ module _ (c : Columns) (n k : ℕ) (h : k < n) where
   unfolding messageIn
   nth-waker = ap (λ (x : Message). x .waker) (nth-message c n k h)
 
-module _ (channels properties statuses : List ℕ) (o : Unread) (n k : ℕ) (h : k < n) where
-  pub channel-read : channelOf (boardBy channels properties statuses n o) k ≡ getD channels k 0
-  channel-read = nth-channel (columnsBy channels properties statuses o) n k h
+module _ (channels keys statuses : List ℕ) (o : Unread) (n k : ℕ) (h : k < n) where
+  pub channel-read : channelOf (boardBy channels keys statuses n o) k ≡ getD channels k 0
+  channel-read = nth-channel (columnsBy channels keys statuses o) n k h
 
-  pub status-read : messageAt (boardBy channels properties statuses n o) k .status ≡ statusOf (getD statuses k 0)
-  status-read = nth-status (columnsBy channels properties statuses o) n k h
+  pub status-read : messageAt (boardBy channels keys statuses n o) k .status ≡ statusOf (getD statuses k 0)
+  status-read = nth-status (columnsBy channels keys statuses o) n k h
 
-  pub match-read : messageAt (boardBy channels properties statuses n o) k .match ≡ getD (o .matched) k 0
-  match-read = nth-match (columnsBy channels properties statuses o) n k h
+  pub match-read : messageAt (boardBy channels keys statuses n o) k .match ≡ getD (o .matched) k 0
+  match-read = nth-match (columnsBy channels keys statuses o) n k h
 
-  pub waker-read : messageAt (boardBy channels properties statuses n o) k .waker ≡ getD (o .wakers) k 0
-  waker-read = nth-waker (columnsBy channels properties statuses o) n k h
+  pub waker-read : messageAt (boardBy channels keys statuses n o) k .waker ≡ getD (o .wakers) k 0
+  waker-read = nth-waker (columnsBy channels keys statuses o) n k h
 
-  pub pending-read : isPending (messageAt (boardBy channels properties statuses n o) k .status)
+  pub pending-read : isPending (messageAt (boardBy channels keys statuses n o) k .status)
       ≡ eqb (getD statuses k 0) 0
   pending-read = ap isPending status-read ∙ pending-is (getD statuses k 0)
 
-  pub open-read : isOpen (messageAt (boardBy channels properties statuses n o) k .status) ≡ ltb (getD statuses k 0) 2
+  pub open-read : isOpen (messageAt (boardBy channels keys statuses n o) k .status) ≡ ltb (getD statuses k 0) 2
   open-read = ap isOpen status-read ∙ open-is (getD statuses k 0)
 
-  pub consumed-read : isConsumed (messageAt (boardBy channels properties statuses n o) k .status)
+  pub consumed-read : isConsumed (messageAt (boardBy channels keys statuses n o) k .status)
       ≡ leb 3 (getD statuses k 0)
   consumed-read = ap isConsumed status-read ∙ consumed-is (getD statuses k 0)
 
 -- the own message's and the waker's part
-pub saw-is : (t : Table) (channels properties statuses : List ℕ) (o : Unread) (n : ℕ) (d : DD.Sender)
+pub saw-is : (t : Table) (channels keys statuses : List ℕ) (o : Unread) (n : ℕ) (d : DD.Sender)
     (own waker : ℕ) (sync : Bool) → own ≡ d .own - 1 → waker ≡ d .waker - 1 → d .own - 1 < n → d .waker - 1 < n
     → sync ≡ isSync t (getD channels own 0)
     → Saw t channels statuses n d
-    (record { sync = sync; channel = getD channels waker 0; consumed = leb 3 (getD statuses waker 0) }) properties o
-saw-is t channels properties statuses o n d own waker sync a b h l e = record {
-  sync-is = ap (isSync t) (channel-read channels properties statuses o n (d .own - 1) h) ∙ rw (e, a);
-  channel-is = channel-read channels properties statuses o n (d .waker - 1) l ∙ rw b;
-  consumed-is = consumed-read channels properties statuses o n (d .waker - 1) l ∙ rw b;
+    (record { sync = sync; channel = getD channels waker 0; consumed = leb 3 (getD statuses waker 0) }) keys o
+saw-is t channels keys statuses o n d own waker sync a b h l e = record {
+  sync-is = ap (isSync t) (channel-read channels keys statuses o n (d .own - 1) h) ∙ rw (e, a);
+  channel-is = channel-read channels keys statuses o n (d .waker - 1) l ∙ rw b;
+  consumed-is = consumed-read channels keys statuses o n (d .waker - 1) l ∙ rw b;
 }

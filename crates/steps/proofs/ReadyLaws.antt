@@ -29,47 +29,47 @@ pub step-is : (t : Table) (b : Board) (d : DD.Sender) (p : DP.Phase) (x : Effect
 step-is t b d p x e q =
     q ∙ ap (λ (y : DP.Phase). job-step t b (senderIn t d) (jobIn t (d .job)) (phaseIn y)) (sym e)
 
-module _ (t : Table) (channels properties statuses : List ℕ) (n count : ℕ) (d : DD.Sender)
-    (r : Ready t channels properties statuses n count d) where
+module _ (t : Table) (channels keys statuses : List ℕ) (n count : ℕ) (d : DD.Sender)
+    (r : Ready t channels keys statuses n count d) where
   pub own-in : d .own ≤ n
   own-in =
-      let l = length-messages (columnsBy channels properties statuses (r .others)) 0 n in
+      let l = length-messages (columnsBy channels keys statuses (r .others)) 0 n in
       omega (arith, r .facts .own-in)
 
   pub waker-in : d .waker ≤ n
   waker-in =
-      let l = length-messages (columnsBy channels properties statuses (r .others)) 0 n in
+      let l = length-messages (columnsBy channels keys statuses (r .others)) 0 n in
       omega (arith, r .facts .waker-in)
 
   pub own-some : d .state ≡ S.Blocked → 1 ≤ d .own
   own-some e =
       subst
-      (λ (x : DS.State). StateFacts t (boardBy channels properties statuses n (r .others)) (d .own) (d .waker)
+      (λ (x : DS.State). StateFacts t (boardBy channels keys statuses n (r .others)) (d .own) (d .waker)
       (stateIn x (jobIn t (d .job)))) e (r .facts .state-is)
 
   module _ (s : d .state ≡ S.Working) where
-    job-facts : JobFacts t (boardBy channels properties statuses n (r .others)) (d .own) (d .waker)
+    job-facts : JobFacts t (boardBy channels keys statuses n (r .others)) (d .own) (d .waker)
         (jobIn t (d .job)) (phaseIn (d .job .phase))
     job-facts =
         subst
-        (λ (x : DS.State). StateFacts t (boardBy channels properties statuses n (r .others)) (d .own) (d .waker)
+        (λ (x : DS.State). StateFacts t (boardBy channels keys statuses n (r .others)) (d .own) (d .waker)
         (stateIn x (jobIn t (d .job)))) s (r .facts .state-is) .1
 
     pub subject-in : d .job .subject < n
     subject-in =
-        let l = length-messages (columnsBy channels properties statuses (r .others)) 0 n in
+        let l = length-messages (columnsBy channels keys statuses (r .others)) 0 n in
         omega (arith, job-facts .subject-in)
 
     pub place : (p : DP.Phase) → d .job .phase ≡ p
-        → PlaceOk t (boardBy channels properties statuses n (r .others)) (jobIn t (d .job)) (phaseIn p)
+        → PlaceOk t (boardBy channels keys statuses n (r .others)) (jobIn t (d .job)) (phaseIn p)
     place p e =
         subst
-        (λ (x : DP.Phase). PlaceOk t (boardBy channels properties statuses n (r .others)) (jobIn t (d .job))
+        (λ (x : DP.Phase). PlaceOk t (boardBy channels keys statuses n (r .others)) (jobIn t (d .job))
         (phaseIn x)) e (job-facts .place)
 
     -- a phase with a message chosen for each member
     module _ (all : chosenBy (d .job .phase) (size t (d .job .chord)) ≡ size t (d .job .chord))
-        (a : AllChosen t (boardBy channels properties statuses n (r .others)) (jobIn t (d .job))) where
+        (a : AllChosen t (boardBy channels keys statuses n (r .others)) (jobIn t (d .job))) where
       taken : (i : ℕ) → i < size t (d .job .chord)
           → getD (jobIn t (d .job) .chosen) i 0 ≡ getD (d .job .chosen) i 0
       taken i h =
@@ -77,7 +77,7 @@ module _ (t : Table) (channels properties statuses : List ℕ) (n count : ℕ) (
 
       pub chosen-in : (i : ℕ) → i < size t (d .job .chord) → getD (d .job .chosen) i 0 < n
       chosen-in i h =
-          let l = length-messages (columnsBy channels properties statuses (r .others)) 0 n in
+          let l = length-messages (columnsBy channels keys statuses (r .others)) 0 n in
           let e = taken i h in
           omega (arith, job-facts .chosen-in i (omega (arith, a .counted)))
 
@@ -85,22 +85,22 @@ module _ (t : Table) (channels properties statuses : List ℕ) (n count : ℕ) (
       held = record { lent = r .lent .channels-all; below = chosen-in; known = r .known }
 
       pub left : (k : ℕ)
-          → PlaceOk t (boardBy channels properties statuses n (r .others)) (jobIn t (d .job)) (tell k)
+          → PlaceOk t (boardBy channels keys statuses n (r .others)) (jobIn t (d .job)) (tell k)
           → Left t channels n (d .job .subject) (take (size t (d .job .chord)) (d .job .chosen)) k
       left k p = record {
-        messages = boardBy channels properties statuses n (r .others) .messages;
-        same = nth-channel (columnsBy channels properties statuses (r .others)) n;
+        messages = boardBy channels keys statuses n (r .others) .messages;
+        same = nth-channel (columnsBy channels keys statuses (r .others)) n;
         more = subst
             (λ (y : ℕ). k < length
-            (toTell t (boardBy channels properties statuses n (r .others) .messages) (d .job .subject)
+            (toTell t (boardBy channels keys statuses n (r .others) .messages) (d .job .subject)
             (take y (d .job .chosen)))) all (p .1);
       }
 
       pub pending-chosen : (o : Unread) (k : ℕ) → k < size t (d .job .chord)
           → isPending
-          (messageAt (boardBy channels properties statuses n o) (getD (jobIn t (d .job) .chosen) k 0) .status)
+          (messageAt (boardBy channels keys statuses n o) (getD (jobIn t (d .job) .chosen) k 0) .status)
           ≡ eqb (getD statuses (getD (d .job .chosen) k 0) 0) 0
       pending-chosen o k h =
-          ap (λ (y : ℕ). isPending (messageAt (boardBy channels properties statuses n o) y .status))
+          ap (λ (y : ℕ). isPending (messageAt (boardBy channels keys statuses n o) y .status))
           (taken k h)
-          ∙ pending-read channels properties statuses o n (getD (d .job .chosen) k 0) (chosen-in k h)
+          ∙ pending-read channels keys statuses o n (getD (d .job .chosen) k 0) (chosen-in k h)

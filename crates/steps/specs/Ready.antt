@@ -13,18 +13,18 @@ use Rattle.steps.specs.declared.Seen as DV
 
 -- the sender's facts on a board of n messages and count matches, by the columns; of the rest of the board only the
 -- number of matches is used
-pub record Ready (t : Table) (channels properties statuses : List ℕ) (n count : ℕ) (d : DD.Sender) : Type 0 where
+pub record Ready (t : Table) (channels keys statuses : List ℕ) (n count : ℕ) (d : DD.Sender) : Type 0 where
   pub others : Unread
   pub counted : length (others .matches) ≡ count
   pub few : count ≤ 1024
-  pub lent : Lent n channels properties statuses
+  pub lent : Lent n channels keys statuses
   pub known : (i : ℕ) → i < n → getD channels i 0 < length (t .kinds)
-  pub facts : SenderFacts t (boardBy channels properties statuses n others) (senderIn t d)
+  pub facts : SenderFacts t (boardBy channels keys statuses n others) (senderIn t d)
 
 -- what the end of a job reads, on every board with these columns
 pub record Saw (t : Table) (channels statuses : List ℕ) (n : ℕ) (d : DD.Sender) (v : DV.Seen)
-    (properties : List ℕ) (o : Unread) : Type 0 where
-  pub sync-is : isSync t (channelOf (boardBy channels properties statuses n o) (d .own - 1)) ≡ v .sync
-  pub channel-is : channelOf (boardBy channels properties statuses n o) (d .waker - 1) ≡ v .channel
-  pub consumed-is : isConsumed (messageAt (boardBy channels properties statuses n o) (d .waker - 1) .status)
+    (keys : List ℕ) (o : Unread) : Type 0 where
+  pub sync-is : isSync t (channelOf (boardBy channels keys statuses n o) (d .own - 1)) ≡ v .sync
+  pub channel-is : channelOf (boardBy channels keys statuses n o) (d .waker - 1) ≡ v .channel
+  pub consumed-is : isConsumed (messageAt (boardBy channels keys statuses n o) (d .waker - 1) .status)
       ≡ v .consumed

@@ -33,8 +33,8 @@ fn sees(table: &[u8], d: Sender, n: u16, channels: &[u8], statuses: &[u8]) -> Se
     requires { ⌜ (tableRefusal (now table) ≡ 0) × (1 ≤ n) × (d .own ≤ n) × (d .waker ≤ n) ⌝ }
     requires { ⌜ (n ≤ length (now channels)) × (n ≤ length (now statuses)) ⌝ }
     requires { ⌜ ((i : ℕ) → i < n → getD (now channels) i 0 < length (tableOf (now table) .kinds)) ⌝ }
-    ensures { λ r. ⌜ ((properties : List ℕ) (o : Unread) → Saw (tableOf (now (table .entry)))
-        (now (channels .entry)) (now (statuses .entry)) n d r properties o) ⌝ }
+    ensures { λ r. ⌜ ((keys : List ℕ) (o : Unread) → Saw (tableOf (now (table .entry)))
+        (now (channels .entry)) (now (statuses .entry)) n d r keys o) ⌝ }
 {
     let own = state::less(d.own) as usize;
     let waker = state::less(d.waker) as usize;
@@ -64,15 +64,15 @@ fn job_step(
     n: u16,
     count: u16,
     channels: &[u8],
-    properties: &[u32],
+    keys: &[u32],
     statuses: &[u8],
 ) -> Effect
     requires { ⌜ (tableRefusal (now table) ≡ 0) × (d .state ≡ S.Working) ⌝ }
-    requires { ⌜ Ready (tableOf (now table)) (now channels) (now properties) (now statuses) n count d ⌝ }
+    requires { ⌜ Ready (tableOf (now table)) (now channels) (now keys) (now statuses) n count d ⌝ }
     requires { ⌜ Passed start n (now statuses) ⌝ }
     ensures { λ r. ⌜ ((o : Unread) → length (o .matches) ≡ count → o .backoffs ≡ builtinBackoffs
         → effectIn (tableOf (now (table .entry))) r ≡ MS.job-step (tableOf (now (table .entry)))
-        (boardBy (now (channels .entry)) (now (properties .entry)) (now (statuses .entry)) n o)
+        (boardBy (now (channels .entry)) (now (keys .entry)) (now (statuses .entry)) n o)
         (senderIn (tableOf (now (table .entry))) d) (jobIn (tableOf (now (table .entry))) (d .job))
         (phaseIn (d .job .phase))) ⌝ }
 {
@@ -82,7 +82,7 @@ fn job_step(
     let opened = statuses[at] < 2;
     let phase = j.phase;
     match phase {
-        Phase::Look(k) => looks::look_step(table, d, k, start, n, channels, properties, statuses),
+        Phase::Look(k) => looks::look_step(table, d, k, start, n, channels, keys, statuses),
         Phase::Claim(k) => {
             claims::claim_step(table, d, k, channel, count, is_pending(d, k, statuses))
         }
@@ -122,10 +122,10 @@ fn blocked_step(
     requires { ⌜ (tableRefusal (now table) ≡ 0) × (1 ≤ d .own) × (d .own ≤ n) ⌝ }
     requires { ⌜ (n ≤ length (now channels)) × (n ≤ length (now statuses))
         × (n ≤ length (now matched)) × (n ≤ length (now wakers)) ⌝ }
-    ensures { λ r. ⌜ ((properties : List ℕ) (o : Unread) → o .matched ≡ now (matched .entry)
+    ensures { λ r. ⌜ ((keys : List ℕ) (o : Unread) → o .matched ≡ now (matched .entry)
         → o .wakers ≡ now (wakers .entry) → effectIn (tableOf (now (table .entry))) r
         ≡ MS.resume-step (tableOf (now (table .entry)))
-        (boardBy (now (channels .entry)) properties (now (statuses .entry)) n o)
+        (boardBy (now (channels .entry)) keys (now (statuses .entry)) n o)
         (senderIn (tableOf (now (table .entry))) d)) ⌝ }
 {
     let own = state::less(d.own) as usize;
@@ -147,19 +147,19 @@ pub fn effect_of(
     n: u16,
     count: u16,
     channels: &[u8],
-    properties: &[u32],
+    keys: &[u32],
     statuses: &[u8],
     matched: &[u16],
     wakers: &[u16],
 ) -> Effect
     requires { ⌜ (tableRefusal (now table) ≡ 0) × (senderSteps d ≡ true) ⌝ }
-    requires { ⌜ Ready (tableOf (now table)) (now channels) (now properties) (now statuses) n count d ⌝ }
+    requires { ⌜ Ready (tableOf (now table)) (now channels) (now keys) (now statuses) n count d ⌝ }
     requires { ⌜ (n ≤ length (now matched)) × (n ≤ length (now wakers)) ⌝ }
     requires { ⌜ Passed start n (now statuses) ⌝ }
     ensures { λ r. ⌜ ((o : Unread) → length (o .matches) ≡ count → o .backoffs ≡ builtinBackoffs
         → o .matched ≡ now (matched .entry) → o .wakers ≡ now (wakers .entry)
         → MS.stateStep (tableOf (now (table .entry)))
-        (boardBy (now (channels .entry)) (now (properties .entry)) (now (statuses .entry)) n o)
+        (boardBy (now (channels .entry)) (now (keys .entry)) (now (statuses .entry)) n o)
         (senderIn (tableOf (now (table .entry))) d) (senderIn (tableOf (now (table .entry))) d .state)
         ≡ does (effectIn (tableOf (now (table .entry))) r)) ⌝ }
 {
@@ -170,7 +170,7 @@ pub fn effect_of(
             change: Change::None,
             sender: d,
         },
-        State::Working => job_step(table, d, start, n, count, channels, properties, statuses),
+        State::Working => job_step(table, d, start, n, count, channels, keys, statuses),
         State::Blocked => blocked_step(table, d, n, channels, statuses, matched, wakers),
     }
 }

@@ -39,7 +39,7 @@ module _ (n : ℕ) (x : DS.Sent) where
   -- the columns with it
   abbrev pub columnsWith : Bool → Columns → Columns
   columnsWith u c =
-      columnsOf (putIf u (c .channels) n (x .channel)) (putIf u (c .properties) n (x .property))
+      columnsOf (putIf u (c .channels) n (x .channel)) (putIf u (c .keys) n (x .property))
       (putIf u (c .cents) n (x .cents)) (putIf u (c .statuses) n 0) (putIf u (c .matched) n 0)
       (putIf u (c .wakers) n 0)
 

@@ -25,7 +25,7 @@ use Rattle.writes.proofs.SignalledSenders.{signalled-all}
 module _ (b : HeldBoard) (e : DE.Effect) where
   abbrev pub columnsAfter : Columns → Columns
   columnsAfter c =
-      columnsOf (c .channels) (c .properties) (c .cents) (statusesBy (e .change) (c .statuses))
+      columnsOf (c .channels) (c .keys) (c .cents) (statusesBy (e .change) (c .statuses))
       (matchedBy (e .change) (c .matched)) (wakersBy (e .change) (c .wakers))
 
   abbrev pub matchColumnsAfter : MatchColumns → MatchColumns

@@ -45,7 +45,7 @@ module _ (c : Columns) (k : ℕ) (u : DU.Turn) where
   abbrev pub turnedColumns : Columns
   turnedColumns = record {
     channels = c .channels;
-    properties = c .properties;
+    keys = c .keys;
     cents = c .cents;
     statuses = set (c .statuses) k (statusBy u);
     matched = set (c .matched) k (matchBy u (getD (c .matched) k 0));

@@ -45,7 +45,7 @@ movedHeld h i m =
     let k = h .board .matches in
     held (movedBoard (h .board) i m)
     (columnsOf (putIf (m .adds) (h .columns .channels) n (m .sent .channel))
-    (putIf (m .adds) (h .columns .properties) n (m .sent .property))
+    (putIf (m .adds) (h .columns .keys) n (m .sent .property))
     (putIf (m .adds) (h .columns .cents) n (m .sent .cents))
     (statusesBy (m .change) (putIf (m .adds) (h .columns .statuses) n 0))
     (matchedBy (m .change) (putIf (m .adds) (h .columns .matched) n 0))

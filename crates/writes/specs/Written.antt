@@ -12,7 +12,7 @@ use Rattle.writes.specs.Writes.{statusesBy, matchedBy, wakersBy, chordsB
 -- the columns after a change, and the matches with match k
 abbrev pub columnsAfter : DG.Change → Columns → Columns
 columnsAfter g c =
-    columnsOf (c .channels) (c .properties) (c .cents) (statusesBy g (c .statuses)) (matchedBy g (c .matched))
+    columnsOf (c .channels) (c .keys) (c .cents) (statusesBy g (c .statuses)) (matchedBy g (c .matched))
     (wakersBy g (c .wakers))
 
 abbrev pub matchesWith : DG.Change → ℕ → DJ.Job → MatchColumns → MatchColumns

@@ -14,7 +14,7 @@ returns c =
     let p = t .before in
     let h = p .before in
     let a = h .before .before .before .before .args in (
-      message-by (a .cents .now) (a .n) (h .channels .ensures .0) (p .properties .ensures .0) (t .statuses .ensures .0)
+      message-by (a .cents .now) (a .n) (h .channels .ensures .0) (p .keys .ensures .0) (t .statuses .ensures .0)
           (m .matched .ensures .0) (w .wakers .ensures .0) (c .message-read .ensures .0),
       c .message-read .ensures .1 ∙ ap (λ x. getD x (a .n) 0) (t .statuses .ensures .0),
     )

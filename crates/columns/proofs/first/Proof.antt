@@ -13,16 +13,16 @@ use Rattle.columns.proofs.first.Statement.{statement}
 use Rattle.columns.proofs.first.Tie as tie
 
 abbrev Inv-loop : tie.InvT-loop
-Inv-loop channels properties statuses start n wanted status equal property chosen at₀ at =
-    (at ≤ n) × (firstFrom (eligible channels properties statuses wanted status equal property chosen) 0 n
-    ≡ firstFrom (eligible channels properties statuses wanted status equal property chosen) at (n - at))
+Inv-loop channels keys statuses start n wanted status equal property chosen at₀ at =
+    (at ≤ n) × (firstFrom (eligible channels keys statuses wanted status equal property chosen) 0 n
+    ≡ firstFrom (eligible channels keys statuses wanted status equal property chosen) at (n - at))
 
 abbrev μ-loop : tie.MeasureT-loop
-μ-loop channels properties statuses start n wanted status equal property chosen at₀ at = n - at
+μ-loop channels keys statuses start n wanted status equal property chosen at₀ at = n - at
 
 -- the first of all is the first from the block on
 from-block : (p : tie.At-loop Inv-loop μ-loop) → let a = p .before .before .before .before .before .args in
-    let q = eligible (a .channels .now) (a .properties .now) (a .statuses .now) (a .wanted) (a .status) (a .equal)
+    let q = eligible (a .channels .now) (a .keys .now) (a .statuses .now) (a .wanted) (a .status) (a .equal)
     (a .property) (a .chosen .now) in
     (from : ℕ) → p .loop .at ≤ from → from ≤ a .n
     → firstFrom (ofKind (a .channels .now) (a .statuses .now) (a .wanted) (a .status)) (p .loop .at)
@@ -31,7 +31,7 @@ from-block : (p : tie.At-loop Inv-loop μ-loop) → let a = p .before .before .b
 from-block p from h l e =
     let a = p .before .before .before .before .before .args in
     p .loop .inv .1
-    ∙ kind-skip (a .channels .now) (a .properties .now) (a .statuses .now) (a .wanted) (a .status) (a .equal)
+    ∙ kind-skip (a .channels .now) (a .keys .now) (a .statuses .now) (a .wanted) (a .status) (a .equal)
     (a .property) (a .chosen .now) (p .loop .at) from (a .n) h l e
 
 loop-holds : tie.Need-loop-holds Inv-loop μ-loop
@@ -40,7 +40,7 @@ loop-holds c =
     let a = s .args in
     let p = s .pre .1 in (
       p .0 .within,
-      passed-skip (a .channels .now) (a .properties .now) (a .statuses .now) (a .wanted) (a .status) (a .equal)
+      passed-skip (a .channels .now) (a .keys .now) (a .statuses .now) (a .wanted) (a .status) (a .equal)
           (a .property) (a .chosen .now) (a .start) (a .n) (p .0) (p .1),
     )
 

@@ -14,27 +14,27 @@ use Rattle.columns.proofs.first_in.Statement.{statement}
 use Rattle.columns.proofs.first_in.Tie as tie
 
 abbrev Inv-loop : tie.InvT-loop
-Inv-loop channels properties statuses from to wanted status equal property chosen i₀ i =
-    (i ≤ to) × (firstFrom (eligible channels properties statuses wanted status equal property chosen) from (to - from)
-    ≡ firstFrom (eligible channels properties statuses wanted status equal property chosen) i (to - i))
+Inv-loop channels keys statuses from to wanted status equal property chosen i₀ i =
+    (i ≤ to) × (firstFrom (eligible channels keys statuses wanted status equal property chosen) from (to - from)
+    ≡ firstFrom (eligible channels keys statuses wanted status equal property chosen) i (to - i))
 
 abbrev μ-loop : tie.MeasureT-loop
-μ-loop channels properties statuses from to wanted status equal property chosen i₀ i = to - i
+μ-loop channels keys statuses from to wanted status equal property chosen i₀ i = to - i
 
 -- the first of all, by the tests of message i: t that it suits, u that it is chosen
 looked : (p : tie.At-loop Inv-loop μ-loop) → let a = p .before .before .before .before .before .args in
     let i = p .loop .i in
-    let q = eligible (a .channels .now) (a .properties .now) (a .statuses .now) (a .wanted) (a .status) (a .equal)
+    let q = eligible (a .channels .now) (a .keys .now) (a .statuses .now) (a .wanted) (a .status) (a .equal)
     (a .property) (a .chosen .now) in
     i < a .to → (t u : Bool)
-    → suiting (a .channels .now) (a .properties .now) (a .statuses .now) (a .wanted) (a .status) (a .equal)
+    → suiting (a .channels .now) (a .keys .now) (a .statuses .now) (a .wanted) (a .status) (a .equal)
     (a .property) i ≡ t
     → isIn i (a .chosen .now) ≡ u
     → firstFrom q (a .from) (a .to - a .from) ≡ pick (t && not u) (i + 1) (firstFrom q (i + 1) (a .to - (i + 1)))
 looked p h t u e f =
     let a = p .before .before .before .before .before .args in
     p .loop .inv .1
-    ∙ eligible-step (a .channels .now) (a .properties .now) (a .statuses .now) (a .wanted) (a .status) (a .equal)
+    ∙ eligible-step (a .channels .now) (a .keys .now) (a .statuses .now) (a .wanted) (a .status) (a .equal)
     (a .property) (a .chosen .now) (p .loop .i) (a .to) h t u e f
 
 loop-holds : tie.Need-loop-holds Inv-loop μ-loop

@@ -14,12 +14,12 @@ use Rattle.columns.proofs.first_of.Statement.{statement}
 use Rattle.columns.proofs.first_of.Tie as tie
 
 abbrev Inv-loop : tie.InvT-loop
-Inv-loop properties word at equal property chosen w₀ w =
-    (w < 2 ^ 64) × (firstBit (taking properties equal property chosen) word at 64
-    ≡ firstBit (taking properties equal property chosen) w at 64)
+Inv-loop keys word at equal property chosen w₀ w =
+    (w < 2 ^ 64) × (firstBit (taking keys equal property chosen) word at 64
+    ≡ firstBit (taking keys equal property chosen) w at 64)
 
 abbrev μ-loop : tie.MeasureT-loop
-μ-loop properties word at equal property chosen w₀ w = w
+μ-loop keys word at equal property chosen w₀ w = w
 
 -- the lowest bit
 low : (p : tie.At-loop Inv-loop μ-loop) → p .loop .w ≢ 0 → let t = trailingZeros 64 (p .loop .w) in
@@ -28,7 +28,7 @@ low p h = lowest-bit (p .loop .w) h (p .loop .inv .0)
 
 -- the first of all, by the test u of the message of the lowest bit
 looked : (p : tie.At-loop Inv-loop μ-loop) → p .loop .w ≢ 0 → let a = p .before .before .before .args in
-    let q = taking (a .properties .now) (a .equal) (a .property) (a .chosen .now) in
+    let q = taking (a .keys .now) (a .equal) (a .property) (a .chosen .now) in
     let t = trailingZeros 64 (p .loop .w) in
     (u : Bool) → q (a .at + t) ≡ u
     → firstBit q (a .word) (a .at) 64 ≡ pick u (a .at + t + 1) (firstBit q (p .loop .w - 2 ^ t) (a .at) 64)

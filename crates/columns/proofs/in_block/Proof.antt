@@ -14,7 +14,7 @@ returns c =
     let z : a .to - a .from ≡ 64 = c .before .before .if1 .taken in
     rw (c .first-of .ensures, c .before .word-at .ensures, z)
     (bit-first (ofKind (a .channels .now) (a .statuses .now) (a .wanted) (a .status)) _ _
-    (kind-taking (a .channels .now) (a .properties .now) (a .statuses .now) (a .wanted) (a .status) (a .equal)
+    (kind-taking (a .channels .now) (a .keys .now) (a .statuses .now) (a .wanted) (a .status) (a .equal)
     (a .property) (a .chosen .now)) (a .from) 64)
 
 pub in-block-spec : {M : Type 1} → statement M

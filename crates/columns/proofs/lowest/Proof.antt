@@ -17,7 +17,7 @@ use Rattle.columns.proofs.lowest.Tie as tie
 -- the first of the pending ones
 by-first : (m : Columns) (n wanted : ℕ) (c : Chord) (s : Sent) (equal : Bool) (property : ℕ) → c .equal ≡ equal
     → s .property ≡ property → (chosen : List ℕ) (r : ℕ)
-    → r ≡ firstFrom (eligible (m .channels) (m .properties) (m .statuses) wanted 0 equal property chosen) 0 n
+    → r ≡ firstFrom (eligible (m .channels) (m .keys) (m .statuses) wanted 0 equal property chosen) 0 n
     → r ≡ lowest (isFree c wanted s chosen) 0 (messagesFrom m 0 n)
 by-first m n wanted c s equal property e p chosen r f = f ∙ lowest-is m n wanted c s equal property e p chosen
 
@@ -26,7 +26,7 @@ returns c =
     let a = c .before .before .before .before .before .args in
     let e = c .first .ensures in (
       rw e (first-most _ (a .n)),
-      λ o k s f g. by-first (columnsBy (a .channels .now) (a .properties .now) (a .statuses .now) o) (a .n) (a .wanted)
+      λ o k s f g. by-first (columnsBy (a .channels .now) (a .keys .now) (a .statuses .now) o) (a .n) (a .wanted)
           k s (a .equal) (a .property) f g (a .chosen .now) (c .first .result) e,
     )
 

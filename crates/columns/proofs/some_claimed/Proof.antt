@@ -10,7 +10,7 @@ returns : tie.Need-returns
 returns c =
     let a = c .before .before .before .before .before .args in
     λ o k s e f. rw (c .first .ensures, found-is)
-    (some-claimed-is (columnsBy (a .channels .now) (a .properties .now) (a .statuses .now) o) (a .n) (a .wanted) k s
+    (some-claimed-is (columnsBy (a .channels .now) (a .keys .now) (a .statuses .now) o) (a .n) (a .wanted) k s
     (a .equal) (a .property) e f)
 
 pub some-claimed-spec : {M : Type 1} → statement M

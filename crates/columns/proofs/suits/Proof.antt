@@ -23,7 +23,7 @@ returns-3 c =
     rw (
       eq-eqb (getD (a .channels .now) (a .k) 0) (a .wanted) (i1 .if1 .left),
       eq-eqb (getD (a .statuses .now) (a .k) 0) (a .status) (c .before .if2 .left),
-      and-true (not (a .equal) || eqb (getD (a .properties .now) (a .k) 0) (a .property)),
+      and-true (not (a .equal) || eqb (getD (a .keys .now) (a .k) 0) (a .property)),
     )
 
 pub suits-spec : {M : Type 1} → statement M

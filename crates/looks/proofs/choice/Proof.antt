@@ -15,7 +15,7 @@ returns c =
     let f = c .before in
     let s = f .before .before .before .before .before .before .before .before in
     let a = s .args in
-    λ o w ws wc wk. choice-own (tableOf (a .table .now)) (a .channels .now) (a .properties .now) (a .statuses .now)
+    λ o w ws wc wk. choice-own (tableOf (a .table .now)) (a .channels .now) (a .keys .now) (a .statuses .now)
     (a .n) o w (a .k) (f .first-of .result) (a .subject) (a .chord) (s .pre .1 .0 .1) (f .first-of .ensures) ws wc
     (c .if1 .taken)
 
@@ -29,8 +29,8 @@ returns-2 c =
     let a = s .args in
     let t = tableOf (a .table .now) in
     λ o w ws wc wk.
-    let m = columnsBy (a .channels .now) (a .properties .now) (a .statuses .now) o in
-    choice-other t (a .channels .now) (a .properties .now) (a .statuses .now) (a .n) o w (a .k) (f .first-of .result)
+    let m = columnsBy (a .channels .now) (a .keys .now) (a .statuses .now) o in
+    choice-other t (a .channels .now) (a .keys .now) (a .statuses .now) (a .n) o w (a .k) (f .first-of .result)
     (a .subject) (a .chord) (s .pre .1 .0 .1) (f .first-of .ensures) ws wc (x .channel-at .result) (c .lowest .result)
     (a .chosen .now) wk (i .if1 .left) (x .channel-at .ensures)
     (c .lowest .ensures .1 o (chordAt t (a .chord)) (getD (messagesFrom m 0 (a .n)) (a .subject) noMessage .sent)

@@ -31,14 +31,14 @@ start c = c .before .before .before .before .before .before .before .before
 looked : (c : tie.After-choice) (o : Unread) (x : ℕ) → x ≡ c .choice .result
     → let a = start c .args in
     let t = tableOf (a .table .now) in
-    let b = boardBy (a .channels .now) (a .properties .now) (a .statuses .now) (a .n) o in
+    let b = boardBy (a .channels .now) (a .keys .now) (a .statuses .now) (a .n) o in
     lookedBy t b (senderIn t (a .d)) (jobIn t (a .d .job)) (a .k) x
     ≡ look-step t b (senderIn t (a .d)) (jobIn t (a .d .job)) (a .k)
 looked c o x e =
     let s = start c in
     let a = s .args in
     let t = tableOf (a .table .now) in
-    let b = boardBy (a .channels .now) (a .properties .now) (a .statuses .now) (a .n) o in
+    let b = boardBy (a .channels .now) (a .keys .now) (a .statuses .now) (a .n) o in
     let w = jobIn t (a .d .job) in
     looks-by t b (senderIn t (a .d)) w (a .k) x
     (e ∙ c .choice .ensures o w refl refl (chosen-first t (a .d .job) (a .k) (s .pre .1 .0 .0)))
@@ -83,7 +83,7 @@ returns-2 c =
     let a = start f .args in
     let t = tableOf (a .table .now) in
     let z : suc (f .choice .result - 1) ≡ f .choice .result = omega (arith, i .if1 .left) in
-    λ o. c .found .ensures t (boardBy (a .channels .now) (a .properties .now) (a .statuses .now) (a .n) o)
+    λ o. c .found .ensures t (boardBy (a .channels .now) (a .keys .now) (a .statuses .now) (a .n) o)
     (sym (g .chord-len .ensures))
     ∙ looked f o _ z
 

@@ -21,8 +21,8 @@ returns c =
     let t = tableOf (a .table .now) in
     let j = a .d .job in
     λ o.
-    let m = columnsBy (a .channels .now) (a .properties .now) (a .statuses .now) o in
-    let b = boardBy (a .channels .now) (a .properties .now) (a .statuses .now) (a .n) o in
+    let m = columnsBy (a .channels .now) (a .keys .now) (a .statuses .now) o in
+    let b = boardBy (a .channels .now) (a .keys .now) (a .statuses .now) (a .n) o in
     rw (c .works .ensures)
     (missed-is t b (a .d) (a .k) (q .next-chord .result) (x .channel-at .result) (f .some-claimed .result)
     (x .channel-at .ensures)

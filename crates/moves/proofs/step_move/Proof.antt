@@ -64,7 +64,7 @@ columns-are : (c : tie.After-wakers)
     let m = c .before in
     let t = m .before in
     let p = t .before in
-    (p .before .channels .result .now ≡ columnsIn l .channels) × (p .properties .result .now ≡ columnsIn l .properties)
+    (p .before .channels .result .now ≡ columnsIn l .channels) × (p .keys .result .now ≡ columnsIn l .keys)
     × (t .statuses .result .now ≡ columnsIn l .statuses) × (m .matched .result .now ≡ columnsIn l .matched)
     × (c .wakers .result .now ≡ columnsIn l .wakers)
 columns-are c =
@@ -72,7 +72,7 @@ columns-are c =
     let t = m .before in
     let p = t .before in (
       p .before .channels .ensures .0,
-      p .properties .ensures .0,
+      p .keys .ensures .0,
       t .statuses .ensures .0,
       m .matched .ensures .0,
       c .wakers .ensures .0,

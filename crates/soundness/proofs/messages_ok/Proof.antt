@@ -15,7 +15,7 @@ matched-ok : (c : tie.After-links-ok)
 matched-ok c = c .links-ok .ensures
 
 returns : tie.Need-returns
-returns c properties b ms ks =
+returns c keys b ms ks =
     let l = c .before .before in
     let p = l .before .before .before in
     let s = p .before .before .before .before .before .before in
@@ -23,7 +23,7 @@ returns c properties b ms ks =
     rw (
       messages-are (tableOf (a .table .now)) b (record {
         channels = a .channels .now;
-        properties = properties;
+        keys = keys;
         cents = a .cents .now;
         statuses = a .statuses .now;
         matched = a .matched .now;

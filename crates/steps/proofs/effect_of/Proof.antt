@@ -21,7 +21,7 @@ returns-2 c =
     let s = start (g .before .before) in
     let a = s .args in
     λ o em eb ea ew. work-is (tableOf (a .table .now))
-    (boardBy (a .channels .now) (a .properties .now) (a .statuses .now) (a .n) o) (a .d) (g .enum-told2 .given .1)
+    (boardBy (a .channels .now) (a .keys .now) (a .statuses .now) (a .n) o) (a .d) (g .enum-told2 .given .1)
     (c .job-step .ensures o em eb)
 
 blocked-step-requires : tie.Need-blocked-step-requires
@@ -39,8 +39,8 @@ returns-3 c =
     let s = start (g .before .before) in
     let a = s .args in
     λ o em eb ea ew. blocked-is (tableOf (a .table .now))
-    (boardBy (a .channels .now) (a .properties .now) (a .statuses .now) (a .n) o) (a .d) (g .enum-told3 .given .1)
-    (s .pre .0 .1) (c .blocked-step .ensures (a .properties .now) o ea ew)
+    (boardBy (a .channels .now) (a .keys .now) (a .statuses .now) (a .n) o) (a .d) (g .enum-told3 .given .1)
+    (s .pre .0 .1) (c .blocked-step .ensures (a .keys .now) o ea ew)
 
 pub effect-of-spec : {M : Type 1} → statement M
 effect-of-spec =

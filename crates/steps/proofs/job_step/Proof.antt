@@ -35,7 +35,7 @@ abbrev members : tie.Start → ℕ
 members s = size (tab s) (s .args .d .job .chord)
 
 abbrev board : tie.Start → Unread → Board
-board s o = boardBy (s .args .channels .now) (s .args .properties .now) (s .args .statuses .now) (s .args .n) o
+board s o = boardBy (s .args .channels .now) (s .args .keys .now) (s .args .statuses .now) (s .args .n) o
 
 -- the board of the sender's facts
 abbrev ready : tie.Start → Board
@@ -179,9 +179,9 @@ returns-4 c =
     let q = v .before .before in
     let s = start (q .before .before) in
     let g = q .phase4 .given in
-    let saw = v .sees .ensures (s .args .properties .now) in
+    let saw = v .sees .ensures (s .args .keys .now) in
     λ o em eb. step-is s o (P.Consume (g .0 .0) (g .0 .1 .0)) (g .1)
-    (c .consume-step .ensures (s .args .properties .now) (s .args .statuses .now) o
+    (c .consume-step .ensures (s .args .keys .now) (s .args .statuses .now) o
     (saw o .sync-is) (saw o .channel-is) (saw o .consumed-is))
 
 sees-requires-2 : tie.Need-sees-requires-2
@@ -208,9 +208,9 @@ returns-5 c =
     let q = v .before .before in
     let s = start (q .before .before) in
     let g = q .phase5 .given in
-    let saw = v .sees2 .ensures (s .args .properties .now) in
+    let saw = v .sees2 .ensures (s .args .keys .now) in
     λ o em eb. step-is s o (P.Tell (g .0 .0)) (g .1)
-    (c .tell-step .ensures (s .args .properties .now) (s .args .statuses .now) o
+    (c .tell-step .ensures (s .args .keys .now) (s .args .statuses .now) o
     (saw o .sync-is) (saw o .channel-is) (saw o .consumed-is))
 
 wake-step-requires : tie.Need-wake-step-requires
@@ -264,7 +264,7 @@ returns-8 c =
     let q = v .before in
     let s = start (q .before .before) in
     let g = q .enum-told2 .given in
-    let saw = v .sees3 .ensures (s .args .properties .now) in
+    let saw = v .sees3 .ensures (s .args .keys .now) in
     λ o em eb. step-is s o P.Signal (g .1)
     (c .signal-step .ensures (board s o)
     (saw o .sync-is) (saw o .channel-is) (saw o .consumed-is))
@@ -278,7 +278,7 @@ returns-9 c =
     let q = v .before in
     let s = start (q .before .before) in
     let g = q .enum-told3 .given in
-    let saw = v .sees4 .ensures (s .args .properties .now) in
+    let saw = v .sees4 .ensures (s .args .keys .now) in
     λ o em eb. step-is s o P.PassEnd (g .1)
     (c .pass-end-step .ensures (board s o) eb (channel-is s o)
     (R.open-read _ _ _ o _ _ (subject-in s))
