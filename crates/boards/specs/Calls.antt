@@ -22,15 +22,15 @@ held b c m = record { board = b; columns = c; matches = m }
 
 -- the same by its columns, in the order of the calls' parameters
 abbrev pub heldBy : HeldBoard → List ℕ → List ℕ → List ℤ → List ℕ → List ℕ → List ℕ → List ℕ → List ℕ → Held
-heldBy b channels properties cents statuses matched wakers chords messages =
-    held b (columnsOf channels properties cents statuses matched wakers) (matchesOf chords messages)
+heldBy b channels keys cents statuses matched wakers chords messages =
+    held b (columnsOf channels keys cents statuses matched wakers) (matchesOf chords messages)
 
 -- what an add hands over
-abbrev pub sent : ℕ → ℕ → ℤ → MB.Sent
-sent channel property cents = record { channel = channel; property = property; cents = cents }
+abbrev pub sent : ℕ → ℕ → ℤ → ℕ → MB.Sent
+sent channel property cents day = record { channel = channel; property = property; cents = cents; day = day }
 
 abbrev pub sentIn : DS.Sent → MB.Sent
-sentIn x = sent (x .channel) (x .property) (x .cents)
+sentIn x = sent (x .channel) (x .property) (x .cents) (x .day)
 
 abbrev pub callIn : DC.Call → MP.Call
 callIn (C.Add i x) = MP.adds i (sentIn x)

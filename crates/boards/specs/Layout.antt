@@ -36,9 +36,9 @@ membersAt = 2048
 abbrev pub linksLen : ℕ
 linksLen = 10240
 
--- keys: 0 properties
+-- keys: 0 properties, 1,024 days
 abbrev pub keysLen : ℕ
-keysLen = 1024
+keysLen = 2048
 
 -- cents: 0 cents
 abbrev pub centsLen : ℕ
@@ -77,12 +77,9 @@ module _ (links : List ℕ) where
   abbrev pub membersIn : List ℕ
   membersIn = part membersAt 8192 links
 
-abbrev pub propertiesIn : List ℕ → List ℕ
-propertiesIn keys = part 0 1024 keys
-
 abbrev pub columnsIn : Lists → Columns
 columnsIn l =
-    columnsOf (channelsIn (l .bytes)) (propertiesIn (l .keys)) (l .cents) (statusesIn (l .bytes)) (matchedIn (l .links))
+    columnsOf (channelsIn (l .bytes)) (l .keys) (l .cents) (statusesIn (l .bytes)) (matchedIn (l .links))
     (wakersIn (l .links))
 
 abbrev pub matchesIn : Lists → MatchColumns

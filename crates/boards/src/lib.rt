@@ -1,9 +1,8 @@
 // The board as the lists that a host lends: where its columns stand in them; and the calls.
 ghost use mathlib.Core.Path.{_≡_};
 ghost use lib.ListN.{length};
-ghost use Rattle.boards.specs.Layout.{bytesLen, linksLen, keysLen};
+ghost use Rattle.boards.specs.Layout.{bytesLen, linksLen};
 ghost use Rattle.boards.specs.Layout.{channelsIn, statusesIn, chordsIn, matchedIn, wakersIn, membersIn};
-ghost use Rattle.boards.specs.Layout.{propertiesIn};
 
 // Lengths, and the places of columns that are not the first of their list.
 pub const BOARD_LEN: usize = 674;
@@ -12,7 +11,7 @@ pub const BYTES_LEN: usize = 3072;
 
 pub const LINKS_LEN: usize = 10240;
 
-pub const KEYS_LEN: usize = 1024;
+pub const KEYS_LEN: usize = 2048;
 
 pub const CENTS_LEN: usize = 1024;
 
@@ -29,6 +28,7 @@ pub struct Sent {
     pub channel: u16,
     pub property: u32,
     pub cents: i64,
+    pub day: u32,
 }
 
 // An add by a sender, or a step of a sender.
@@ -83,12 +83,4 @@ pub fn members(links: &[u16]) -> &[u16]
     ensures { λ r. ⌜ (now r ≡ membersIn (now (links .entry))) × (length (now r) ≡ 8192) ⌝ }
 {
     &links[MEMBERS..LINKS_LEN]
-}
-
-// The messages' property numbers.
-pub fn properties(keys: &[u32]) -> &[u32]
-    requires { ⌜ length (now keys) ≡ keysLen ⌝ }
-    ensures { λ r. ⌜ (now r ≡ propertiesIn (now (keys .entry))) × (length (now r) ≡ 1024) ⌝ }
-{
-    &keys[0..1024]
 }
