@@ -8,7 +8,7 @@ use lib.Dec.{eqb}
 use lib.IntN.{ℤ}
 use lib.ListN.{length}
 use Rattle.model.specs.Basics.{allOf}
-use Rattle.columns.specs.Columns.{Columns, columnsOf}
+use Rattle.columns.specs.Columns.{Columns, columnsOf, daysAt}
 use Rattle.columns.specs.MatchColumns.{MatchColumns, matchesOf}
 use Rattle.boards.specs.Parts.{part}
 
@@ -76,6 +76,13 @@ module _ (links : List ℕ) where
 
   abbrev pub membersIn : List ℕ
   membersIn = part membersAt 8192 links
+
+module _ (keys : List ℕ) where
+  abbrev pub propertiesIn : List ℕ
+  propertiesIn = part 0 1024 keys
+
+  abbrev pub daysIn : List ℕ
+  daysIn = part daysAt 1024 keys
 
 abbrev pub columnsIn : Lists → Columns
 columnsIn l =

@@ -13,6 +13,9 @@ ghost use Rattle.columns.specs.Columns.{Lent, Passed, Unread, columnsBy,
 ghost use Rattle.columns.specs.Firsts.{firstFrom, found, ofKind, taking, eligible};
 ghost use Rattle.columns.specs.Words.{bit, wordFrom, firstBit};
 
+// Where the days begin in the list of keys.
+pub const DAYS: usize = 1024;
+
 // The numbers hold x.
 fn is_in(x: u16, s: &[u16]) -> bool
     ensures { λ r. ⌜ r ≡ isIn x (now (s .entry)) ⌝ }

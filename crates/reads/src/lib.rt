@@ -2,7 +2,7 @@
 ghost use mathlib.Core.Path.{_≡_};
 ghost use mathlib.Core.Bool.{not};
 ghost use mathlib.Core.List.{map};
-ghost use Prim.Native.Nat.{ℕ, _<_, _≤_};
+ghost use Prim.Native.Nat.{ℕ, _+_, _<_, _≤_};
 ghost use lib.IntN.{pos};
 ghost use lib.ListN.{length, getD, drop, replicate};
 ghost use lib.Seq.{paste};
@@ -11,7 +11,7 @@ ghost use Rattle.model.specs.Tables.{Table};
 ghost use Rattle.model.specs.Boards as MB;
 ghost use Rattle.model.specs.Pools.{canStep, readMatch};
 ghost use Rattle.model.specs.Layout.{tableRefusal, tableOf};
-ghost use Rattle.columns.specs.Columns.{messageIn, columnsOf};
+ghost use Rattle.columns.specs.Columns.{daysAt, messageIn, columnsOf};
 ghost use Rattle.columns.specs.MatchColumns.{matchIn, matchesOf};
 ghost use Rattle.state.specs.Views.{senderIn};
 ghost use Rattle.reads.specs.Reads.{messageOf, readOf, MatchLent, InRange, Readable};
@@ -21,6 +21,7 @@ pub struct MessageRead {
     pub channel: u8,
     pub property: u32,
     pub cents: i64,
+    pub day: u32,
     pub status: u8,
     pub matched: u16,
     pub waker: u16,
@@ -44,7 +45,7 @@ pub fn message_read(
     matched: &[u16],
     wakers: &[u16],
 ) -> MessageRead
-    requires { ⌜ (n < length (now channels)) × (n < length (now keys)) × (n < length (now cents)) ⌝ }
+    requires { ⌜ (n < length (now channels)) × (daysAt + n < length (now keys)) × (n < length (now cents)) ⌝ }
     requires { ⌜ (n < length (now statuses)) × (n < length (now matched)) × (n < length (now wakers)) ⌝ }
     ensures { λ r. ⌜ messageOf r ≡ messageIn (columnsOf (now (channels .entry)) (now (keys .entry))
         (now (cents .entry)) (now (statuses .entry)) (now (matched .entry)) (now (wakers .entry))) n ⌝ }
@@ -55,6 +56,7 @@ pub fn message_read(
         channel: channels[i],
         property: keys[i],
         cents: cents[i],
+        day: keys[columns::DAYS + i],
         status: statuses[i],
         matched: matched[i],
         waker: wakers[i],

@@ -68,7 +68,8 @@ module _ (s : List ℕ) (h : Held) where
     messages-grow = omega arith;
     matches-grow = omega arith;
     channels = refl;
-    keys = refl;
+    properties = refl;
+    days = refl;
     cents = refl;
     statuses = refl;
     matched = refl;

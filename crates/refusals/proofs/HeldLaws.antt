@@ -23,7 +23,7 @@ held-is l e n = rw (sized-ok l n, e)
 pub columns-sized : (l : Lists) → Sized l → Lengths (columnsIn l) (matchesIn l)
 columns-sized l n = record {
   channels-len = length-part 0 1024 (l .bytes) (omega (arith, n .bytes-len));
-  keys-len = length-part 0 1024 (l .keys) (omega (arith, n .keys-len));
+  keys-len = n .keys-len;
   cents-len = n .cents-len;
   statuses-len = length-part 1024 1024 (l .bytes) (omega (arith, n .bytes-len));
   matched-len = length-part 0 1024 (l .links) (omega (arith, n .links-len));

@@ -51,6 +51,5 @@ held-once s l m a b e =
     (from-part _ _ 1024 1024 (ap (λ (h : Held). h .columns .wakers) same)
     (from-part _ _ 2048 8192 (ap (λ (h : Held). h .matches .messages) same)
     (past-ends (l .links) (m .links) 10240 (omega (arith, x .links-len)) (omega (arith, y .links-len))))))
-    (from-part _ _ 0 1024 (ap (λ (h : Held). h .columns .keys) same)
-    (past-ends (l .keys) (m .keys) 1024 (omega (arith, x .keys-len)) (omega (arith, y .keys-len))))
+    (ap (λ (h : Held). h .columns .keys) same)
     (ap (λ (h : Held). h .columns .cents) same)

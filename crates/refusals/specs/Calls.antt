@@ -11,6 +11,7 @@ use Rattle.model.specs.Pools.{Call, adds, steps, answerTo}
 use Rattle.state.specs.declared.Sender as DD
 use Rattle.boards.specs.Boards.{boardIn, zeroSender}
 use Rattle.boards.specs.Calls.{Held}
+use Rattle.boards.specs.Layout.{propertiesIn, daysIn}
 use Rattle.boards.specs.Parts.{part}
 use Rattle.refusals.specs.Judged.{boardRefusal}
 
@@ -40,7 +41,8 @@ pub record Beyond (h h′ : Held) : Type 0 where
   pub messages-grow : h .board .messages ≤ h′ .board .messages
   pub matches-grow : h .board .matches ≤ h′ .board .matches
   pub channels : SameFrom (h′ .board .messages) (h′ .columns .channels) (h .columns .channels)
-  pub keys : SameFrom (h′ .board .messages) (h′ .columns .keys) (h .columns .keys)
+  pub properties : SameFrom (h′ .board .messages) (propertiesIn (h′ .columns .keys)) (propertiesIn (h .columns .keys))
+  pub days : SameFrom (h′ .board .messages) (daysIn (h′ .columns .keys)) (daysIn (h .columns .keys))
   pub cents : SameFrom (h′ .board .messages) (h′ .columns .cents) (h .columns .cents)
   pub statuses : SameFrom (h′ .board .messages) (h′ .columns .statuses) (h .columns .statuses)
   pub matched : SameFrom (h′ .board .messages) (h′ .columns .matched) (h .columns .matched)

@@ -16,7 +16,7 @@ use Rattle.model.specs.Sound.{noneShared}
 use Rattle.model.specs.Tables.{Table}
 use Rattle.columns.specs.Columns.{columnsOf}
 use Rattle.state.specs.Views.{senderIn}
-use Rattle.boards.specs.Layout.{Lists, lists, columnsIn, matchesIn, propertiesIn}
+use Rattle.boards.specs.Layout.{Lists, lists, columnsIn, matchesIn}
 use Rattle.soundness.specs.Tests.{messagesOk}
 use Rattle.senders.specs.Seen.{Seen}
 use Rattle.rows.specs.Decoded.{boardFrom}
@@ -84,9 +84,9 @@ messages-say c keys =
     let w = c .before in
     let m = w .before in
     let u = m .before in
-    let e = same-columns (propertiesIn keys) (s .args .cents .now) (u .before .channels .ensures .0)
+    let e = same-columns keys (s .args .cents .now) (u .before .channels .ensures .0)
     (u .statuses .ensures .0) (m .matched .ensures .0) (w .wakers .ensures .0) in
-    sym (c .messages-ok .ensures (propertiesIn keys) (board s keys) (v .count) (v .matches-count)
+    sym (c .messages-ok .ensures keys (board s keys) (v .count) (v .matches-count)
     ∙ ap (λ x. messagesOk (table s) (board s keys) x (getD (numbers s) 0 0)) e)
 
 matches-say : (c : tie.After-matches-ok) (keys : List ℕ)
