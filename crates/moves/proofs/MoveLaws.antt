@@ -73,6 +73,7 @@ module _ (s : List ℕ) (h : Held) (z : refusalOf s h ≡ 0) where
       let o = h .columns in
       let y = sentIn x in
       let room : Room o n = record {
+        few = full;
         channels = omega (arith, full, lent .channels-len);
         keys = omega (arith, full, lent .keys-len);
         cents = omega (arith, full, lent .cents-len);
@@ -81,6 +82,7 @@ module _ (s : List ℕ) (h : Held) (z : refusalOf s h ≡ 0) where
         wakers = omega (arith, full, lent .wakers-len);
       } in
       let wrote : Wrote o (written o n y) n y = record {
+        few = full;
         channels = refl;
         keys = refl;
         cents = refl;
@@ -126,7 +128,8 @@ module _ (s : List ℕ) (h : Held) (z : refusalOf s h ≡ 0) where
           messages-grow = omega arith;
           matches-grow = b .0;
           channels = refl;
-          keys = refl;
+          properties = refl;
+          days = refl;
           cents = refl;
           statuses = a .0;
           matched = a .1;

@@ -120,7 +120,7 @@ fn step_move(
         board[0],
         board[1],
         boards::channels(bytes),
-        boards::properties(keys),
+        keys,
         boards::statuses(bytes),
         boards::matched(links),
         boards::wakers(links),
@@ -136,6 +136,7 @@ fn step_move(
             channel: 0,
             property: 0,
             cents: 0,
+            day: 0,
         },
         change: change,
     }

@@ -6,7 +6,7 @@ use Prim.Native.Nat.{ℕ, _+_, _<_}
 use native.Mathlib.Omega.{arith}
 use lib.IntN.{ℤ}
 use lib.ListN.{length, getD, set, length-set}
-use Rattle.columns.specs.Columns.{Columns, columnsOf}
+use Rattle.columns.specs.Columns.{Columns, columnsOf, daysAt}
 use Rattle.columns.specs.MatchColumns.{MatchColumns}
 use Rattle.boards.specs.Boards.{HeldBoard}
 use Rattle.boards.specs.declared.Sent as DS
@@ -30,16 +30,19 @@ module _ (n : ℕ) (x : DS.Sent) where
   abbrev pub addedLinks : Bool → List ℕ → List ℕ
   addedLinks u w = putIf u (putIf u w n 0) (wakersAt + n) 0
 
+  abbrev pub addedKeys : Bool → List ℕ → List ℕ
+  addedKeys u ks = putIf u (putIf u ks n (x .property)) (daysAt + n) (x .day)
+
   -- the lists with message n, where it is added
   abbrev pub added : Bool → Lists → Lists
   added u l =
-      lists (l .board) (addedBytes u (l .bytes)) (addedLinks u (l .links)) (putIf u (l .keys) n (x .property))
+      lists (l .board) (addedBytes u (l .bytes)) (addedLinks u (l .links)) (addedKeys u (l .keys))
       (putIf u (l .cents) n (x .cents))
 
   -- the columns with it
   abbrev pub columnsWith : Bool → Columns → Columns
   columnsWith u c =
-      columnsOf (putIf u (c .channels) n (x .channel)) (putIf u (c .keys) n (x .property))
+      columnsOf (putIf u (c .channels) n (x .channel)) (addedKeys u (c .keys))
       (putIf u (c .cents) n (x .cents)) (putIf u (c .statuses) n 0) (putIf u (c .matched) n 0)
       (putIf u (c .wakers) n 0)
 
@@ -58,7 +61,6 @@ module _ (n : ℕ) (x : DS.Sent) where
         set-here 0 1024 w n n 0 (omega arith) h,
         set-here 1024 1024 (set w n 0) (1024 + n) n 0 refl h,
         set-before 1024 1024 w n 0 h,
-        set-here 0 1024 (l .keys) n n (x .property) (omega arith) h,
       )
   added-columns false l room = refl
 
@@ -80,7 +82,8 @@ module _ (n : ℕ) (x : DS.Sent) where
     bytes-len = length-put u (putIf u (l .bytes) n (x .channel)) (1024 + n) 0
         ∙ length-put u (l .bytes) n (x .channel) ∙ s .bytes-len;
     links-len = length-put u (putIf u (l .links) n 0) (1024 + n) 0 ∙ length-put u (l .links) n 0 ∙ s .links-len;
-    keys-len = length-put u (l .keys) n (x .property) ∙ s .keys-len;
+    keys-len = length-put u (putIf u (l .keys) n (x .property)) (daysAt + n) (x .day)
+        ∙ length-put u (l .keys) n (x .property) ∙ s .keys-len;
     cents-len = length-put u (l .cents) n (x .cents) ∙ s .cents-len;
   }
 
@@ -88,7 +91,7 @@ module _ (n : ℕ) (x : DS.Sent) where
 module _ (n : ℕ) (x : DS.Sent) (b w ks : List ℕ) (cs : List ℤ) (b′ w′ ks′ : List ℕ) (cs′ : List ℤ) where
   abbrev pub Added : Bool → Type 0
   Added u =
-      (b′ ≡ addedBytes n x u b) × (w′ ≡ addedLinks n x u w) × (ks′ ≡ putIf u ks n (x .property))
+      (b′ ≡ addedBytes n x u b) × (w′ ≡ addedLinks n x u w) × (ks′ ≡ addedKeys n x u ks)
       × (cs′ ≡ putIf u cs n (x .cents))
 
   pub added-by : (u v : Bool) → u ≡ v → Added v → Added u

@@ -4,7 +4,7 @@ use mathlib.Core.Bool.{Bool, true, false}
 use mathlib.Core.List.{List}
 use Prim.Native.Nat.{ℕ, _+_, _<_, _≤_}
 use lib.ListN.{set}
-use Rattle.columns.specs.Columns.{columnsOf}
+use Rattle.columns.specs.Columns.{columnsOf, daysAt}
 use Rattle.columns.specs.MatchColumns.{matchesOf}
 use Rattle.state.specs.declared.Change as DG
 use Rattle.state.specs.declared.Change.the-variants as G
@@ -45,7 +45,7 @@ movedHeld h i m =
     let k = h .board .matches in
     held (movedBoard (h .board) i m)
     (columnsOf (putIf (m .adds) (h .columns .channels) n (m .sent .channel))
-    (putIf (m .adds) (h .columns .keys) n (m .sent .property))
+    (putIf (m .adds) (putIf (m .adds) (h .columns .keys) n (m .sent .property)) (daysAt + n) (m .sent .day))
     (putIf (m .adds) (h .columns .cents) n (m .sent .cents))
     (statusesBy (m .change) (putIf (m .adds) (h .columns .statuses) n 0))
     (matchedBy (m .change) (putIf (m .adds) (h .columns .matched) n 0))

@@ -7,7 +7,7 @@ ghost use Prim.Native.Nat.{ℕ, _+_, _-_, _*_, _<_, _≤_};
 ghost use lib.IntN.{ℤ};
 ghost use lib.ListN.{length, getD, set};
 ghost use lib.Seq.{paste};
-ghost use Rattle.columns.specs.Columns.{Passed};
+ghost use Rattle.columns.specs.Columns.{daysAt, Passed};
 ghost use Rattle.boards.specs.Parts.{splice};
 ghost use Rattle.boards.specs.Layout.{bytesLen, linksLen, keysLen, centsLen, statusesAt, wakersAt};
 ghost use Rattle.boards.specs.Layout.{chordsAt, membersAt, statusesIn, chordsIn, membersIn, lists, Sized};
@@ -49,7 +49,7 @@ fn put_message(
         × (length (now keys) ≡ keysLen) × (length (now cents) ≡ centsLen) ⌝ }
     ensures { λ _. ⌜ (now (bytes .exit) ≡ set (set (now (bytes .entry)) n (x .channel)) (statusesAt + n) 0)
         × (now (links .exit) ≡ set (set (now (links .entry)) n 0) (wakersAt + n) 0)
-        × (now (keys .exit) ≡ set (now (keys .entry)) n (x .property))
+        × (now (keys .exit) ≡ set (set (now (keys .entry)) n (x .property)) (daysAt + n) (x .day))
         × (now (cents .exit) ≡ set (now (cents .entry)) n (x .cents)) ⌝ }
 {
     let k = n as usize;
@@ -58,6 +58,7 @@ fn put_message(
     links[k] = 0;
     links[boards::WAKERS + k] = 0;
     keys[k] = x.property;
+    keys[columns::DAYS + k] = x.day;
     let amount = x.cents;
     cents[k] = amount;
 }
@@ -77,7 +78,8 @@ fn put_added(
     ensures { λ _. ⌜ (now (bytes .exit)
         ≡ putIf (m .adds) (putIf (m .adds) (now (bytes .entry)) n (m .sent .channel)) (statusesAt + n) 0)
         × (now (links .exit) ≡ putIf (m .adds) (putIf (m .adds) (now (links .entry)) n 0) (wakersAt + n) 0)
-        × (now (keys .exit) ≡ putIf (m .adds) (now (keys .entry)) n (m .sent .property))
+        × (now (keys .exit)
+        ≡ putIf (m .adds) (putIf (m .adds) (now (keys .entry)) n (m .sent .property)) (daysAt + n) (m .sent .day))
         × (now (cents .exit) ≡ putIf (m .adds) (now (cents .entry)) n (m .sent .cents)) ⌝ }
 {
     if !m.adds {

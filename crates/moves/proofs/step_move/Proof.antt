@@ -43,7 +43,7 @@ abbrev start : tie.After-sender-at → tie.Start
 start c = c .before .before .before .before .before .before
 
 abbrev caught : tie.After-wakers → tie.After-sender-at
-caught c = c .before .before .before .before .before .before .before
+caught c = c .before .before .before .before .before .before
 
 -- the sender that steps
 is-sender : (c : tie.After-sender-at) → SenderIs (view (start c) .board) (start c .args .i) (c .sender-at .result)
@@ -63,16 +63,12 @@ columns-are : (c : tie.After-wakers)
     → let l = lent (start (caught c)) in
     let m = c .before in
     let t = m .before in
-    let p = t .before in
-    (p .before .channels .result .now ≡ columnsIn l .channels) × (p .keys .result .now ≡ columnsIn l .keys)
-    × (t .statuses .result .now ≡ columnsIn l .statuses) × (m .matched .result .now ≡ columnsIn l .matched)
+    (t .before .channels .result .now ≡ columnsIn l .channels) × (t .statuses .result .now ≡ columnsIn l .statuses) × (m .matched .result .now ≡ columnsIn l .matched)
     × (c .wakers .result .now ≡ columnsIn l .wakers)
 columns-are c =
     let m = c .before in
-    let t = m .before in
-    let p = t .before in (
-      p .before .channels .ensures .0,
-      p .keys .ensures .0,
+    let t = m .before in (
+      t .before .channels .ensures .0,
       t .statuses .ensures .0,
       m .matched .ensures .0,
       c .wakers .ensures .0,
@@ -89,12 +85,12 @@ effect-of-requires c κs =
     let few = messages-few _ _ _ _ z in (
       (table-accepted _ _ _ _ z, ap senderSteps (f .sender-at .ensures) ∙ s .pre .1 .0 .1),
       (
-        ready-by (e .0) (e .1) (e .2)
+        ready-by (e .0) refl (e .1)
             (is-ready _ (view s .board) (view s .columns) (view s .matches) z (a .i) (f .sender-at .result)
             (is-sender f)),
         (
           (omega (arith, few, c .before .matched .ensures .1), omega (arith, few, c .wakers .ensures .1)),
-          subst (Passed (a .start) (getD (a .board .now) 0 0)) (sym (e .2)) (s .pre .1 .1),
+          subst (Passed (a .start) (getD (a .board .now) 0 0)) (sym (e .1)) (s .pre .1 .1),
         ),
       ),
     )
@@ -112,7 +108,7 @@ by-effect c =
     let t = s .args .table .now in
     let g = view s in
     let e = columns-are w in
-    effect-by (e .0) (e .1) (e .2) (e .3) (e .4) (tableOf t) (getD (s .args .board .now) 0 0)
+    effect-by (e .0) refl (e .1) (e .2) (e .3) (tableOf t) (getD (s .args .board .now) 0 0)
     (senderIn (tableOf t) (caught w .sender-at .result)) (c .effect-of .ensures)
     (others t (g .board) (g .columns) (g .matches) (accepted s))
     (length-from (matchIn (tableOf t) (g .matches)) 0 (g .board .matches)) refl refl refl
@@ -122,7 +118,7 @@ eight c = simp length-map at (c .effect-of .ok .1 .1 .1 .1 .0 .1 .1 .1 .1 .1 .1 
 
 -- the message of a move that adds none
 abbrev none : DS.Sent
-none = record { channel = 0; property = 0; cents = pos 0 }
+none = record { channel = 0; property = 0; cents = pos 0; day = 0 }
 
 returns : tie.Need-returns
 unfolding boardFrom
@@ -154,7 +150,6 @@ step-move-spec =
     (λ c κs. search needs)
     shared-slice-read-effect-of
     shared-slice-read-effect-of-2
-    (λ c κs. search needs)
     (λ c κs. search needs)
     (λ c κs. search needs)
     (λ c κs. search needs)

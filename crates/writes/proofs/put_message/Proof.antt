@@ -1,4 +1,5 @@
 -- `writes::put_message` meets its contract: each store is within its list.
+use mathlib.Core.Path.{refl}
 use borrow.Author.Needs.{needs}
 use lib.Seq.{lt-length-set}
 use Rattle.writes.proofs.put_message.Statement.{statement}
@@ -13,6 +14,14 @@ slice-write-links-2 : tie.Need-slice-write-links-2
 slice-write-links-2 c =
     let a = c .before .args in
     lt-length-set (a .links .now) (a .n) _ (search needs)
+
+slice-write-keys-2 : tie.Need-slice-write-keys-2
+slice-write-keys-2 c =
+    let a = c .before .args in
+    lt-length-set (a .keys .now) (a .n) _ (search needs)
+
+returns : tie.Need-returns
+returns c = (refl, refl, refl, search needs)
 
 pub put-message-spec : {M : Type 1} → statement M
 put-message-spec =
@@ -31,8 +40,11 @@ put-message-spec =
     (λ c. search needs)
     (λ c. search needs)
     (λ c. search needs)
+    slice-write-keys-2
     (λ c. search needs)
     (λ c. search needs)
     (λ c. search needs)
     (λ c. search needs)
-    (λ c. search needs))
+    (λ c. search needs)
+    (λ c. search needs)
+    returns)
