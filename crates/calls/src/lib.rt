@@ -75,7 +75,7 @@ fn one_call(
     numbers: &[u32],
     amounts: &[i64],
 ) -> Said
-    requires { ⌜ (length (now calls) ≡ 3) × (length (now numbers) ≡ 1) × (length (now amounts) ≡ 1) ⌝ }
+    requires { ⌜ (length (now calls) ≡ 3) × (length (now numbers) ≡ 2) × (length (now amounts) ≡ 1) ⌝ }
     ensures { λ r. ⌜ Calls (now (table .entry))
         (lists (now (board .entry)) (now (bytes .entry)) (now (links .entry)) (now (keys .entry)) (now (cents .entry)))
         (callAt (callRows (now (calls .entry)) (now (numbers .entry)) (now (amounts .entry))) 0) (saidIn r)
@@ -125,7 +125,7 @@ pub fn add(
         keys,
         cents,
         &[1, i, x.channel],
-        &[x.property],
+        &[x.property, x.day],
         &[amount],
     )
 }

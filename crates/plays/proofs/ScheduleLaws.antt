@@ -122,8 +122,9 @@ module _ (c : CallRows) (k : ℕ) where
       → adds (getD (c .calls) (3 * k + 1) 0)
       (record {
         channel = getD (c .calls) (3 * k + 2) 0;
-        property = getD (c .numbers) k 0;
+        property = getD (c .numbers) (2 * k) 0;
         cents = getD (c .amounts) k (pos 0);
+        day = getD (c .numbers) (2 * k + 1) 0;
       })
       ≡ callAt c k
   unfolding callAt

@@ -15,7 +15,8 @@ use Rattle.columns.specs.Columns.{listFrom}
 use Rattle.boards.specs.Calls.{Held}
 use Rattle.refusals.specs.Calls.{boardOf, refusalOf, Beyond, callerOf, rowAt, Same-row, Plays}
 
--- the lent calls, a row each: of `calls` the kind, the sender and the channel, of `numbers` the property number
+-- the lent calls, a row each: of `calls` the kind, the sender and the channel, of `numbers` the property
+-- and the day
 pub record CallRows : Type 0 where
   pub calls : List ℕ
   pub numbers : List ℕ
@@ -34,8 +35,9 @@ callAt c k =
     (adds (getD (c .calls) (3 * k + 1) 0)
     (record {
       channel = getD (c .calls) (3 * k + 2) 0;
-      property = getD (c .numbers) k 0;
+      property = getD (c .numbers) (2 * k) 0;
       cents = getD (c .amounts) k (pos 0);
+      day = getD (c .numbers) (2 * k + 1) 0;
     }))
 
 abbrev pub callsOf : CallRows → List Call
@@ -47,7 +49,7 @@ Silent c n j = (k : ℕ) → k < n → j ≢ callerOf (callAt c k)
 
 -- the three lists have as many rows
 unfoldable pub rowsFit : CallRows → Bool
-rowsFit c = allOf (eqb (length (c .calls)) (3 * callsLen c) ∷ eqb (length (c .numbers)) (callsLen c) ∷ [])
+rowsFit c = allOf (eqb (length (c .calls)) (3 * callsLen c) ∷ eqb (length (c .numbers)) (2 * callsLen c) ∷ [])
 
 -- an answer as one number: the word, and beside it the value or the refusal's number, of which one is 0
 unfoldable pub answerNumber : Said → ℕ
@@ -66,7 +68,7 @@ replayNumber s h c room = refusalAfter (refusalOf s h) c room
 -- the rows fit, and there is room for the answers
 pub record Fit (c : CallRows) (room : ℕ) : Type 0 where
   pub calls-len : length (c .calls) ≡ 3 * callsLen c
-  pub numbers-len : length (c .numbers) ≡ callsLen c
+  pub numbers-len : length (c .numbers) ≡ 2 * callsLen c
   pub answers-all : callsLen c ≤ room
 
 -- rule 7.1: the calls, and what is said to them, from h to h′; each call is played on what the one before left

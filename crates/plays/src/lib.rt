@@ -74,7 +74,7 @@ pub fn play(
 
 // The call at a row.
 fn call_at(calls: &[u16], numbers: &[u32], amounts: &[i64], k: usize) -> Call
-    requires { ⌜ (3 * k + 3 ≤ length (now calls)) × (k < length (now numbers)) × (k < length (now amounts)) ⌝ }
+    requires { ⌜ (3 * k + 3 ≤ length (now calls)) × (2 * k + 2 ≤ length (now numbers)) × (k < length (now amounts)) ⌝ }
     ensures { λ r. ⌜ callIn r
         ≡ callAt (callRows (now (calls .entry)) (now (numbers .entry)) (now (amounts .entry))) k ⌝ }
 {
@@ -85,8 +85,9 @@ fn call_at(calls: &[u16], numbers: &[u32], amounts: &[i64], k: usize) -> Call
     }
     let x = Sent {
         channel: calls[at + 2],
-        property: numbers[k],
+        property: numbers[2 * k],
         cents: amounts[k],
+        day: numbers[2 * k + 1],
     };
     Call::Add(i, x)
 }
@@ -140,5 +141,5 @@ pub fn rows_fit(calls: &[u16], numbers: &[u32], amounts: &[i64]) -> bool
     ensures { λ r. ⌜ r ≡ rowsFit (callRows (now (calls .entry)) (now (numbers .entry)) (now (amounts .entry))) ⌝ }
 {
     let n = amounts.len();
-    (calls.len() == 3 * n) & (numbers.len() == n)
+    (calls.len() == 3 * n) & (numbers.len() == 2 * n)
 }

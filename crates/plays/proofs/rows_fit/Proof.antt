@@ -10,4 +10,4 @@ unfolding rowsFit
 returns c = refl
 
 pub rows-fit-spec : {M : Type 1} → statement M
-rows-fit-spec = tie.close (tie.spec (λ c. search needs) returns)
+rows-fit-spec = tie.close (tie.spec (λ c. search needs) (λ c. search needs) returns)
