@@ -9,7 +9,7 @@ ghost use Rattle.columns.specs.Columns.{Columns, columnsOf, messageIn};
 ghost use Rattle.columns.specs.MatchColumns.{MatchColumns};
 ghost use Rattle.boards.specs.Boards.{boardIn};
 ghost use Rattle.boards.specs.Layout.{boardLen, bytesLen, linksLen, keysLen, centsLen, lists, channelsIn};
-ghost use Rattle.boards.specs.Layout.{propertiesIn, statusesIn, matchedIn, wakersIn};
+ghost use Rattle.boards.specs.Layout.{statusesIn, matchedIn, wakersIn};
 ghost use Rattle.rows.specs.Decoded.{boardFrom};
 ghost use Rattle.refusals.specs.Held.{heldIn};
 ghost use Rattle.refusals.specs.Calls.{refusalOf};
@@ -153,7 +153,7 @@ pub fn step(
         keys,
         cents,
         &[0, i, 0],
-        &[0],
+        &[0, 0],
         &[0],
     )
 }
@@ -302,6 +302,7 @@ fn no_message() -> MessageRead
         channel: 0,
         property: 0,
         cents: 0,
+        day: 0,
         status: 0,
         matched: 0,
         waker: 0,
@@ -313,14 +314,14 @@ fn message_in(bytes: &[u8], links: &[u16], keys: &[u32], cents: &[i64], n: u16) 
     requires { ⌜ (length (now bytes) ≡ bytesLen) × (length (now links) ≡ linksLen) × (n < 1024) ⌝ }
     requires { ⌜ (length (now keys) ≡ keysLen) × (length (now cents) ≡ centsLen) ⌝ }
     ensures { λ r. ⌜ messageOf r ≡ messageIn (columnsOf (channelsIn (now (bytes .entry)))
-        (propertiesIn (now (keys .entry))) (now (cents .entry)) (statusesIn (now (bytes .entry)))
+        (now (keys .entry)) (now (cents .entry)) (statusesIn (now (bytes .entry)))
         (matchedIn (now (links .entry))) (wakersIn (now (links .entry)))) n ⌝ }
     ensures { λ r. ⌜ r .status ≡ getD (statusesIn (now (bytes .entry))) n 0 ⌝ }
 {
     reads::message_read(
         n,
         boards::channels(bytes),
-        boards::properties(keys),
+        keys,
         cents,
         boards::statuses(bytes),
         boards::matched(links),
