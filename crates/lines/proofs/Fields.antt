@@ -59,8 +59,8 @@ fields-some xs = go (ltb (spaceAt xs) (length xs)) refl
     go false e = (_, _, cut-last xs (ltb-false _ _ e))
 
 -- a field too many
-pub add-more : (d t p c xs : List ℕ) → addLine (d ∷ t ∷ p ∷ c ∷ fieldsOf xs) ≡ unreadable
-add-more d t p c xs = rw (fields-some xs .2)
+pub add-more : (d t p c y xs : List ℕ) → addLine (d ∷ t ∷ p ∷ c ∷ y ∷ fieldsOf xs) ≡ unreadable
+add-more d t p c y xs = rw (fields-some xs .2)
 
 pub step-more : (d xs : List ℕ) → stepLine (d ∷ fieldsOf xs) ≡ unreadable
 step-more d xs = rw (fields-some xs .2)
@@ -79,5 +79,3 @@ module _ (s : List ℕ) (at i : ℕ) (l : at ≤ length s) (e : i ≡ at + space
 
   pub field-last : length s ≤ i → fieldsOf (drop at s) ≡ drop at s ∷ []
   field-last h = cut-last (drop at s) (omega (arith, length-drop at s))
-
--- a part to the end is what is left

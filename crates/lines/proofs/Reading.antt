@@ -90,46 +90,62 @@ module _ (d : List ℕ) (x : ℕ) (e : x ≡ plusOne (isNumber 65535 d) (digitsV
   step-some h = let p = plus-some (isNumber 65535 d) (digitsValue d) x e h in rw (p .0, p .1)
 
 -- an add
-module _ (d t p c : List ℕ) where
-  add-none : (isNumber 65535 d && (isNumber 65535 t && (isNumber 4294967295 p && isCents c))) ≡ false
-      → unreadable ≡ addOf d t p c
+module _ (d t p c y : List ℕ) where
+  add-none : (isNumber 65535 d
+      && (isNumber 65535 t && (isNumber 4294967295 p && (isCents c && isNumber 4294967295 y)))) ≡ false
+      → unreadable ≡ addOf d t p c y
   unfolding addOf
   add-none e = rw e
 
-  pub no-sender : (x : ℕ) → x ≡ plusOne (isNumber 65535 d) (digitsValue d) → x ≡ 0 → unreadable ≡ addOf d t p c
+  pub no-sender : (x : ℕ) → x ≡ plusOne (isNumber 65535 d) (digitsValue d) → x ≡ 0 → unreadable ≡ addOf d t p c y
   no-sender x e z = add-none (rw (plus-none (isNumber 65535 d) (digitsValue d) x e z))
 
-  pub no-channel : (x : ℕ) → x ≡ plusOne (isNumber 65535 t) (digitsValue t) → x ≡ 0 → unreadable ≡ addOf d t p c
+  pub no-channel : (x : ℕ) → x ≡ plusOne (isNumber 65535 t) (digitsValue t) → x ≡ 0 → unreadable ≡ addOf d t p c y
   no-channel x e z =
       add-none (rw (plus-none (isNumber 65535 t) (digitsValue t) x e z, and-false (isNumber 65535 d)))
 
-  pub no-property : (x : ℕ) → x ≡ plusOne (isNumber 4294967295 p) (digitsValue p) → x ≡ 0 → unreadable ≡ addOf d t p c
+  pub no-property : (x : ℕ) → x ≡ plusOne (isNumber 4294967295 p) (digitsValue p) → x ≡ 0
+      → unreadable ≡ addOf d t p c y
   no-property x e z =
       let n = plus-none (isNumber 4294967295 p) (digitsValue p) x e z in
       add-none (rw (n, and-false (isNumber 65535 t), and-false (isNumber 65535 d)))
 
-  pub no-cents : (x : ℕ) → x ≡ plusOne (isCents c) (digitsValue (digitsOf c)) → x ≡ 0 → unreadable ≡ addOf d t p c
+  pub no-cents : (x : ℕ) → x ≡ plusOne (isCents c) (digitsValue (digitsOf c)) → x ≡ 0 → unreadable ≡ addOf d t p c y
   no-cents x e z =
       let n = plus-none (isCents c) (digitsValue (digitsOf c)) x e z in
       add-none
       (rw (n, and-false (isNumber 4294967295 p), and-false (isNumber 65535 t), and-false (isNumber 65535 d)))
 
-  pub some-add : (x y z w : ℕ) → x ≡ plusOne (isNumber 65535 d) (digitsValue d)
-      → y ≡ plusOne (isNumber 65535 t) (digitsValue t) → z ≡ plusOne (isNumber 4294967295 p) (digitsValue p)
-      → w ≡ plusOne (isCents c) (digitsValue (digitsOf c))
-      → (x ≡ 0 → ⊥) → (y ≡ 0 → ⊥) → (z ≡ 0 → ⊥) → (w ≡ 0 → ⊥)
-      → reads (adds (x - 1) (record {
-        channel = y - 1;
-        property = z - 1;
-        cents = pick (isMinus c) (negℤ (pos (w - 1))) (pos (w - 1));
-      })) ≡ addOf d t p c
+  pub no-day : (x : ℕ) → x ≡ plusOne (isNumber 4294967295 y) (digitsValue y) → x ≡ 0 → unreadable ≡ addOf d t p c y
+  no-day x e z =
+      let n = plus-none (isNumber 4294967295 y) (digitsValue y) x e z in
+      add-none
+      (rw (
+        n,
+        and-false (isCents c),
+        and-false (isNumber 4294967295 p),
+        and-false (isNumber 65535 t),
+        and-false (isNumber 65535 d),
+      ))
+
+  pub some-add : (i j k l m : ℕ) → i ≡ plusOne (isNumber 65535 d) (digitsValue d)
+      → j ≡ plusOne (isNumber 65535 t) (digitsValue t) → k ≡ plusOne (isNumber 4294967295 p) (digitsValue p)
+      → l ≡ plusOne (isCents c) (digitsValue (digitsOf c)) → m ≡ plusOne (isNumber 4294967295 y) (digitsValue y)
+      → (i ≡ 0 → ⊥) → (j ≡ 0 → ⊥) → (k ≡ 0 → ⊥) → (l ≡ 0 → ⊥) → (m ≡ 0 → ⊥)
+      → reads (adds (i - 1) (record {
+        channel = j - 1;
+        property = k - 1;
+        cents = pick (isMinus c) (negℤ (pos (l - 1))) (pos (l - 1));
+        day = m - 1;
+      })) ≡ addOf d t p c y
   unfolding addOf centsFrom
-  some-add x y z w ex ey ez ew x0 y0 z0 w0 =
-      let a = plus-some (isNumber 65535 d) (digitsValue d) x ex x0 in
-      let b = plus-some (isNumber 65535 t) (digitsValue t) y ey y0 in
-      let m = plus-some (isNumber 4294967295 p) (digitsValue p) z ez z0 in
-      let n = plus-some (isCents c) (digitsValue (digitsOf c)) w ew w0 in
-      rw (a .0, a .1, b .0, b .1, m .0, m .1, n .0, n .1)
+  some-add i j k l m ei ej ek el em i0 j0 k0 l0 m0 =
+      let a = plus-some (isNumber 65535 d) (digitsValue d) i ei i0 in
+      let b = plus-some (isNumber 65535 t) (digitsValue t) j ej j0 in
+      let u = plus-some (isNumber 4294967295 p) (digitsValue p) k ek k0 in
+      let v = plus-some (isCents c) (digitsValue (digitsOf c)) l el l0 in
+      let w = plus-some (isNumber 4294967295 y) (digitsValue y) m em m0 in
+      rw (a .0, a .1, b .0, b .1, u .0, u .1, v .0, v .1, w .0, w .1)
 
 -- the first field
 line-none : (f : List ℕ) → lineBy (f ∷ []) ≡ unreadable

@@ -2,6 +2,7 @@
 use boards::Call;
 use boards::Sent;
 ghost use mathlib.Core.Path.{_≡_};
+ghost use mathlib.Core.List.{_∷_};
 ghost use Prim.Native.Nat.{_+_, _-_, _*_, _≤_};
 ghost use lib.IntN.{pos, negℤ};
 ghost use lib.ListN.{length, drop};
@@ -113,10 +114,11 @@ fn signed(minus: bool, n: u64) -> i64
     v
 }
 
-// An add by its four fields.
-fn add_of(sender: &[u8], channel: &[u8], property: &[u8], cents: &[u8]) -> Line
+// An add by its five fields.
+fn add_of(sender: &[u8], channel: &[u8], property: &[u8], cents: &[u8], day: &[u8]) -> Line
     ensures { λ r. ⌜
         lineIn r ≡ addOf (now (sender .entry)) (now (channel .entry)) (now (property .entry)) (now (cents .entry))
+        (now (day .entry))
         ⌝ }
 {
     let d = number(sender, 65535);
@@ -135,13 +137,37 @@ fn add_of(sender: &[u8], channel: &[u8], property: &[u8], cents: &[u8]) -> Line
     if c == 0 {
         return Line::Unreadable;
     }
+    let y = number(day, 4294967295);
+    if y == 0 {
+        return Line::Unreadable;
+    }
     let v = signed(is_minus(cents), c - 1);
     let x = Sent {
         channel: (t - 1) as u16,
         property: (p - 1) as u32,
         cents: v,
+        day: (y - 1) as u32,
     };
     Line::Reads(Call::Add((d - 1) as u16, x))
+}
+
+// An add by its first three fields and what follows them: the cents, then a day or none, which is day 0.
+fn read_rest(sender: &[u8], channel: &[u8], property: &[u8], rest: &[u8]) -> Line
+    ensures { λ r. ⌜
+        lineIn r
+        ≡ addLine
+        (now (sender .entry) ∷ now (channel .entry) ∷ now (property .entry) ∷ fieldsOf (now (rest .entry)))
+        ⌝ }
+{
+    let i = byte_from(rest, 0, b' ');
+    if i == rest.len() {
+        return add_of(sender, channel, property, rest, b"0");
+    }
+    let day = i + 1;
+    if byte_from(rest, day, b' ') < rest.len() {
+        return Line::Unreadable;
+    }
+    add_of(sender, channel, property, &rest[0..i], &rest[day..])
 }
 
 // An add by what follows the `a` and its space.
@@ -164,10 +190,7 @@ fn read_add(s: &[u8], at: usize) -> Line
         return Line::Unreadable;
     }
     let cents = k + 1;
-    if byte_from(s, cents, b' ') < s.len() {
-        return Line::Unreadable;
-    }
-    add_of(&s[at..i], &s[channel..j], &s[property..k], &s[cents..])
+    read_rest(&s[at..i], &s[channel..j], &s[property..k], &s[cents..])
 }
 
 // A step by what follows the `s` and its space.

@@ -6,6 +6,7 @@ pub struct Message {
     pub channel: u8,
     pub property: u32,
     pub cents: i64,
+    pub day: u32,
     pub status: u8,
     pub matched: u16,
     pub waker: u16,

@@ -1,11 +1,10 @@
--- `lines::read_add` meets its contract: four fields, cut one after the other.
+-- `lines::read_add` meets its contract: three fields, cut one after the other, and the rest.
 use Rattle.model.proofs.Parts.{to-end}
-use mathlib.Core.Path.{sym}
 use mathlib.Core.List.{List}
 use Prim.Native.Nat.{ℕ, _+_, _≤_}
 use native.Mathlib.Omega.{arith}
 use lib.ListN.{length}
-use Rattle.lines.proofs.Fields.{Cut, field-more, field-last, add-more}
+use Rattle.lines.proofs.Fields.{Cut, field-more, field-last}
 use borrow.Author.Needs.{needs}
 use Rattle.lines.proofs.read_add.Statement.{statement}
 use Rattle.lines.proofs.read_add.Tie as tie
@@ -76,32 +75,10 @@ returns-3 c =
 
 returns-4 : tie.Need-returns-4
 returns-4 c =
-    let c3 = c .before .before in
+    let c3 = c .before .before .before .before .before in
     let c2 = c3 .before .before in
     let c1 = c2 .before .before in
-    let q = c .before .byte-from4 in
-    rw (
-      first c1,
-      second c2,
-      third c3,
-      field-more (bytes c1) (place3 c3 + 1) _ (within3 c3) (q .ensures .0) (c .if4 .taken),
-    )
-    (sym (add-more _ _ _ _ _))
-
-returns-5 : tie.Need-returns-5
-returns-5 c =
-    let c4 = c .before .before .before .before .before in
-    let c3 = c4 .before .before in
-    let c2 = c3 .before .before in
-    let c1 = c2 .before .before in
-    let q = c4 .before .byte-from4 in
-    rw (
-      first c1,
-      second c2,
-      third c3,
-      field-last (bytes c1) (place3 c3 + 1) _ (within3 c3) (q .ensures .0) (c4 .if4 .left),
-    )
-    (rw (to-end (bytes c1) (place3 c3 + 1)) at (c .add-of .ensures))
+    rw (first c1, second c2, third c3) (rw (to-end (bytes c1) (place3 c3 + 1)) at (c .read-rest .ensures))
 
 pub read-add-spec : {M : Type 1} → statement M
 read-add-spec =
@@ -116,8 +93,6 @@ read-add-spec =
     (λ c κs. search needs)
     returns-3
     (λ c. search needs)
-    (λ c κs. search needs)
-    returns-4
     (λ c. search needs)
     (λ c. search needs)
     (λ c. search needs)
@@ -131,4 +106,4 @@ read-add-spec =
     (λ c. search needs)
     (λ c. search needs)
     (λ c κs. search needs)
-    returns-5)
+    returns-4)

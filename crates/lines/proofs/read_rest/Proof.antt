@@ -1,0 +1,66 @@
+-- `lines::read_rest` meets its contract: cents alone, or cents and a day.
+use Rattle.model.proofs.Parts.{to-end}
+use mathlib.Core.Path.{sym}
+use mathlib.Core.List.{List}
+use Prim.Native.Nat.{ℕ, _+_, _≤_}
+use native.Mathlib.Omega.{arith}
+use lib.ListN.{length}
+use Rattle.lines.proofs.Fields.{Cut, field-more, field-last, add-more}
+use borrow.Author.Needs.{needs}
+use Rattle.lines.proofs.read_rest.Statement.{statement}
+use Rattle.lines.proofs.read_rest.Tie as tie
+
+-- what follows the property, and where the cents end
+abbrev bytes : tie.Else1 → List ℕ
+bytes c = c .before .before .before .before .before .before .args .rest .now
+
+abbrev place : tie.Else1 → ℕ
+place c = c .before .byte-from .result
+
+within : (c : tie.Else1) → place c + 1 ≤ length (bytes c)
+within c = omega (arith, c .before .byte-from .ensures .1, c .if1 .left)
+
+cents : (c : tie.Else1) → Cut (bytes c) 0 (place c)
+cents c = field-more (bytes c) 0 _ (omega arith) (c .before .byte-from .ensures .0) (omega (arith, within c))
+
+returns : tie.Need-returns
+returns c =
+    let t = c .before .before in
+    let q = t .before .byte-from in
+    let s = t .before .before .before .before .before .before in
+    rw (field-last (s .args .rest .now) 0 _ (omega arith) (q .ensures .0) (omega (arith, t .if1 .taken)))
+    (c .add-of .ensures)
+
+returns-2 : tie.Need-returns-2
+returns-2 c =
+    let c1 = c .before .before in
+    let e = c .before .byte-from2 .ensures .0 in
+    rw (cents c1, field-more (bytes c1) (place c1 + 1) _ (within c1) e (c .if2 .taken)) (sym (add-more _ _ _ _ _ _))
+
+returns-3 : tie.Need-returns-3
+returns-3 c =
+    let c2 = c .before .before .before in
+    let c1 = c2 .before .before in
+    let e = c2 .before .byte-from2 .ensures .0 in
+    rw (cents c1, field-last (bytes c1) (place c1 + 1) _ (within c1) e (c2 .if2 .left))
+    (rw (to-end (bytes c1) (place c1 + 1)) at (c .add-of2 .ensures))
+
+pub read-rest-spec : {M : Type 1} → statement M
+read-rest-spec =
+    tie.close
+    (tie.spec
+    (λ c κs. search needs)
+    (λ c. search needs)
+    (λ c κs. search needs)
+    returns
+    (λ c. search needs)
+    (λ c κs. search needs)
+    returns-2
+    (λ c. search needs)
+    (λ c. search needs)
+    (λ c. search needs)
+    (λ c. search needs)
+    (λ c. search needs)
+    (λ c. search needs)
+    (λ c κs. search needs)
+    returns-3)
