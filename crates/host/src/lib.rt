@@ -83,16 +83,18 @@ pub extern "C" fn gv_add(
     channel: u16,
     property: u32,
     amount: i64,
+    day: u32,
 ) -> u32
     ensures { λ r. ⌜ Answers (now (table .entry))
         (lists (now (board .entry)) (now (bytes .entry)) (now (links .entry)) (now (keys .entry)) (now (cents .entry)))
-        (adds sender (sent channel property amount)) r
+        (adds sender (sent channel property amount day)) r
         (lists (now (board .exit)) (now (bytes .exit)) (now (links .exit)) (now (keys .exit)) (now (cents .exit))) ⌝ }
 {
     let x = Sent {
         channel: channel,
         property: property,
         cents: amount,
+        day: day,
     };
     let said = calls::add(table, board, bytes, links, keys, cents, sender, x);
     plays::answer_number(said)
@@ -132,9 +134,9 @@ pub extern "C" fn gv_replay(
     )
 }
 
-// A message's six numbers.
+// A message's seven numbers.
 fn put_message(out: &mut [i64], m: MessageRead)
-    requires { ⌜ 6 ≤ length (now out) ⌝ }
+    requires { ⌜ 7 ≤ length (now out) ⌝ }
     requires { ⌜ m .status ≤ 3 ⌝ }
     ensures { λ _. ⌜ now (out .exit) ≡ storedIn (messageNumbers (messageOf m)) (now (out .entry)) ⌝ }
 {
@@ -145,6 +147,7 @@ fn put_message(out: &mut [i64], m: MessageRead)
     out[3] = m.status as i64;
     out[4] = m.matched as i64;
     out[5] = m.waker as i64;
+    out[6] = m.day as i64;
 }
 
 // One number.
@@ -181,7 +184,7 @@ fn put_match(out: &mut [i64], m: MatchRead)
     out[2] = cents;
 }
 
-// Reads a message: channel, property, cents, status, match plus 1, waker plus 1.
+// Reads a message: channel, property, cents, status, match plus 1, waker plus 1, day.
 #[no_mangle]
 pub extern "C" fn gv_read_message(
     table: &[u8],
@@ -205,7 +208,7 @@ pub extern "C" fn gv_read_message(
     if number != 0 {
         return number;
     }
-    if out.len() < 6 {
+    if out.len() < 7 {
         return 31;
     }
     let m = read.message;

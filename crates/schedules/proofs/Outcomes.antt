@@ -123,6 +123,20 @@ module _ (s : List ℕ) (h : Held) (k : Call) (v w : Said) (f g : Held) (z : ref
           → SameFrom (f .board .messages) xs zs → SameFrom (g .board .messages) ys zs → xs ≡ ys
       each d xs ys zs = column d (f .board .messages) (g .board .messages) xs ys zs messages-count
 
+      keys : f .columns .keys ≡ g .columns .keys
+      keys =
+          let k = f .columns .keys in
+          let m = g .columns .keys in
+          from-part _ _ 0 1024
+          (each 0 _ _ _ (length-part 0 1024 k (omega (arith, a .keys-len)))
+          (length-part 0 1024 m (omega (arith, b .keys-len)))
+          (λ i l. property-same i l) (p .beyond .properties) (q .beyond .properties))
+          (from-part _ _ daysAt 1024
+          (each 0 _ _ _ (length-part daysAt 1024 k (omega (arith, a .keys-len)))
+          (length-part daysAt 1024 m (omega (arith, b .keys-len)))
+          (λ i l. day-same i l) (p .beyond .days) (q .beyond .days))
+          (past-ends k m 2048 (omega (arith, a .keys-len)) (omega (arith, b .keys-len))))
+
       go : columnsOf (f .columns .channels) (f .columns .keys) (f .columns .cents) (f .columns .statuses)
           (f .columns .matched) (f .columns .wakers)
           ≡ columnsOf (g .columns .channels) (g .columns .keys) (g .columns .cents) (g .columns .statuses)
@@ -132,9 +146,7 @@ module _ (s : List ℕ) (h : Held) (k : Call) (v w : Said) (f g : Held) (z : ref
             each 0 _ _ _ (a .channels-len) (b .channels-len)
                 (λ i l. ap (λ (x : Message). x .sent .channel) (message-same i l)) (p .beyond .channels)
                 (q .beyond .channels),
-            each 0 _ _ _ (a .keys-len) (b .keys-len)
-                (λ i l. ap (λ (x : Message). x .sent .property) (message-same i l)) (p .beyond .keys)
-                (q .beyond .keys),
+            keys,
             each (pos 0) _ _ _ (a .cents-len) (b .cents-len)
                 (λ i l. ap (λ (x : Message). x .sent .cents) (message-same i l)) (p .beyond .cents)
                 (q .beyond .cents),

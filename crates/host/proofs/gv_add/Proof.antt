@@ -15,10 +15,10 @@ use Rattle.host.proofs.gv_add.Statement.{statement}
 use Rattle.host.proofs.gv_add.Tie as tie
 
 -- cents as the machine holds them
-cents-as : {s : List ℕ} {l l′ : Lists} {w : Said} (i channel property : ℕ) (x y : ℤ) → x ≡ y
-    → Calls s l (adds i (sent channel property x)) w l′ → Calls s l (adds i (sent channel property y)) w l′
-cents-as {s} {l} {l′} {w} i channel property x y e p =
-    subst (λ (z : ℤ). Calls s l (adds i (sent channel property z)) w l′) e p
+cents-as : {s : List ℕ} {l l′ : Lists} {w : Said} (i channel property : ℕ) (x y : ℤ) (day : ℕ) → x ≡ y
+    → Calls s l (adds i (sent channel property x day)) w l′ → Calls s l (adds i (sent channel property y day)) w l′
+cents-as {s} {l} {l′} {w} i channel property x y day e p =
+    subst (λ (z : ℤ). Calls s l (adds i (sent channel property z day)) w l′) e p
 
 returns : tie.Need-returns
 returns c =
@@ -28,7 +28,7 @@ returns c =
     record {
       said = _;
       number = c .answer-number .ensures;
-      calls = cents-as (a .sender) (a .channel) (a .property) _ (a .amount)
+      calls = cents-as (a .sender) (a .channel) (a .property) _ (a .amount) (a .day)
           (toZ-ofZ w64 (a .amount) (s .fits .amount)) (p .add .ensures);
     }
 

@@ -1,4 +1,4 @@
--- `host::put_message` meets its contract: six stores are the six numbers.
+-- `host::put_message` meets its contract: seven stores are the seven numbers.
 use mathlib.Core.Path.{refl}
 use borrow.Author.Needs.{needs}
 use lib.ListN.{length-set}
@@ -19,16 +19,23 @@ slice-set-from-out-3 c = simp length-set (omega arith)
 slice-set-from-out-4 : tie.Need-slice-set-from-out-4
 slice-set-from-out-4 c = simp length-set (omega arith)
 
+slice-set-from-out-5 : tie.Need-slice-set-from-out-5
+slice-set-from-out-5 c = simp length-set (omega arith)
+
+slice-set-from-out-6 : tie.Need-slice-set-from-out-6
+slice-set-from-out-6 c = simp length-set (omega arith)
+
 same-length : tie.Need-same-length
 same-length c = simp length-set refl
 
 returns : tie.Need-returns
 returns c =
-    let s = c .before .before .before .before .before .before in
+    let s = c .before .before .before .before .before .before .before in
     let a = s .args in
     let g = s .good .1 .0 .1 .1 in
     message-put (a .m) (s .pre .1) (a .out .now) (s .pre .0) (omega (arith, g .0 .1)) (omega (arith, g .1 .0 .1))
-    (omega (arith, g .1 .1 .0 .1)) (omega (arith, g .1 .1 .1 .1 .0 .1)) (omega (arith, g .1 .1 .1 .1 .1 .0 .1))
+    (omega (arith, g .1 .1 .0 .1)) (omega (arith, g .1 .1 .1 .0 .1)) (omega (arith, g .1 .1 .1 .1 .1 .0 .1))
+    (omega (arith, g .1 .1 .1 .1 .1 .1 .0 .1))
 
 pub put-message-spec : {M : Type 1} → statement M
 put-message-spec =
@@ -44,6 +51,8 @@ put-message-spec =
     (λ c. search needs)
     slice-set-from-out-4
     (λ c. search needs)
+    slice-set-from-out-5
     (λ c. search needs)
+    slice-set-from-out-6
     same-length
     returns)
