@@ -16,10 +16,10 @@ use Rattle.refusals.proofs.HeldLaws.{held-is}
 
 -- two lists agree past their ends, and from a part on where they agree in it and past it
 module _ {A : Type 0} (xs ys : List A) where
-  past-ends : (n : ℕ) → length xs ≤ n → length ys ≤ n → SameFrom n xs ys
+  pub past-ends : (n : ℕ) → length xs ≤ n → length ys ≤ n → SameFrom n xs ys
   past-ends n k l = drop-of-length-le xs k ∙ sym (drop-of-length-le ys l)
 
-  from-part : (at n : ℕ) → part at n xs ≡ part at n ys → SameFrom (at + n) xs ys → SameFrom at xs ys
+  pub from-part : (at n : ℕ) → part at n xs ≡ part at n ys → SameFrom (at + n) xs ys → SameFrom at xs ys
   unfolding part
   from-part at n e f =
       sym (take-append-drop n (drop at xs)) ∙ ap (λ z. z ++ drop n (drop at xs)) e

@@ -16,7 +16,7 @@ use Rattle.model.specs.Pools.{Call, adds, steps, answerTo}
 use Rattle.model.proofs.Tests.{same?}
 use Rattle.model.proofs.Grows.{code}
 use Rattle.model.proofs.StepFrame.{frame}
-use Rattle.columns.specs.Columns.{messageIn, columnsOf}
+use Rattle.columns.specs.Columns.{messageIn, columnsOf, daysAt}
 use Rattle.columns.specs.MatchColumns.{matchIn, matchesOf}
 use Rattle.state.specs.declared.Sender as DD
 use Rattle.state.specs.Views.{senderIn}
@@ -24,12 +24,14 @@ use Rattle.boards.specs.Boards.{HeldBoard, zeroSender}
 use Rattle.boards.specs.Calls.{Held, held}
 use Rattle.boards.specs.Layout.{Lists}
 use Rattle.boards.specs.Parts.{part}
+use Rattle.boards.proofs.PartLaws.{length-part, getD-part}
 use Rattle.boards.proofs.SenderLaws.{nth-sender}
 use Rattle.refusals.specs.Judged.{Lengths}
 use Rattle.refusals.specs.Held.{heldIn}
 use Rattle.refusals.specs.Calls.{boardOf, refusalOf, SameFrom, callerOf, rowAt, Plays}
 use Rattle.refusals.proofs.HeldLaws.{accepted-lists}
-use Rattle.refusals.proofs.HeldOnce.{held-once}
+use Rattle.refusals.proofs.HeldOnce.{from-part, past-ends, held-once}
+use Rattle.refusals.proofs.Refusals.{messages-few}
 use Rattle.plays.specs.Replays.{CallRows, callsLen, callsOf, answerNumber, Plays-in-turn}
 use Rattle.calls.specs.Calls.{Calls, Replays-in}
 use Rattle.schedules.specs.Outcomes.{Leaves-alike, Turns-alike, Replays-alike, Determined}
@@ -123,19 +125,35 @@ module _ (s : List ℕ) (h : Held) (k : Call) (v w : Said) (f g : Held) (z : ref
           → SameFrom (f .board .messages) xs zs → SameFrom (g .board .messages) ys zs → xs ≡ ys
       each d xs ys zs = column d (f .board .messages) (g .board .messages) xs ys zs messages-count
 
+      key : (at : ℕ) (ks : List ℕ) (i : ℕ) → i < f .board .messages → getD (part at 1024 ks) i 0 ≡ getD ks (at + i) 0
+      key at ks i l =
+          let few = messages-few s _ _ _ (p .accepted z) in
+          getD-part at 1024 ks (at + i) i 0 refl (omega arith)
+
+      keys-part : (at : ℕ) → at + 1024 ≤ 2048 → ((i : ℕ) → i < f .board .messages
+          → getD (f .columns .keys) (at + i) 0 ≡ getD (g .columns .keys) (at + i) 0)
+          → SameFrom (f .board .messages) (part at 1024 (f .columns .keys)) (part at 1024 (h .columns .keys))
+          → SameFrom (g .board .messages) (part at 1024 (g .columns .keys)) (part at 1024 (h .columns .keys))
+          → part at 1024 (f .columns .keys) ≡ part at 1024 (g .columns .keys)
+      keys-part at n e =
+          each 0 _ _ _ (length-part at 1024 _ (omega (arith, a .keys-len))) (length-part at 1024 _ (omega (arith, b .keys-len)))
+          (λ i l. key at _ i l ∙ e i l ∙ sym (key at _ i l))
+
+      property-same : (i : ℕ) → i < f .board .messages
+          → getD (f .columns .keys) (0 + i) 0 ≡ getD (g .columns .keys) (0 + i) 0
+      property-same i l =
+          let e : 0 + i ≡ i = omega arith in
+          rw e (ap (λ (x : Message). x .sent .property) (message-same i l))
+
       keys : f .columns .keys ≡ g .columns .keys
       keys =
-          let k = f .columns .keys in
-          let m = g .columns .keys in
-          from-part _ _ 0 1024
-          (each 0 _ _ _ (length-part 0 1024 k (omega (arith, a .keys-len)))
-          (length-part 0 1024 m (omega (arith, b .keys-len)))
-          (λ i l. property-same i l) (p .beyond .properties) (q .beyond .properties))
-          (from-part _ _ daysAt 1024
-          (each 0 _ _ _ (length-part daysAt 1024 k (omega (arith, a .keys-len)))
-          (length-part daysAt 1024 m (omega (arith, b .keys-len)))
-          (λ i l. day-same i l) (p .beyond .days) (q .beyond .days))
-          (past-ends k m 2048 (omega (arith, a .keys-len)) (omega (arith, b .keys-len))))
+          from-part (f .columns .keys) (g .columns .keys) 0 1024
+          (keys-part 0 (omega arith) property-same (p .beyond .properties) (q .beyond .properties))
+          (from-part (f .columns .keys) (g .columns .keys) daysAt 1024
+          (keys-part daysAt (omega arith) (λ i l. ap (λ (x : Message). x .sent .day) (message-same i l))
+          (p .beyond .days) (q .beyond .days))
+          (past-ends (f .columns .keys) (g .columns .keys) 2048 (omega (arith, a .keys-len))
+          (omega (arith, b .keys-len))))
 
       go : columnsOf (f .columns .channels) (f .columns .keys) (f .columns .cents) (f .columns .statuses)
           (f .columns .matched) (f .columns .wakers)
