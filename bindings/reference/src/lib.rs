@@ -25,6 +25,8 @@ pub use numbers::{NUMBERS, SENDER_NUMBERS};
 pub use table::{Chord, Table};
 
 #[cfg(test)]
+mod look_tests;
+#[cfg(test)]
 mod merge_tests;
 #[cfg(test)]
 mod tests;
