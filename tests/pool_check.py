@@ -35,7 +35,7 @@ def can_be_met(rule, pool, items):
 
 
 class Watched(oracle.Board):
-    """Counts what the days decided: an older item before a lower number, the lower number of equal days, and extremes."""
+    """Counts what the days decided: older items before lower numbers, lower numbers of equal days, and extremes."""
 
     def __init__(self, table):
         super().__init__(table)

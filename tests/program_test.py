@@ -23,8 +23,10 @@ TABLE_P = (ROOT / "examples" / "table-p" / "rules.bin").read_bytes()
 RUN_OF_P = (ROOT / "examples" / "table-p" / "input").read_bytes()
 DAY_LINE = b"a 0 0 7 5000"
 DAYS = (b"", b" 0", b" 1", b" 4294967295", b" 004294967295", b" " + b"0" * 40)
-UNREADABLE_DAYS = (b" ", b" 4294967296", b" 04294967296", b" 99999999999", b" -1", b" -0", b" +1", b" x", b" 1x", b" 1 ",
-                   b"  1", b" 1 2", b" 1 2 3", b" 1\r", b"\t1", b" 0x1", b" " + b"9" * 67)  # fmt: skip
+UNREADABLE_DAYS = (
+    b" ", b" 4294967296", b" 04294967296", b" 99999999999", b" -1", b" -0", b" +1", b" x", b" 1x", b" 0x1", b" 1 ",
+    b"  1", b" 1 2", b" 1 2 3", b" 1\r", b"\t1", b" " + b"9" * 67,
+)  # fmt: skip
 
 
 def with_day(line):
