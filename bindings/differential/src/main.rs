@@ -3,8 +3,8 @@
 //!     differential [--calls N] [--merges N] [--seed S] [--fault KIND]
 //!
 //! Random schedules, with excursions to sound boards that no schedule reaches, to damaged lists and tables, and to
-//! lists of another length. From 100,000 calls on, every word, the refusals 8 to 13, every sort of damage and looks that
-//! the days decide must occur.
+//! lists of another length. From 100,000 calls on, every word, the refusals 8 to 13, every sort of damage and looks
+//! that the days decide must occur.
 //!
 //! Then merges of random tables, whole and damaged, and for every hundred of them two schedules that are played under a
 //! table and under a merged one: one inside request 1's law, which is answered alike, and one that leaves it. From

@@ -91,6 +91,19 @@ fn looks() {
     look("one in eight fits, rising days", |columns, at| {
         (columns.properties[at], columns.days[at]) = (u32::from(at % 8 != 5), 1 + at as u32);
     });
+    look("one in sixteen fits, older ones are consumed", |columns, at| {
+        (columns.statuses[at], columns.days[at]) =
+            if at % 16 == 9 { (0, 5000 + at as u32) } else { (3, 1 + at as u32) };
+    });
+    look("one in sixteen fits, falling days", |columns, at| {
+        (columns.statuses[at], columns.days[at]) = (if at % 16 == 9 { 0 } else { 3 }, 1024 - at as u32);
+    });
+    look("one fits, the last, all others are consumed", |columns, at| {
+        (columns.statuses[at], columns.days[at]) = (if at == 1023 { 0 } else { 3 }, 1 + at as u32);
+    });
+    look("two fit, the first and the last, older ones are consumed", |columns, at| {
+        (columns.statuses[at], columns.days[at]) = if at % 1023 == 0 { (0, 5000) } else { (3, 1 + at as u32) };
+    });
     look("one fits, the last", |columns, at| columns.properties[at] = u32::from(at != 1023));
     look("none of the property", |columns, at| columns.properties[at] = 1);
     look("none of the channel", |columns, at| columns.channels[at] = 0);

@@ -42,10 +42,13 @@ impl Columns {
     }
 
     /// The oldest, given the first that fits; of its block and those after it.
+    #[inline(never)]
     fn oldest_from(&self, first: u16, count: u16, wanted: Wanted, chosen: &[u16]) -> u16 {
         let mut best = self.key(first);
         for block in first as usize / 64..(count as usize).div_ceil(64) {
-            if any_before(part(&self.days, block), (best >> 16) as u32) {
+            if any_of_64(part(&self.channels, block), part(&self.statuses, block), wanted.channel, PENDING)
+                && any_before(part(&self.days, block), (best >> 16) as u32)
+            {
                 best = self.older_in(block, count, wanted, chosen, best);
             }
             if best < 1 << 16 {
@@ -58,9 +61,15 @@ impl Columns {
     /// The least key of the block's messages that fit, or `best` if that is less.
     fn older_in(&self, block: usize, count: u16, wanted: Wanted, chosen: &[u16], best: u64) -> u64 {
         let mut free = free_of_64(part(&self.channels, block), part(&self.statuses, block), wanted.channel);
-        free[(count as usize - 64 * block).min(64)..].fill(0);
+        let counted = count as usize - 64 * block;
+        if counted < 64 {
+            free[counted..].fill(0);
+        }
         chosen.iter().filter(|&&at| at as usize / 64 == block).for_each(|&at| free[at as usize % 64] = 0);
         let (properties, days) = (part(&self.properties, block), part(&self.days, block));
+        if is_few(&free) {
+            return self.older_of_few(block, &free, wanted.property, best);
+        }
         let days = match wanted.property {
             Some(property) => days_of(days, |at| u32::from(free[at]) & u32::from(properties[at] == property)),
             None => days_of(days, |at| free[at].into()),
@@ -70,6 +79,20 @@ impl Columns {
             return best;
         }
         self.key((64 * block) as u16 + place_of(&days, least))
+    }
+
+    fn older_of_few(&self, block: usize, free: &[u8; 64], property: Option<u32>, mut best: u64) -> u64 {
+        for (eight, bytes) in free.as_chunks::<8>().0.iter().enumerate() {
+            let mut ones = u64::from_le_bytes(*bytes);
+            while ones != 0 {
+                let message = (64 * block + 8 * eight) as u16 + (ones.trailing_zeros() / 8) as u16;
+                if self.has_property(message, property) {
+                    best = best.min(self.key(message));
+                }
+                ones &= ones - 1;
+            }
+        }
+        best
     }
 
     /// Day and number as one number.
@@ -98,6 +121,11 @@ fn free_of_64(channels: &[u8; 64], statuses: &[u8; 64], channel: u8) -> [u8; 64]
         free[at] = u8::from(channels[at] == channel) & u8::from(statuses[at] == PENDING);
     }
     free
+}
+
+/// So few of sixty-four are visited one by one; of more the days are compared all together.
+fn is_few(free: &[u8; 64]) -> bool {
+    free.iter().sum::<u8>() <= 12
 }
 
 /// The days of those that fit, `u32::MAX` in place of the others'.

@@ -41,8 +41,8 @@ impl Default for Lists {
     }
 }
 
-/// The calls of a replay, a row each: of `calls` the kind, the sender and the channel, of `numbers` the property and the
-/// day.
+/// The calls of a replay, a row each: of `calls` the kind, the sender and the channel, of `numbers` the property and
+/// the day.
 #[derive(Clone, Copy, Debug)]
 pub struct Replay<'a> {
     pub calls: &'a [u16],
