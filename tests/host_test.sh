@@ -78,6 +78,14 @@ finds() {
     [ $? -eq 1 ] && grep -q '^differential: failed: seed ' "$work/said"
 }
 
+# The version that the header says is the crate's.
+versions() {
+    header=$(sed -n 's/^#define GV_VERSION "\(.*\)"$/\1/p' bindings/c/gevnyusto.h)
+    crate=$(sed -n 's/^version = "\(.*\)"$/\1/p' bindings/rust/Cargo.toml)
+    echo "header $header, crate $crate"
+    [ -n "$header" ] && [ "$header" = "$crate" ]
+}
+
 # An example in C by its name: compiled, what it prints, and the same under valgrind.
 example() {
     try "$1.c, compiled" cc -O1 -Wall -Wextra -Werror "bindings/c/$1.c" -L "$GEVNYUSTO_LIB" -lhost -o "$work/$1"
@@ -91,6 +99,7 @@ want valgrind valgrind
 try "the library" rt staticlib host
 
 try "the header in C++" c++ -fsyntax-only -Wall -Wextra -Werror -x c++ bindings/c/gevnyusto.h
+try "the version of header and crate" versions
 example table_p
 example two_offices
 try "the example in Rust" \
@@ -100,9 +109,9 @@ crate_tests
 try "the comparison, compiled" crates build -p differential
 try "a million calls and 200,000 merges compared" "$differential" --calls 1000000 --merges 200000
 sed 's/^/  /' "$work/said"
-# Every word is answered in these 2,000 calls.
-try "the comparison under valgrind" careful "$differential" --calls 2000 --merges 1000 --seed 10
-for fault in list refusal read reading merge law; do
+# Every word is answered in these 2,000 calls, and days decide all that they can.
+try "the comparison under valgrind" careful "$differential" --calls 2000 --merges 1000 --seed 163
+for fault in list refusal read reading merge law number newest tie hand; do
     try "a fault put in: $fault" finds "$fault"
 done
 

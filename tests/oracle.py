@@ -1,4 +1,4 @@
-"""A plain reading of the matching board (paper 01).
+"""A plain reading of the matching board (paper 01, and request 2 of paper 02).
 
     python3 tests/oracle.py RULES.BIN < INPUT
 
@@ -14,6 +14,7 @@ DESKS = 32
 MOST_ITEMS = 1024
 MOST_MATCHES = 1024
 MOST_CENTS = 999_999_999_999
+MOST_U32 = 4_294_967_295  # a property, a day
 MOST_TABLE_BYTES = 412
 MOST_LINE_BYTES = 80
 REST_TABLE = (0, 1, 1, 2, 2, 4, 4, 8, 8, 16, 16, 16, 32, 32, 32, 32)
@@ -101,10 +102,11 @@ def read_table(data):
 
 
 class Item:
-    def __init__(self, tray, prop, cents):
+    def __init__(self, tray, prop, cents, day):
         self.tray = tray
         self.prop = prop
         self.cents = cents
+        self.day = day
         self.status = PENDING
         self.match = None  # once consumed
         self.waker = None  # once woken
@@ -143,7 +145,7 @@ class Board:
 
     # the calls
 
-    def add(self, desk_number, tray, prop, cents):
+    def add(self, desk_number, tray, prop, cents, day):
         if desk_number >= DESKS:
             raise Refused(8)
         desk = self.desks[desk_number]
@@ -156,7 +158,7 @@ class Board:
         if len(self.items) >= MOST_ITEMS:
             raise Refused(12)
         number = len(self.items)
-        self.items.append(Item(tray, prop, cents))
+        self.items.append(Item(tray, prop, cents, day))
         desk.own = number
         desk.slip = desk.waker = desk.matched = None
         desk.signal = False
@@ -266,10 +268,12 @@ class Board:
         tray = members[desk.at]
         if desk.at == members.index(self.items[desk.hand].tray):
             return desk.hand
-        for number, item in enumerate(self.items):
-            if item.status == PENDING and number not in desk.chosen and self.fits(desk, number, tray):
-                return number
-        return None
+        fitting = [
+            number
+            for number, item in enumerate(self.items)
+            if item.status == PENDING and number not in desk.chosen and self.fits(desk, number, tray)
+        ]
+        return min(fitting, key=lambda number: (self.items[number].day, number), default=None)
 
     def miss(self, desk):
         tray = self.members(desk)[desk.at]
@@ -425,7 +429,7 @@ def go_idle(desk, slip):
 
 # --- the lines ------------------------------------------------------------------
 
-ADD_LINE = re.compile(rb"a ([0-9]+) ([0-9]+) ([0-9]+) (-?[0-9]{1,18})")
+ADD_LINE = re.compile(rb"a ([0-9]+) ([0-9]+) ([0-9]+) (-?[0-9]{1,18})(?: ([0-9]+))?")
 STEP_LINE = re.compile(rb"s ([0-9]+)")
 
 
@@ -444,13 +448,14 @@ def at_most(digits, limit):
 
 
 def read_line(line):
-    """('a', desk, tray, property, cents) or ('s', desk), or Refused 16."""
+    """('a', desk, tray, property, cents, day) or ('s', desk), or Refused 16."""
     if len(line) > MOST_LINE_BYTES:
         raise Refused(16)
     add = ADD_LINE.fullmatch(line)
     if add:
-        desk, tray, prop, cents = add.groups()
-        return ("a", at_most(desk, 65_535), at_most(tray, 65_535), at_most(prop, 2**32 - 1), int(cents))
+        desk, tray, prop, cents, day = add.groups(default=b"0")
+        numbers = at_most(desk, 65_535), at_most(tray, 65_535), at_most(prop, MOST_U32), int(cents)
+        return ("a", *numbers, at_most(day, MOST_U32))
     step = STEP_LINE.fullmatch(line)
     if step:
         return ("s", at_most(step.group(1), 65_535))

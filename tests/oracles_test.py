@@ -3,8 +3,8 @@
     python3 tests/oracles_test.py
 
 The printouts of the two test programs to their oracles, and the oracle's own printouts to the pool of the join
-calculus, over random tables and lines; each word and a quiet board must occur. The last line is
-'oracles: N passed, M failed'.
+calculus, over random tables and lines; each word, a quiet board and looks that the days decide must occur. The last
+line is 'oracles: N passed, M failed'.
 """
 
 import subprocess
@@ -19,7 +19,7 @@ SEEDS, LINES = 400, 400
 WORDS = (
     "item looked missed claimed lost reverted matched consumed told woke freed signalled again ended rested answered"
     " resumed quiet"
-).split()
+).split() + ["older", "tie", "first day", "last day"]
 
 
 def printout(crate):

@@ -3,7 +3,8 @@
     python3 tests/pool_check.py FIRST LAST N
 
 For each seed: a random table, N random lines, the oracle's printout; then the
-pool is kept by the words printed, and on a quiet board no rule can be met.
+pool is kept by the words printed, and on a quiet board no rule can be met. What
+the days decided is counted beside the words.
 """
 
 import sys
@@ -33,6 +34,37 @@ def can_be_met(rule, pool, items):
     )
 
 
+class Watched(oracle.Board):
+    """Counts what the days decided: older items before lower numbers, lower numbers of equal days, and extremes."""
+
+    def __init__(self, table):
+        super().__init__(table)
+        self.seen = Counter()
+
+    def found(self, desk):
+        number = super().found(desk)
+        if number not in (None, desk.hand):
+            self.weigh(desk, number)
+        return number
+
+    def weigh(self, desk, number):
+        day, tray = self.items[number].day, self.members(desk)[desk.at]
+        for other, item in enumerate(self.items):
+            if item.status == oracle.PENDING and other not in desk.chosen and self.fits(desk, other, tray):
+                assert (day, number) <= (item.day, other)
+                self.seen["older"] += other < number
+                self.seen["tie"] += other > number and item.day == day > 0
+        self.seen["first day"] += day == 0
+        self.seen["last day"] += day == oracle.MOST_U32
+
+
+def decided_by_days(table, calls):
+    board = Watched(table)
+    for line in calls:
+        oracle.answer(board, line)
+    return board.seen
+
+
 def check(seed, lines):
     data = random_session.random_table(seed)
     table = oracle.read_table(data)
@@ -41,13 +73,13 @@ def check(seed, lines):
     out = oracle.printout(data, session).decode().split("\n")[:-1]
     answers, rest = out[: len(calls)], out[len(calls) :]
     matches = [line.split() for line in rest if line.startswith("match")]
-    items, pool, own, words, made = [], set(), {}, Counter(), 0
+    items, pool, own, words, made = [], set(), {}, decided_by_days(table, calls), 0
     for line, words_printed in zip(calls, answers):
         word, *number = words_printed.split()
         words[words_printed if word == "refused" else word] += 1
         if word == "item":
             assert int(number[0]) == len(items)
-            _, desk, tray, prop, cents = line.split()
+            _, desk, tray, prop, cents, *_ = line.split()
             items.append((int(tray), int(prop), int(cents)))
             pool.add(int(number[0]))
             own[int(desk)] = int(number[0])

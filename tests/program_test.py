@@ -21,6 +21,16 @@ ROOT = pathlib.Path(__file__).resolve().parent.parent
 PROGRAM = ROOT / "target" / "bin" / "gevnyusto"
 TABLE_P = (ROOT / "examples" / "table-p" / "rules.bin").read_bytes()
 RUN_OF_P = (ROOT / "examples" / "table-p" / "input").read_bytes()
+DAY_LINE = b"a 0 0 7 5000"
+DAYS = (b"", b" 0", b" 1", b" 4294967295", b" 004294967295", b" " + b"0" * 40)
+UNREADABLE_DAYS = (
+    b" ", b" 4294967296", b" 04294967296", b" 99999999999", b" -1", b" -0", b" +1", b" x", b" 1x", b" 0x1", b" 1 ",
+    b"  1", b" 1 2", b" 1 2 3", b" 1\r", b"\t1", b" " + b"9" * 67,
+)  # fmt: skip
+
+
+def with_day(line):
+    return line + (b" 20454\n" if line.startswith(b"a") else b"\n")
 
 
 def printed(table, lines):
@@ -53,6 +63,11 @@ def odd_cases():
     inputs["a line of 81 bytes"] = b"s " + b"0" * 79 + b"\n"
     inputs["a line of 20,000 bytes"] = b"s " + b"0" * 20_000 + b"\ns 0\n"
     inputs["unreadable lines"] = b"\n".join(random_session.UNREADABLE)
+    inputs["unreadable days"] = b"\n".join(DAY_LINE + day for day in UNREADABLE_DAYS)
+    inputs["days"] = b"".join(DAY_LINE + day + b"\ns 0\ns 0\ns 0\n" for day in DAYS) + RUN_OF_P
+    inputs["an add of 80 bytes"] = (DAY_LINE + b" ").ljust(79, b"0") + b"7\n"
+    inputs["an add of 81 bytes"] = (DAY_LINE + b" ").ljust(80, b"0") + b"7\n"
+    inputs["the run with days"] = b"".join(with_day(line) for line in RUN_OF_P.splitlines())
     inputs["5,000 line feeds"] = b"\n" * 5_000
     inputs["lines over the ends of reads"] = b"s 0\na 0 0 1 5\ns 12345\n" * 2_000
     inputs["four megabytes"] = b"s 0\na 0 0 1 5\ns 12345\n" * 180_000 + RUN_OF_P

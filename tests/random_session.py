@@ -15,11 +15,26 @@ from text_to_bin import table_bytes
 
 UNREADABLE = (
     b"", b"a", b"s", b"s ", b" s 0", b"s 0 ", b"s  0", b"s -0", b"s 65536", b"s 0\r", b"S 0",
-    b"a 0 0 0", b"a 0 0 0 0 0", b"a 0  0 0 0", b"a 0 0 0 -", b"a 0 0 0 +1", b"a 0 0 0 --1",
+    b"a 0 0 0", b"a 0 0 0 0 0 0", b"a 0  0 0 0", b"a 0 0 0 -", b"a 0 0 0 +1", b"a 0 0 0 --1",
     b"a -1 0 0 0", b"a 0 65536 0 0", b"a 65536 0 0 0", b"a 0 0 4294967296 0",
     b"a 0 0 0 0000000000000000000", b"a 0 0 0 1234567890123456789", b"s " + b"0" * 79,
     b"x 1 2 3 4", b"s 1 2", b"s \xff", b"a 0 0 0 1.5", b"s\t0", b"q",
+    b"a 0 0 0 0 4294967296", b"a 0 0 0 0 00004294967296", b"a 0 0 0 0 18446744073709551616", b"a 0 0 0 0 ",
+    b"a 0 0 0 0 -0", b"a 0 0 0 0 -1", b"a 0 0 0 0 +1", b"a 0 0 0 0 x", b"a 0 0 0 0 1x", b"a 0 0 0 0 1.5",
+    b"a 0 0 0 0  1", b"a 0 0 0 0 1 ", b"a 0 0 0 0 1 2", b"a 0 0 0 0 1\r", b"a 0 0 0 0\t1", b"a 0 0 0 0 " + b"0" * 71,
 )  # fmt: skip
+
+# The habits of days: from the random numbers and the number of items so far.
+DAYS = (
+    lambda rng, items: 0,
+    lambda rng, items: 20_454,
+    lambda rng, items: rng.randrange(2),
+    lambda rng, items: 1 + rng.randrange(4),
+    lambda rng, items: rng.randrange(oracle.MOST_U32 + 1),
+    lambda rng, items: rng.choice((0, 1, oracle.MOST_U32 - 1, oracle.MOST_U32)),
+    lambda rng, items: 1 + items // 3,
+    lambda rng, items: oracle.MOST_U32 - items // 3,
+)
 
 
 def random_table(seed):
@@ -61,6 +76,7 @@ class Session:
         desks = self.rng.choice((3, 6, 12, 32))
         self.favoured = self.rng.sample(range(oracle.DESKS), desks)
         self.properties = self.rng.choice((1, 2, 2, 3, 5))
+        self.days = self.rng.choice((None, *DAYS))
         self.adding = self.rng.choice((0.1, 0.2, 0.35, 0.5))
         self.run_on = self.rng.choice((0.0, 0.3, 0.7, 0.95))
         self.last = None  # the desk stepped last
@@ -91,7 +107,7 @@ class Session:
         return [number for number in desks if number in self.favoured] or desks
 
     def add_line(self, desk):
-        return self.add(desk, self.tray(), self.property(), self.cents())
+        return self.add(desk, self.tray(), self.property(), self.cents()) + self.day()
 
     def tray(self):
         """A tray of some rule, often the one that the rule is shortest of."""
@@ -120,6 +136,13 @@ class Session:
             return 2**32 - 1
         return self.rng.randrange(self.properties)
 
+    def day(self):
+        """The end of a line: a day or none, and some with leading zeros."""
+        if self.days is None or self.rng.random() < 0.05:
+            return b""
+        zeros = b"0" * self.rng.choice((0, 0, 0, 0, 1, 3, 20))
+        return b" %s%d" % (zeros, self.days(self.rng, len(self.board.items)))
+
     def cents(self):
         dice = self.rng.random()
         if dice < 0.03:
@@ -136,6 +159,9 @@ class Session:
             b"s %08d" % desk,
             b"a %04d %03d %d %d" % (desk, tray, self.property(), self.cents()),
             b"a %d %d %d -0" % (desk, tray, self.property()),
+            (b"a %d %d %d 5 " % (desk, tray, self.property())).ljust(80, b"0"),
+            (b"a %d %d %d 5 " % (desk, tray, self.property())).ljust(81, b"0"),
+            self.add(desk, tray, self.property(), self.cents()) + b" 4294967295",
             self.add(desk, tray, self.property(), self.cents()),
             self.add(32 + desk, tray, self.property(), self.cents()),
             self.add(desk, self.trays, self.property(), self.cents()),

@@ -11,6 +11,8 @@
 #ifndef GEVNYUSTO_H
 #define GEVNYUSTO_H
 
+#define GV_VERSION "0.4.0"
+
 #include <stddef.h>
 #include <stdint.h>
 
@@ -33,17 +35,18 @@ extern "C" {
  *   from GV_CHORDS a chord for each match
  * links: for each message the match that it notes plus 1, 0 for none; from GV_WAKERS its waker plus 1, 0 for none;
  *   from GV_MEMBERS eight messages for each match
- * keys: a property number for each message
+ * keys: a property number for each message; from GV_DAYS a day for each
  * cents: cents for each message */
 #define GV_BOARD 674
 #define GV_BYTES 3072
 #define GV_LINKS 10240
-#define GV_KEYS 1024
+#define GV_KEYS 2048
 #define GV_CENTS 1024
 #define GV_STATUSES 1024
 #define GV_CHORDS 2048
 #define GV_WAKERS 1024
 #define GV_MEMBERS 2048
+#define GV_DAYS 1024
 #define GV_SENDERS 32
 #define GV_MESSAGES 1024
 #define GV_MATCHES 1024
@@ -77,24 +80,25 @@ uint8_t gv_merge_tables(
 uint8_t gv_open(const uint8_t *table, size_t table_len, uint16_t *board, size_t board_len);
 
 /* The lists of a call that may write them. An add leaves the matches' chords and messages as they are, a step channels,
- * properties and cents. */
+ * properties, days and cents. */
 #define GV_LISTS \
     uint16_t *board, size_t board_len, uint8_t *bytes, size_t bytes_len, uint16_t *links, size_t links_len, \
     uint32_t *keys, size_t keys_len, int64_t *cents, size_t cents_len
 
-/* Adds a message: an answer. */
+/* Adds a message: an answer. Of the messages that fit a member a look takes the one with the least day, the one with
+ * the lowest number of equal days. */
 uint32_t gv_add(
     const uint8_t *table, size_t table_len, GV_LISTS,
-    uint16_t sender, uint16_t channel, uint32_t property, int64_t amount);
+    uint16_t sender, uint16_t channel, uint32_t property, int64_t amount, uint32_t day);
 
 /* Takes one step of a sender: an answer. */
 uint32_t gv_step(const uint8_t *table, size_t table_len, GV_LISTS, uint16_t sender);
 
 /* Plays a list of calls, one after another, on a board that is tested once. Call i is calls[3 * i] (GV_STEP a step, any
- * other an add), its sender calls[3 * i + 1], and for an add channel calls[3 * i + 2], property numbers[i] and
- * amounts[i] cents; its answer goes to answers[i]. There are amounts_len calls.
- * 0, 1 to 7, 30 also for a calls_len other than 3 * amounts_len or a numbers_len other than amounts_len, or 31 for too
- * few answers. */
+ * other an add), its sender calls[3 * i + 1], and for an add channel calls[3 * i + 2], property numbers[2 * i], day
+ * numbers[2 * i + 1] and amounts[i] cents; its answer goes to answers[i]. There are amounts_len calls.
+ * 0, 1 to 7, 30 also for a calls_len other than 3 * amounts_len or a numbers_len other than 2 * amounts_len, or 31 for
+ * too few answers. */
 #define GV_STEP 0
 #define GV_ADD 1
 uint8_t gv_replay(
@@ -110,8 +114,8 @@ uint8_t gv_replay(
 
 /* Reads: 0 and the numbers from the start of out, or a refusal: 1 to 7, 30, the read's own, then 31. */
 
-/* Message: channel, property, cents, status, match plus 1, waker plus 1. */
-#define GV_MESSAGE_NUMBERS 6
+/* Message: channel, property, cents, status, match plus 1, waker plus 1, day. */
+#define GV_MESSAGE_NUMBERS 7
 uint8_t gv_read_message(
     const uint8_t *table, size_t table_len, GV_READ_LISTS, uint16_t message, int64_t *out, size_t out_len);
 

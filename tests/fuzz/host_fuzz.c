@@ -38,12 +38,12 @@ static const struct range written[CALLS][LISTS] = {
 static const uint8_t table_p[20] = {2, 0, 1, 0, 2, 0, 12, 0, 14, 0, 18, 0, 0, 1, 0, 0, 2, 1, 0, 1};
 static const size_t element[LISTS] = {1, 2, 1, 2, 4, 8, 2, 4, 8, 4, 8, 1, 1, 1};
 static const size_t right[LISTS] = {
-    sizeof table_p, GV_BOARD, GV_BYTES, GV_LINKS, GV_KEYS, GV_CENTS, 3 * REPLAYED, REPLAYED, REPLAYED, REPLAYED,
+    sizeof table_p, GV_BOARD, GV_BYTES, GV_LINKS, GV_KEYS, GV_CENTS, 3 * REPLAYED, 2 * REPLAYED, REPLAYED, REPLAYED,
     GV_MATCH_NUMBERS, GV_TABLE_BYTES, MOST_CHANNELS, GV_TABLE_BYTES
 };
 
 /* The parts of the lists that are edited. */
-enum { PARTS = 10 };
+enum { PARTS = 11 };
 static const struct part {
     enum list list;
     size_t from, count;
@@ -57,6 +57,7 @@ static const struct part {
     {LINKS, GV_WAKERS, GV_MESSAGES},
     {LINKS, GV_MEMBERS, 8 * GV_MATCHES},
     {KEYS, 0, GV_MESSAGES},
+    {KEYS, GV_DAYS, GV_MESSAGES},
     {CENTS, 0, GV_MESSAGES},
 };
 
@@ -65,7 +66,7 @@ struct lent {
     _Alignas(8) uint8_t bytes[LISTS][MOST_BYTES];
     size_t length[LISTS];
     uint16_t first, channel;
-    uint32_t property;
+    uint32_t property, day;
     int64_t amount;
 };
 
@@ -140,7 +141,7 @@ static uint32_t make_call(const struct lent *lent, enum call call) {
     case OPEN:
         return gv_open(U8(TABLE), U16(BOARD));
     case ADD:
-        return gv_add(LENT, lent->first, lent->channel, lent->property, lent->amount);
+        return gv_add(LENT, lent->first, lent->channel, lent->property, lent->amount, lent->day);
     case STEP:
         return gv_step(LENT, lent->first);
     case REPLAY:
@@ -205,7 +206,7 @@ static int has_lengths(const struct lent *lent, enum call call) {
     for (int list = BOARD; list <= last; list++)
         if (lent->length[list] != right[list])
             return 0;
-    return call != REPLAY || (lent->length[ROWS] == 3 * calls && lent->length[NUMBERS] == calls);
+    return call != REPLAY || (lent->length[ROWS] == 3 * calls && lent->length[NUMBERS] == 2 * calls);
 }
 
 /* What the header says of the number: the table first, for a merge the second too, then lengths and board, then the
@@ -334,6 +335,7 @@ static void play(struct lent *lent) {
     lent->first = byte & 7;
     lent->channel = byte >> 3 & 1;
     lent->property = byte >> 5 & 1;
+    lent->day = byte >> 6;
     lent->amount = byte;
     for (int i = 0; i < times; i++) {
         uint32_t answer = make_call(lent, is_add ? ADD : STEP);
@@ -420,12 +422,13 @@ static void fill_merge(struct lent *lent) {
 static void fill_replay(struct lent *lent) {
     size_t calls = take() % (REPLAYED + 1);
     for (int list = ROWS; list <= ANSWERS; list++)
-        lent->length[list] = list == ROWS ? 3 * calls : calls;
+        lent->length[list] = (list == ROWS ? 3 : list == NUMBERS ? 2 : 1) * calls;
     for (size_t i = 0; i < calls; i++) {
         put(lent, ROWS, 3 * i, take() % 4);
         put(lent, ROWS, 3 * i + 1, number());
         put(lent, ROWS, 3 * i + 2, number());
-        put(lent, NUMBERS, i, number());
+        put(lent, NUMBERS, 2 * i, number());
+        put(lent, NUMBERS, 2 * i + 1, number());
         put(lent, AMOUNTS, i, number());
     }
 }
@@ -452,6 +455,7 @@ int LLVMFuzzerTestOneInput(const uint8_t *data, size_t size) {
     lent.first = (uint16_t)number();
     lent.channel = (uint16_t)number();
     lent.property = (uint32_t)number();
+    lent.day = (uint32_t)number();
     lent.amount = (int64_t)number();
     lent.length[OUT] = out_numbers[call];
     if (call == REPLAY)

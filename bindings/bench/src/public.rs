@@ -23,7 +23,7 @@ fn stepping(table: &[u8], messages: u16, kind: Kind) -> Board {
     let mut board = pairs(table, messages.saturating_sub(1));
     if messages > 0 {
         let read = Table::read(table).unwrap();
-        board.core_call(&read, Call::Add { sender: 1, channel: 1, property: 0, cents: 5 });
+        board.core_call(&read, Call::Add { sender: 1, channel: 1, property: 0, cents: 5, day: 0 });
         for _ in 0..if let Kind::Look = kind { 0 } else { 2 } {
             board.core_step(&read, 1);
         }
@@ -70,7 +70,7 @@ pub fn calls_of_all_sizes() {
     }
     let table = tables::rendezvous();
     for messages in [0, 128, 512, 1023, 1024] {
-        let add = Call::Add { sender: 2, channel: 0, property: 0, cents: 5 };
+        let add = Call::Add { sender: 2, channel: 0, property: 0, cents: 5, day: 0 };
         let name = if messages == 1024 { "add, refused" } else { "add" };
         bounded(name, messages, times(&table, &pairs(&table, messages), add));
     }

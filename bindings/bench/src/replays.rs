@@ -43,7 +43,8 @@ pub fn matches() {
         ("pairs, 2 senders", &pairs, in_turn(&pairs, 2, |sender, _| (sender, 0))),
         ("pairs, 32 senders, 16 properties", &pairs, in_turn(&pairs, 32, side)),
         ("triples, 3 senders", &triples, in_turn(&triples, 3, |sender, _| (sender, 0))),
-        ("contended morning, 32 senders", &morning, by_chance(&morning, 4, 1)),
+        ("contended morning, 32 senders", &morning, by_chance(&morning, 4, 0, 1)),
+        ("the same with 30 days", &morning, by_chance(&morning, 4, 30, 1)),
         ("steps of idle senders, refused", &pairs, Schedule { rows: steps_of_each(256), matches: 0 }),
     ];
     let measured: Vec<_> =
@@ -65,15 +66,17 @@ pub fn matches() {
     }
 }
 
-/// Where the messages after the senders' own stand, of the channel that is looked for.
+/// The messages after the senders' own, pending and of the channel and property that are looked for, but where said.
 #[derive(Clone, Copy)]
 enum Others {
-    /// None of that channel.
+    /// Of another channel.
     Absent,
-    /// All, pending, with another property.
+    /// Of another property.
     Differing,
-    /// Consumed up to 1,000, then pending with the property that is wanted.
+    /// Consumed up to 1,000.
     At1000,
+    /// Of these days, from a message's number.
+    Dated(fn(u32) -> u32),
 }
 
 /// A full board of 32 senders that are about to look for the first member of chord 0.
@@ -85,10 +88,13 @@ fn looking(others: Others) -> Board {
     }
     let columns = &mut board.columns;
     for at in 32..1024 {
-        columns.channels[at] = u8::from(!matches!(others, Others::Absent));
-        columns.properties[at] = u32::from(matches!(others, Others::Differing));
-        if matches!(others, Others::At1000) && at < 1000 {
-            (columns.statuses[at], columns.matched[at]) = (CONSUMED, 1);
+        columns.channels[at] = 1;
+        match others {
+            Others::Absent => columns.channels[at] = 0,
+            Others::Differing => columns.properties[at] = 1,
+            Others::At1000 if at < 1000 => (columns.statuses[at], columns.matched[at]) = (CONSUMED, 1),
+            Others::At1000 => {}
+            Others::Dated(day) => columns.days[at] = day(at as u32),
         }
     }
     board
@@ -121,6 +127,11 @@ pub fn looks() {
         ("missed, none of the channel (and none claimed)", &missing, Others::Absent, 32),
         ("missed, all of the channel, another property", &missing, Others::Differing, 32),
         ("found at 1,000 to 1,006", &finding, Others::At1000, 7),
+        ("all fit, no days", &finding, Others::Dated(|_| 0), 7),
+        ("all fit, equal days", &finding, Others::Dated(|_| 20_454), 7),
+        ("all fit, rising days", &finding, Others::Dated(|at| at), 7),
+        ("all fit, falling days", &finding, Others::Dated(|at| 1024 - at), 7),
+        ("all fit, days by chance", &finding, Others::Dated(|at| !at.wrapping_mul(0x9E37_79B9)), 7),
     ];
     for (name, table, others, count) in rows {
         let figures = look_times(table, &looking(others), count);

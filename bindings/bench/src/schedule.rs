@@ -36,7 +36,7 @@ pub fn in_turn(bytes: &[u8], senders: u16, next: impl Fn(u16, u16) -> (u16, u32)
             schedule.play(&table, &mut board, Call::Step { sender });
         } else if at.state == State::Idle && board.messages < MESSAGES {
             let (channel, property) = next(sender, board.messages);
-            schedule.play(&table, &mut board, Call::Add { sender, channel, property, cents: 5 });
+            schedule.play(&table, &mut board, Call::Add { sender, channel, property, cents: 5, day: 0 });
         } else {
             continue;
         }
@@ -46,8 +46,9 @@ pub fn in_turn(bytes: &[u8], senders: u16, next: impl Fn(u16, u16) -> (u16, u32)
     schedule
 }
 
-/// Senders by chance, 32 of them, until the board is full and quiet; few properties, so that they compete.
-pub fn by_chance(bytes: &[u8], properties: usize, seed: u64) -> Schedule {
+/// Senders by chance, 32 of them, until the board is full and quiet; few properties, so that they compete. Each message
+/// is of one of so many days, or of day 0 without any.
+pub fn by_chance(bytes: &[u8], properties: usize, days: usize, seed: u64) -> Schedule {
     let table = Table::read(bytes).unwrap();
     let (mut board, mut schedule) = (Board::default(), Schedule::default());
     let mut random = Random::new(seed);
@@ -59,7 +60,8 @@ pub fn by_chance(bytes: &[u8], properties: usize, seed: u64) -> Schedule {
         } else if at.state == State::Idle && board.messages < MESSAGES {
             let channel = channel_by_chance(&table, &board, &mut random);
             let (property, cents) = (random.below(properties) as u32, random.below(200_000) as i64 - 100_000);
-            schedule.play(&table, &mut board, Call::Add { sender, channel, property, cents });
+            let day = if days == 0 { 0 } else { 1 + random.below(days) as u32 };
+            schedule.play(&table, &mut board, Call::Add { sender, channel, property, cents, day });
         }
     }
     schedule.matches = board.matches;
@@ -83,7 +85,7 @@ pub fn pairs(bytes: &[u8], messages: u16) -> Board {
     let mut board = Board::default();
     for message in 0..messages {
         let sender = message % 2;
-        board.core_call(&table, Call::Add { sender, channel: sender, property: 0, cents: 5 });
+        board.core_call(&table, Call::Add { sender, channel: sender, property: 0, cents: 5, day: 0 });
         while let Some(sender) = board.first_busy() {
             board.core_step(&table, sender);
         }

@@ -27,7 +27,9 @@ impl Proved {
     pub fn call(&mut self, table: &[u8], call: Call) -> u32 {
         let lists = black_box(&mut self.lists);
         match black_box(call) {
-            Call::Add { sender, channel, property, cents } => host::add(table, lists, sender, channel, property, cents),
+            Call::Add { sender, channel, property, cents, day } => {
+                host::add(table, lists, sender, channel, property, cents, day)
+            }
             Call::Step { sender } => host::step(table, lists, sender),
         }
     }
@@ -49,6 +51,7 @@ pub fn restore(board: &mut Board, saved: &Board) {
     let (to, from) = (&mut board.columns, &saved.columns);
     *to.channels = *from.channels;
     *to.properties = *from.properties;
+    *to.days = *from.days;
     *to.cents = *from.cents;
     *to.statuses = *from.statuses;
     *to.matched = *from.matched;

@@ -1,6 +1,6 @@
 //! How the lists of two boards differ.
 
-use reference::lists::{CHORDS, MEMBERS, STATUSES, WAKERS};
+use reference::lists::{CHORDS, DAYS, MEMBERS, STATUSES, WAKERS};
 use reference::{Lists, NUMBERS, Phase, SENDER_NUMBERS, Sender, State, Table};
 use std::fmt::Display;
 
@@ -12,7 +12,7 @@ pub fn difference(ours: &Lists, theirs: &Lists, table: Option<&Table>) -> Option
     let open = |at: usize| table.is_some_and(|table| is_open(table, ours, at));
     first(byte_name, &ours.bytes, &theirs.bytes, |_| false)
         .or_else(|| first(link_name, &ours.links, &theirs.links, open))
-        .or_else(|| first(|at| format!("property of message {at}"), &ours.keys, &theirs.keys, |_| false))
+        .or_else(|| first(key_name, &ours.keys, &theirs.keys, |_| false))
         .or_else(|| first(|at| format!("cents of message {at}"), &ours.cents, &theirs.cents, |_| false))
         .or_else(|| boards_differ(&ours.board, &theirs.board, table))
 }
@@ -30,6 +30,13 @@ fn link_name(at: usize) -> String {
         MEMBERS.. => format!("match {} place {}", (at - MEMBERS) / 8, at % 8),
         WAKERS.. => format!("waker of message {}", at - WAKERS),
         _ => format!("match of message {at}"),
+    }
+}
+
+fn key_name(at: usize) -> String {
+    match at {
+        DAYS.. => format!("day of message {}", at - DAYS),
+        _ => format!("property of message {at}"),
     }
 }
 

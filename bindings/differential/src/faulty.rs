@@ -1,13 +1,18 @@
 //! The reference with a fault put in, to see that the comparison finds it.
 
 use crate::calls::{Call, Calls, Merge, Read};
+use crate::looks::Look;
 use crate::plain_rust::Reference;
 use reference::lists::STATUSES;
-use reference::{Lists, Rows};
+use reference::{Lists, Rows, Table};
+
+const LOOKED: u32 = 1;
 
 /// Kinds of faults by name.
-pub const FAULTS: [&str; 10] =
-    ["answer", "list", "board", "refusal", "read", "reading", "replay", "table", "merge", "law"];
+pub const FAULTS: [&str; 14] = [
+    "answer", "list", "board", "refusal", "read", "reading", "replay", "table", "merge", "law", "number", "newest",
+    "tie", "hand",
+];
 
 pub struct Faulty {
     inner: Reference,
@@ -38,6 +43,9 @@ impl Calls for Faulty {
     fn call(&mut self, table: &[u8], lists: &mut Lists, call: Call) -> u32 {
         self.calls += 1;
         let answer = self.inner.call(table, lists, call);
+        if answer >> 16 == LOOKED && self.due(&self.fault) {
+            return look_wrongly(&self.fault, table, lists, call.sender()).unwrap_or(answer);
+        }
         if self.due("list") && answer >> 16 == 3 {
             lists.bytes[STATUSES + usize::from(answer as u16)] = 0;
         }
@@ -80,6 +88,22 @@ impl Calls for Faulty {
         }
         refusal
     }
+}
+
+/// Takes another message than the look took: the first that fits, the newest, the last of the oldest, or one that is
+/// older than the message in hand in its place.
+fn look_wrongly(fault: &str, table: &[u8], lists: &mut Lists, sender: usize) -> Option<u32> {
+    let look = Look::before(&Table::read(table).ok()?, lists, sender);
+    let fitting = || look.fitting.iter().copied();
+    let wrong = match fault {
+        "number" if !look.of_hand => fitting().min_by_key(|it| it.number),
+        "newest" if !look.of_hand => fitting().min_by_key(|it| (!it.day, it.number)),
+        "tie" if !look.of_hand => fitting().min_by_key(|it| (it.day, !it.number)),
+        "hand" if look.of_hand => fitting().min_by_key(|it| (it.day, it.number)).filter(|it| it.day < look.taken.day),
+        _ => None,
+    }?;
+    look.put(lists, wrong.number);
+    Some(LOOKED << 16 | u32::from(wrong.number))
 }
 
 /// The chord of a sender that is not at work is open, but not how it depends on the table.

@@ -2,14 +2,14 @@
 
 use crate::pair::Checked;
 use reference::board::{CLAIMED, CONSUMED, PENDING, WOKEN};
-use reference::lists::{CHORDS, MEMBERS, STATUSES, WAKERS};
+use reference::lists::{CHORDS, DAYS, MEMBERS, STATUSES, WAKERS};
 use reference::{Lists, Phase, SENDER_NUMBERS, Sender, State, Table};
 use std::collections::HashMap;
 
-/// The channel, property and cents of each message, as the adds said; and which are in a match.
+/// The channel, property, cents and day of each message, as the adds said; and which are in a match.
 #[derive(Default)]
 pub struct Pool {
-    pub added: Vec<(u8, u32, i64)>,
+    pub added: Vec<(u8, u32, i64, u32)>,
     pub matched: Vec<bool>,
     matches: usize,
 }
@@ -19,8 +19,8 @@ pub fn senders(lists: &Lists) -> Vec<Sender> {
 }
 
 impl Pool {
-    pub fn add(&mut self, number: u16, channel: u16, property: u32, cents: i64) -> Checked<()> {
-        self.added.push((channel as u8, property, cents));
+    pub fn add(&mut self, number: u16, channel: u16, property: u32, cents: i64, day: u32) -> Checked<()> {
+        self.added.push((channel as u8, property, cents, day));
         self.matched.push(false);
         ensure(usize::from(number) + 1 == self.added.len(), || format!("item {number} is not the next"))
     }
@@ -61,7 +61,7 @@ impl Pool {
             }
         }
         for (message, &holding) in holders.iter().enumerate() {
-            let sent = (lists.bytes[message], lists.keys[message], lists.cents[message]);
+            let sent = (lists.bytes[message], lists.keys[message], lists.cents[message], lists.keys[DAYS + message]);
             ensure(sent == self.added[message], || format!("message {message} is not as it was sent"))?;
             let status = lists.bytes[STATUSES + message];
             let fine = match status {

@@ -91,8 +91,8 @@ fn play_outside(boards: &mut Boards, random: &mut Random, place: usize) -> Check
 /// The call, an add of it to one of those channels.
 fn at_channels(call: Call, channels: &[u16], random: &mut Random) -> Call {
     match call {
-        Call::Add { sender, channel, property, cents } if !channels.contains(&channel) => {
-            Call::Add { sender, channel: random.pick(channels), property, cents }
+        Call::Add { sender, channel, property, cents, day } if !channels.contains(&channel) => {
+            Call::Add { sender, channel: random.pick(channels), property, cents, day }
         }
         call => call,
     }

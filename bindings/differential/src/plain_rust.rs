@@ -104,7 +104,8 @@ fn numbers_read(table: &[u8], board: &Board, read: Read) -> Result<Vec<i64>, u8>
         Read::Message(number) => {
             let read = calls::message(table, board, number)?;
             let (matched, waker) = (kept(read.matched).into(), kept(read.waker).into());
-            vec![read.channel.into(), read.property.into(), read.cents, read.status.into(), matched, waker]
+            let (channel, property, day) = (read.channel.into(), read.property.into(), read.day.into());
+            vec![channel, property, read.cents, read.status.into(), matched, waker, day]
         }
         Read::Match(number) => {
             let read = calls::match_(table, board, number)?;

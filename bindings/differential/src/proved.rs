@@ -33,7 +33,9 @@ impl Calls for Host {
 
     fn call(&mut self, table: &[u8], lists: &mut Lists, call: Call) -> u32 {
         lent(lists, |lists| match call {
-            Call::Add { sender, channel, property, cents } => host::add(table, lists, sender, channel, property, cents),
+            Call::Add { sender, channel, property, cents, day } => {
+                host::add(table, lists, sender, channel, property, cents, day)
+            }
             Call::Step { sender } => host::step(table, lists, sender),
         })
     }

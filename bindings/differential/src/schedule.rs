@@ -3,6 +3,7 @@
 use crate::calls::{Call, Read};
 use crate::difference::difference;
 use crate::invariant::{Pool, senders};
+use crate::looks::Look;
 use crate::pair::{Checked, Pair};
 use crate::random::{Random, random_table};
 use crate::strays;
@@ -11,13 +12,43 @@ use reference::lists::STATUSES;
 use reference::{Lists, Rows, Sender, State, Table};
 
 const ITEM: u32 = 0;
+const LOOKED: u32 = 1;
 const MATCHED: u32 = 6;
+
+/// How the days of a schedule's messages come.
+#[derive(Clone, Copy)]
+enum Days {
+    None,
+    Equal,
+    Few,
+    Many,
+    Rising,
+    Falling,
+    Extreme,
+}
+
+impl Days {
+    /// A day for the message of that number.
+    fn next(self, random: &mut Random, number: u16) -> u32 {
+        let some = 1 + u32::from(number) / 3;
+        match self {
+            Days::None => 0,
+            Days::Equal => 20_454,
+            Days::Few => random.below(4) as u32,
+            Days::Many => random.next() as u32,
+            Days::Rising => some,
+            Days::Falling => u32::MAX - some,
+            Days::Extreme => random.pick(&[0, 1, u32::MAX - 1, u32::MAX]),
+        }
+    }
+}
 
 /// How a schedule chooses its calls.
 pub struct Habits {
     /// Senders below this are chosen while one of them can be.
     favoured: usize,
     properties: usize,
+    days: Days,
     adding: usize,
     run_on: usize,
     length: usize,
@@ -34,6 +65,15 @@ impl Habits {
         Habits {
             favoured: random.pick(&[2, 3, 6, 12, 32]),
             properties: random.pick(&[1, 2, 2, 3, 5]),
+            days: random.pick(&[
+                Days::None,
+                Days::Equal,
+                Days::Few,
+                Days::Many,
+                Days::Rising,
+                Days::Falling,
+                Days::Extreme,
+            ]),
             adding: if filling { 90 } else { random.pick(&[10, 20, 35, 50]) },
             run_on: random.pick(&[0, 30, 70, 95]),
             length: if filling { 6_000 } else { random.pick(&[100, 300, 600, 1_500]) },
@@ -71,7 +111,8 @@ impl Habits {
             return Call::Step { sender: random.below(32) as u16 };
         }
         let (sender, channel) = (random.pick(&idle) as u16, self.channel(random, table, lists));
-        Call::Add { sender, channel, property: self.property(random), cents: cents(random) }
+        let (property, day) = (self.property(random), self.days.next(random, lists.board[0]));
+        Call::Add { sender, channel, property, cents: cents(random), day }
     }
 
     /// The favoured senders that are as wanted; if none is, any such sender.
@@ -122,7 +163,8 @@ pub fn odd_call(random: &mut Random, table: &Table) -> Call {
     let channels = u16::from(table.channel_count);
     let channel = random.pick(&[0, channels - 1, channels - 1, channels, 65_535]);
     let cents = random.pick(&[0, 1, MOST_CENTS, MOST_CENTS + 1, -MOST_CENTS - 1, i64::MAX, i64::MIN]);
-    if random.chance(30) { Call::Step { sender } } else { Call::Add { sender, channel, property: 0, cents } }
+    let day = random.pick(&[0, 1, u32::MAX]);
+    if random.chance(30) { Call::Step { sender } } else { Call::Add { sender, channel, property: 0, cents, day } }
 }
 
 /// The schedule of that number, on a table of its own; with excursions to boards that it does not reach.
@@ -139,6 +181,9 @@ pub fn run(pair: &mut Pair, random: &mut Random, number: u64, most: u64) -> Chec
         let call = habits.choose(random, &table, &pair.ours);
         let answer = pair.call(call)?;
         pair.count(answer);
+        if answer >> 16 == LOOKED {
+            Look::before(&table, &pair.ours, call.sender()).decided().for_each(|what| pair.tally.seen.note(what));
+        }
         calls.push(call);
         answers.push(answer);
         feed(pair, &mut pool, &table, call, answer)?;
@@ -162,7 +207,7 @@ pub fn run(pair: &mut Pair, random: &mut Random, number: u64, most: u64) -> Chec
 fn feed(pair: &mut Pair, pool: &mut Pool, table: &Table, call: Call, answer: u32) -> Checked<()> {
     let value = answer as u16;
     match (answer >> 16, call) {
-        (ITEM, Call::Add { channel, property, cents, .. }) => pool.add(value, channel, property, cents),
+        (ITEM, Call::Add { channel, property, cents, day, .. }) => pool.add(value, channel, property, cents, day),
         (MATCHED, _) => {
             let (_, read) = pair.read(Read::Match(value), 11)?;
             pool.take(value, table, &read)

@@ -1,10 +1,11 @@
-//! Counts of what was lent to the calls, and of refused calls that left it as found.
+//! Counts of what was lent to the calls, of refused calls that left it as found, and of what the days decided.
 
+use crate::looks::DECIDED;
 use std::collections::HashMap;
 
 /// The lists of a board with their parts, and the lists of a replay's calls.
 pub const LISTS: [&str; 5] = ["board", "bytes", "links", "keys", "cents"];
-pub const PARTS: [&str; 9] = [
+pub const PARTS: [&str; 10] = [
     "board",
     "channels of bytes",
     "statuses of bytes",
@@ -12,7 +13,8 @@ pub const PARTS: [&str; 9] = [
     "matches of links",
     "wakers of links",
     "members of links",
-    "keys",
+    "properties of keys",
+    "days of keys",
     "cents",
 ];
 pub const ROWS: [&str; 3] = ["calls", "numbers", "amounts"];
@@ -39,16 +41,17 @@ impl Seen {
     }
 
     /// All that may be noted, by sort.
-    pub fn counts(&self) -> [(&'static str, Vec<(String, u64)>); 4] {
+    pub fn counts(&self) -> [(&'static str, Vec<(String, u64)>); 5] {
         let lengths = |list: &&str| LENGTHS.map(|length| format!("{list} {length}"));
-        // Any property number is one of a sound board.
-        let unsound = PARTS.iter().filter(|part| **part != "keys").map(|part| format!("{part} refused"));
+        // Any property and any day is one of a sound board.
+        let unsound = PARTS.iter().filter(|part| !part.ends_with("keys")).map(|part| format!("{part} refused"));
         let changed = PARTS.iter().map(|part| format!("{part} accepted")).chain(unsound);
         [
             ("every list as found", self.of(AS_FOUND.map(String::from).to_vec())),
             ("damaged", self.of(DAMAGES.map(String::from).to_vec())),
             ("of another length", self.of(LISTS.iter().chain(&ROWS).flat_map(lengths).collect())),
             ("one number changed", self.of(changed.collect())),
+            ("looks", self.of(DECIDED.map(String::from).to_vec())),
         ]
     }
 }

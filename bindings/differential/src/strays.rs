@@ -37,7 +37,7 @@ pub fn compare_reads(pair: &mut Pair, random: &mut Random) -> Checked<()> {
             pair.read(read, read.len() - 1)?;
         }
     }
-    pair.read(Read::Message(u16::MAX), 6)?;
+    pair.read(Read::Message(u16::MAX), 7)?;
     pair.read(Read::Match(u16::MAX), 11)?;
     pair.read(Read::Reply(u16::MAX), 1)?;
     Ok(())
@@ -74,6 +74,7 @@ fn random_call(random: &mut Random, table: &Table, lists: &Lists, favoured: usiz
             channel: random.below(table.channel_count.into()) as u16,
             property: random.below(2) as u32,
             cents: 1,
+            day: random.below(3) as u32,
         },
         _ => Call::Step { sender },
     }
@@ -150,7 +151,7 @@ fn resize<T: Clone + Default>(list: &mut Vec<T>, length: usize) {
 /// Every call is refused 30 before anything else that is wrong with it.
 fn expect_refused(pair: &mut Pair) -> Checked<()> {
     expect_no_board(pair, Call::Step { sender: 0 })?;
-    expect_no_board(pair, Call::Add { sender: 40, channel: 99, property: 0, cents: i64::MAX })?;
+    expect_no_board(pair, Call::Add { sender: 40, channel: 99, property: 0, cents: i64::MAX, day: 0 })?;
     for read in [Read::Message(u16::MAX), Read::Match(u16::MAX), Read::Reply(u16::MAX), Read::Quiet] {
         expect_number(pair.read(read, 0)?.0)?;
     }

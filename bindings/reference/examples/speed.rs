@@ -1,6 +1,8 @@
-//! How fast the reference is: rendezvous pairs replayed, full public steps, and the soundness test of a full board.
+//! How fast the reference is: rendezvous pairs replayed, full public steps, the soundness test of a full board, and
+//! looks over a full board.
 
-use reference::{Answer, Board, Call, Rows, Table, calls};
+use reference::look::Wanted;
+use reference::{Answer, Board, Call, Columns, Rows, Table, calls};
 use std::hint::black_box;
 use std::time::Instant;
 
@@ -14,7 +16,7 @@ fn rendezvous() -> Vec<Call> {
     let (mut board, mut calls) = (Board::default(), Vec::new());
     for pair in 0..PAIRS {
         for sender in [0, 1] {
-            let call = Call::Add { sender, channel: sender, property: pair.into(), cents: 1 };
+            let call = Call::Add { sender, channel: sender, property: pair.into(), cents: 1, day: 0 };
             calls.push(call);
             board.core_call(&table, call);
             while let Some(sender) = board.first_busy() {
@@ -65,4 +67,44 @@ fn main() {
     println!("soundness of a full board: {sound:.0} ns");
     let table_time = nanoseconds(100_000, || drop(black_box(Table::read(black_box(&RENDEZVOUS)))));
     println!("reading the table: {table_time:.0} ns");
+    looks();
+}
+
+/// A look for a pending message of channel 1 and property 0, among 1,024 pending ones.
+fn look(name: &str, put: impl Fn(&mut Columns, usize)) {
+    let (mut columns, wanted) = (Columns::default(), Wanted { channel: 1, property: Some(0) });
+    for at in 0..1024 {
+        columns.channels[at] = 1;
+        put(&mut columns, at);
+    }
+    let run = || _ = black_box(black_box(&columns).oldest_pending(1024, black_box(wanted), &[]));
+    let time = nanoseconds(5_000, run);
+    println!("a look over 1,024 messages, {name}: {time:.0} ns");
+}
+
+fn looks() {
+    look("all fit, days 0", |_, _| ());
+    look("all fit, equal days", |columns, at| columns.days[at] = 7);
+    look("all fit, rising days", |columns, at| columns.days[at] = 1 + at as u32);
+    look("all fit, falling days", |columns, at| columns.days[at] = 1024 - at as u32);
+    look("all fit, days by chance", |columns, at| columns.days[at] = !(at as u32).wrapping_mul(0x9E37_79B9));
+    look("one in eight fits, rising days", |columns, at| {
+        (columns.properties[at], columns.days[at]) = (u32::from(at % 8 != 5), 1 + at as u32);
+    });
+    look("one in sixteen fits, older ones are consumed", |columns, at| {
+        (columns.statuses[at], columns.days[at]) =
+            if at % 16 == 9 { (0, 5000 + at as u32) } else { (3, 1 + at as u32) };
+    });
+    look("one in sixteen fits, falling days", |columns, at| {
+        (columns.statuses[at], columns.days[at]) = (if at % 16 == 9 { 0 } else { 3 }, 1024 - at as u32);
+    });
+    look("one fits, the last, all others are consumed", |columns, at| {
+        (columns.statuses[at], columns.days[at]) = (if at == 1023 { 0 } else { 3 }, 1 + at as u32);
+    });
+    look("two fit, the first and the last, older ones are consumed", |columns, at| {
+        (columns.statuses[at], columns.days[at]) = if at % 1023 == 0 { (0, 5000) } else { (3, 1 + at as u32) };
+    });
+    look("one fits, the last", |columns, at| columns.properties[at] = u32::from(at != 1023));
+    look("none of the property", |columns, at| columns.properties[at] = 1);
+    look("none of the channel", |columns, at| columns.channels[at] = 0);
 }

@@ -77,6 +77,7 @@ impl Sender {
 pub struct Columns {
     pub channels: Box<[u8; MESSAGES]>,
     pub properties: Box<[u32; MESSAGES]>,
+    pub days: Box<[u32; MESSAGES]>,
     pub cents: Box<[i64; MESSAGES]>,
     pub statuses: Box<[u8; MESSAGES]>,
     pub matched: Box<[u16; MESSAGES]>,
@@ -91,6 +92,7 @@ impl Default for Columns {
         Columns {
             channels: bytes.clone(),
             properties: Box::new([0; MESSAGES]),
+            days: Box::new([0; MESSAGES]),
             cents: Box::new([0; MESSAGES]),
             statuses: bytes.clone(),
             matched: numbers.clone(),

@@ -9,6 +9,7 @@ pub struct Message {
     pub channel: u8,
     pub property: u32,
     pub cents: i64,
+    pub day: u32,
     pub status: u8,
     pub matched: Option<u16>,
     pub waker: Option<u16>,
@@ -24,7 +25,7 @@ pub struct Match {
 
 #[derive(Clone, Copy, Debug, PartialEq, Eq)]
 pub enum Call {
-    Add { sender: u16, channel: u16, property: u32, cents: i64 },
+    Add { sender: u16, channel: u16, property: u32, cents: i64, day: u32 },
     Step { sender: u16 },
 }
 
@@ -37,7 +38,7 @@ impl Call {
 }
 
 /// The calls of a replay in rows, as the host interface has them. Of `calls` the kind, the sender and the channel; a
-/// kind of 0 is a step, any other an add.
+/// kind of 0 is a step, any other an add. Of `numbers` the property and the day.
 #[derive(Clone, Debug, Default)]
 pub struct Rows {
     pub calls: Vec<u16>,
@@ -62,8 +63,8 @@ pub fn call(table: &[u8], board: &mut Board, call: Call) -> Answer {
     }
 }
 
-pub fn add(table: &[u8], board: &mut Board, sender: u16, channel: u16, property: u32, cents: i64) -> Answer {
-    call(table, board, Call::Add { sender, channel, property, cents })
+pub fn add(table: &[u8], board: &mut Board, sender: u16, channel: u16, property: u32, cents: i64, day: u32) -> Answer {
+    call(table, board, Call::Add { sender, channel, property, cents, day })
 }
 
 pub fn step(table: &[u8], board: &mut Board, sender: u16) -> Answer {
@@ -95,7 +96,7 @@ pub fn quiet(table: &[u8], board: &Board) -> Result<bool, Refusal> {
 pub fn replay(table: &[u8], board: &mut Board, rows: &Rows, answers: &mut [u32]) -> Result<(), Refusal> {
     let table = judged(table, board)?;
     let count = rows.len();
-    if rows.calls.len() != 3 * count || rows.numbers.len() != count {
+    if rows.calls.len() != 3 * count || rows.numbers.len() != 2 * count {
         return Err(30);
     }
     if answers.len() < count {
@@ -115,12 +116,12 @@ impl Rows {
     }
 
     pub fn push(&mut self, call: Call) {
-        let (row, number, amount) = match call {
-            Call::Add { sender, channel, property, cents } => ([1, sender, channel], property, cents),
-            Call::Step { sender } => ([0, sender, 0], 0, 0),
+        let (row, numbers, amount) = match call {
+            Call::Add { sender, channel, property, cents, day } => ([1, sender, channel], [property, day], cents),
+            Call::Step { sender } => ([0, sender, 0], [0, 0], 0),
         };
         self.calls.extend(row);
-        self.numbers.push(number);
+        self.numbers.extend(numbers);
         self.amounts.push(amount);
     }
 
@@ -137,7 +138,10 @@ impl Rows {
         let (sender, channel) = (self.calls[3 * at + 1], self.calls[3 * at + 2]);
         match self.calls[3 * at] {
             0 => Call::Step { sender },
-            _ => Call::Add { sender, channel, property: self.numbers[at], cents: self.amounts[at] },
+            _ => {
+                let (property, day) = (self.numbers[2 * at], self.numbers[2 * at + 1]);
+                Call::Add { sender, channel, property, cents: self.amounts[at], day }
+            }
         }
     }
 }
@@ -146,7 +150,9 @@ impl Board {
     /// A call on a sound board, without the tests.
     pub fn core_call(&mut self, table: &Table, call: Call) -> Answer {
         match call {
-            Call::Add { sender, channel, property, cents } => self.core_add(table, sender, channel, property, cents),
+            Call::Add { sender, channel, property, cents, day } => {
+                self.core_add(table, sender, channel, property, cents, day)
+            }
             Call::Step { sender } => self.core_step(table, sender),
         }
     }
@@ -158,6 +164,7 @@ impl Board {
             channel: self.columns.channels[at],
             property: self.columns.properties[at],
             cents: self.columns.cents[at],
+            day: self.columns.days[at],
             status: self.columns.statuses[at],
             matched: held(self.columns.matched[at]),
             waker: held(self.columns.wakers[at]),

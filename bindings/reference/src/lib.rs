@@ -1,4 +1,5 @@
-//! The matching board in plain Rust, written from the prose of the scope paper (01) and not from the proved code.
+//! The matching board in plain Rust, written from the prose of the scope paper (01) and of the requests (02) that have
+//! landed, and not from the proved code.
 //!
 //! It serves as the second opinion of the differential test and as the baseline of the benchmarks. Where 01 is silent
 //! it follows docs/DECISIONS.md and the host interface, so that boards can be compared number by number: going idle
@@ -24,6 +25,8 @@ pub use lists::Lists;
 pub use numbers::{NUMBERS, SENDER_NUMBERS};
 pub use table::{Chord, Table};
 
+#[cfg(test)]
+mod look_tests;
 #[cfg(test)]
 mod merge_tests;
 #[cfg(test)]

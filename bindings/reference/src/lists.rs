@@ -11,6 +11,9 @@ pub const BYTES: usize = 3 * MESSAGES;
 pub const WAKERS: usize = MESSAGES;
 pub const MEMBERS: usize = 2 * MESSAGES;
 pub const LINKS: usize = 10 * MESSAGES;
+/// Of `keys`: properties, from here days.
+pub const DAYS: usize = MESSAGES;
+pub const KEYS: usize = 2 * MESSAGES;
 
 #[derive(Clone, Debug, PartialEq, Eq)]
 pub struct Lists {
@@ -27,7 +30,7 @@ impl Default for Lists {
             board: vec![0; NUMBERS],
             bytes: vec![0; BYTES],
             links: vec![0; LINKS],
-            keys: vec![0; MESSAGES],
+            keys: vec![0; KEYS],
             cents: vec![0; MESSAGES],
         }
     }
@@ -50,14 +53,15 @@ impl Lists {
         self.links[..WAKERS].copy_from_slice(&columns.matched[..]);
         self.links[WAKERS..MEMBERS].copy_from_slice(&columns.wakers[..]);
         self.links[MEMBERS..].copy_from_slice(columns.messages.as_flattened());
-        self.keys.copy_from_slice(&columns.properties[..]);
+        self.keys[..DAYS].copy_from_slice(&columns.properties[..]);
+        self.keys[DAYS..].copy_from_slice(&columns.days[..]);
         self.cents.copy_from_slice(&columns.cents[..]);
     }
 
     /// The board that is held, in the columns' memory; none for lists of another length or numbers that are no board's.
     pub fn held(&self, mut columns: Columns) -> Option<Board> {
         let lengths = [self.bytes.len(), self.links.len(), self.keys.len(), self.cents.len()];
-        if lengths != [BYTES, LINKS, MESSAGES, MESSAGES] {
+        if lengths != [BYTES, LINKS, KEYS, MESSAGES] {
             return None;
         }
         columns.channels.copy_from_slice(&self.bytes[..STATUSES]);
@@ -66,7 +70,8 @@ impl Lists {
         columns.matched.copy_from_slice(&self.links[..WAKERS]);
         columns.wakers.copy_from_slice(&self.links[WAKERS..MEMBERS]);
         columns.messages.as_flattened_mut().copy_from_slice(&self.links[MEMBERS..]);
-        columns.properties.copy_from_slice(&self.keys);
+        columns.properties.copy_from_slice(&self.keys[..DAYS]);
+        columns.days.copy_from_slice(&self.keys[DAYS..]);
         columns.cents.copy_from_slice(&self.cents);
         Board::from_numbers(&self.board, columns)
     }

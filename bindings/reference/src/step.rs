@@ -9,10 +9,21 @@ use crate::table::{Chord, Table};
 const RESTS: [u8; 16] = [0, 1, 1, 2, 2, 4, 4, 8, 8, 16, 16, 16, 32, 32, 32, 32];
 
 impl Board {
-    pub fn core_add(&mut self, table: &Table, sender: u16, channel: u16, property: u32, cents: i64) -> Answer {
+    pub fn core_add(
+        &mut self,
+        table: &Table,
+        sender: u16,
+        channel: u16,
+        property: u32,
+        cents: i64,
+        day: u32,
+    ) -> Answer {
         match self.add_refusal(table, sender, channel, cents) {
             Some(number) => Answer::Refused(number),
-            None => self.accept(table, sender as usize, channel as u8, property, cents),
+            None => {
+                self.put_message(channel as u8, property, cents, day);
+                self.accept(table, sender as usize)
+            }
         }
     }
 
@@ -31,15 +42,20 @@ impl Board {
         }
     }
 
-    fn accept(&mut self, table: &Table, i: usize, channel: u8, property: u32, cents: i64) -> Answer {
-        let message = self.messages;
-        let at = message as usize;
+    fn put_message(&mut self, channel: u8, property: u32, cents: i64, day: u32) {
+        let at = self.messages as usize;
         self.columns.channels[at] = channel;
         self.columns.properties[at] = property;
         self.columns.cents[at] = cents;
+        self.columns.days[at] = day;
         self.columns.statuses[at] = PENDING;
         self.columns.matched[at] = 0;
         self.columns.wakers[at] = 0;
+    }
+
+    /// The message that stands after the counted ones is counted, and its sender's own.
+    fn accept(&mut self, table: &Table, i: usize) -> Answer {
+        let message = self.messages;
         self.messages += 1;
         let sender = &mut self.senders[i];
         sender.own = Some(message);
@@ -87,7 +103,7 @@ impl Board {
         let found = if chord.first_of(self.channel(hand)) == Some(at) {
             Some(hand)
         } else {
-            self.columns.first_pending(self.messages, wanted, &self.senders[i].chosen[..at])
+            self.columns.oldest_pending(self.messages, wanted, &self.senders[i].chosen[..at])
         };
         let Some(message) = found else { return self.miss(table, i, wanted) };
         let sender = &mut self.senders[i];

@@ -1,7 +1,7 @@
 //! 01's printed run of table P, its edge items, and the numbers and lists of a board.
 
 use crate::board::{CLAIMED, MESSAGES, WOKEN};
-use crate::calls::{add, match_, open, quiet, replay, reply, step};
+use crate::calls::{add, match_, message, open, quiet, replay, reply, step};
 use crate::table::table_refusal;
 use crate::{Answer, Board, Call, Columns, Lists, Rows};
 
@@ -17,9 +17,9 @@ fn steps(table: &[u8], board: &mut Board, sender: u16, count: usize) -> String {
 #[test]
 fn printed_run_of_table_p() {
     let mut board = open(P).unwrap();
-    assert_eq!(add(P, &mut board, 0, 1, 7, 0), Answer::Item(0));
+    assert_eq!(add(P, &mut board, 0, 1, 7, 0, 0), Answer::Item(0));
     assert_eq!(steps(P, &mut board, 0, 3), "missed / ended / refused 13");
-    assert_eq!(add(P, &mut board, 1, 0, 7, 5000), Answer::Item(1));
+    assert_eq!(add(P, &mut board, 1, 0, 7, 5000, 0), Answer::Item(1));
     assert_eq!(
         steps(P, &mut board, 1, 7),
         "looked 1 / looked 0 / claimed 1 / claimed 0 / woke 0 / freed 1 / signalled 0"
@@ -55,43 +55,65 @@ fn tables_refused() {
 #[test]
 fn edge_items() {
     let mut board = open(P).unwrap();
-    add(P, &mut board, 0, 1, 7, 0);
+    add(P, &mut board, 0, 1, 7, 0, 0);
     steps(P, &mut board, 0, 2);
-    assert_eq!(add(P, &mut board, 1, 0, 8, 999_999_999_999), Answer::Item(1));
+    assert_eq!(add(P, &mut board, 1, 0, 8, 999_999_999_999, 0), Answer::Item(1));
     assert_eq!(steps(P, &mut board, 1, 3), "looked 1 / missed / ended");
-    assert_eq!(add(P, &mut board, 1, 0, 8, 1_000_000_000_000), Answer::Refused(11));
-    assert_eq!(add(P, &mut board, 1, 2, 8, 0), Answer::Refused(10));
-    assert_eq!(add(P, &mut board, 0, 0, 8, 0), Answer::Refused(9));
+    assert_eq!(add(P, &mut board, 1, 0, 8, 1_000_000_000_000, 0), Answer::Refused(11));
+    assert_eq!(add(P, &mut board, 1, 2, 8, 0, 0), Answer::Refused(10));
+    assert_eq!(add(P, &mut board, 0, 0, 8, 0, 0), Answer::Refused(9));
     assert_eq!(step(P, &mut board, 32), Answer::Refused(8));
 }
 
 #[test]
 fn a_chord_naming_a_channel_twice() {
     let mut board = open(TWICE).unwrap();
-    add(TWICE, &mut board, 0, 0, 1, 5);
+    add(TWICE, &mut board, 0, 0, 1, 5, 0);
     assert_eq!(steps(TWICE, &mut board, 0, 3), "looked 0 / missed / ended");
-    add(TWICE, &mut board, 0, 0, 2, 6);
+    add(TWICE, &mut board, 0, 0, 2, 6, 0);
     assert_eq!(
         steps(TWICE, &mut board, 0, 7),
         "looked 1 / looked 0 / claimed 1 / matched 0 / consumed 1 / consumed 0 / refused 13"
     );
 }
 
+/// One leave channel; messages of the days, then one more of day 50 whose look is answered.
+fn looked(days: &[u32]) -> Answer {
+    let mut board = open(TWICE).unwrap();
+    for (sender, &day) in (1..).zip(days) {
+        add(TWICE, &mut board, sender, 0, 0, 0, day);
+    }
+    add(TWICE, &mut board, 0, 0, 0, 0, 50);
+    assert_eq!(step(TWICE, &mut board, 0), Answer::Looked(days.len() as u16));
+    step(TWICE, &mut board, 0)
+}
+
+#[test]
+fn the_oldest_is_looked_up() {
+    assert_eq!(looked(&[30, 20, 40]), Answer::Looked(1));
+    assert_eq!(looked(&[30, 20, 20]), Answer::Looked(1));
+    assert_eq!(looked(&[30, 20, 0, 0]), Answer::Looked(2));
+    assert_eq!(looked(&[60, 70]), Answer::Looked(0));
+    assert_eq!(looked(&[u32::MAX, u32::MAX]), Answer::Looked(0));
+    assert_eq!(looked(&[u32::MAX, u32::MAX - 1]), Answer::Looked(1));
+    assert_eq!(looked(&[]), Answer::Missed);
+}
+
 #[test]
 fn a_full_board() {
     let mut board = open(TWICE).unwrap();
     board.messages = MESSAGES as u16 - 1;
-    assert_eq!(add(TWICE, &mut board, 3, 0, 0, 0), Answer::Item(1023));
-    assert_eq!(add(TWICE, &mut board, 4, 0, 0, 0), Answer::Refused(12));
+    assert_eq!(add(TWICE, &mut board, 3, 0, 0, 0, 0), Answer::Item(1023));
+    assert_eq!(add(TWICE, &mut board, 4, 0, 0, 0, 0), Answer::Refused(12));
     board.messages = MESSAGES as u16 + 1;
-    assert_eq!(add(TWICE, &mut board, 4, 0, 0, 0), Answer::Refused(30));
+    assert_eq!(add(TWICE, &mut board, 4, 0, 0, 0, 0), Answer::Refused(30));
 }
 
 #[test]
 fn a_lost_claim_is_tried_again() {
     let mut board = open(TWICE).unwrap();
-    add(TWICE, &mut board, 0, 0, 0, 0);
-    add(TWICE, &mut board, 1, 0, 0, 0);
+    add(TWICE, &mut board, 0, 0, 0, 0, 0);
+    add(TWICE, &mut board, 1, 0, 0, 0, 0);
     assert_eq!(steps(TWICE, &mut board, 0, 3), "looked 0 / looked 1 / claimed 0");
     assert_eq!(steps(TWICE, &mut board, 1, 4), "looked 1 / missed / again / looked 1");
     assert_eq!(steps(TWICE, &mut board, 1, 3), "missed / again / rested");
@@ -101,9 +123,9 @@ fn a_lost_claim_is_tried_again() {
 #[test]
 fn numbers_and_back() {
     let mut board = open(P).unwrap();
-    add(P, &mut board, 0, 1, 7, 0);
+    add(P, &mut board, 0, 1, 7, 0, 0);
     steps(P, &mut board, 0, 2);
-    add(P, &mut board, 1, 0, 7, 5000);
+    add(P, &mut board, 1, 0, 7, 5000, 0);
     for _ in 0..16 {
         assert_eq!(Board::from_numbers(&board.to_numbers(), board.columns.clone()), Some(board.clone()));
         let sender = board.first_busy().unwrap_or(0);
@@ -117,9 +139,9 @@ fn numbers_and_back() {
 #[test]
 fn lists_and_back() {
     let mut board = open(P).unwrap();
-    add(P, &mut board, 0, 1, 7, 0);
+    add(P, &mut board, 0, 1, 7, 0, 0);
     steps(P, &mut board, 0, 2);
-    add(P, &mut board, 1, 0, 7, 5000);
+    add(P, &mut board, 1, 0, 7, 5000, u32::MAX);
     for _ in 0..16 {
         assert_eq!(Lists::of(&board).held(Columns::default()), Some(board.clone()));
         let sender = board.first_busy().unwrap_or(0);
@@ -135,13 +157,15 @@ fn lists_and_back() {
         (lists.links[2048..2050].to_vec(), &lists.keys[..2], &lists.cents[..2]),
         (vec![1, 0], &[7, 7][..], &[0, 5000][..])
     );
+    assert_eq!(lists.keys[1024..1026], [0, u32::MAX]);
+    assert_eq!(message(P, &board, 1).map(|read| read.day), Ok(u32::MAX));
     for list in 0..5 {
         let mut other = lists.clone();
         match list {
             0 => other.board.push(0),
             1 => other.bytes.truncate(3071),
             2 => other.links.clear(),
-            3 => other.keys.push(0),
+            3 => other.keys.truncate(1024),
             _ => other.cents.truncate(1),
         }
         assert_eq!(other.held(Columns::default()), None);
@@ -150,27 +174,28 @@ fn lists_and_back() {
 
 #[test]
 fn replays() {
-    let calls = [Call::Add { sender: 0, channel: 1, property: 7, cents: -5 }, Call::Step { sender: 0 }];
+    let calls = [Call::Add { sender: 0, channel: 1, property: 7, cents: -5, day: 9 }, Call::Step { sender: 0 }];
     let (mut board, mut answers) = (open(P).unwrap(), [9; 3]);
     let mut rows = Rows::of(&calls);
-    assert_eq!((rows.calls.clone(), rows.numbers.clone()), (vec![1, 0, 1, 0, 0, 0], vec![7, 0]));
+    assert_eq!((rows.calls.clone(), rows.numbers.clone()), (vec![1, 0, 1, 0, 0, 0], vec![7, 9, 0, 0]));
     assert_eq!(replay(P, &mut board, &rows, &mut answers[..1]), Err(31));
     assert_eq!((board.messages, answers), (0, [9; 3]));
     rows.calls[0] = 65_535;
     assert_eq!(replay(P, &mut board, &rows, &mut answers), Ok(()));
-    assert_eq!((answers, board.columns.cents[0]), ([0, 2 << 16, 9], -5));
+    assert_eq!((answers, board.columns.cents[0], board.columns.days[0]), ([0, 2 << 16, 9], -5, 9));
     rows.numbers.push(0);
     assert_eq!(replay(P, &mut board, &rows, &mut []), Err(30));
     rows.amounts.push(0);
-    assert_eq!(replay(P, &mut board, &rows, &mut []), Err(30));
     rows.calls.extend([0; 3]);
+    assert_eq!(replay(P, &mut board, &rows, &mut []), Err(30));
+    rows.numbers.push(0);
     assert_eq!(replay(P, &mut board, &rows, &mut []), Err(31));
 }
 
 #[test]
 fn unsound_boards() {
     let mut board = open(P).unwrap();
-    add(P, &mut board, 0, 1, 7, 0);
+    add(P, &mut board, 0, 1, 7, 0, 0);
     for (status, fine) in [(CLAIMED, true), (WOKEN, false), (4, false)] {
         board.columns.statuses[0] = status;
         assert_eq!(quiet(P, &board).is_ok(), fine);

@@ -27,6 +27,7 @@ pub struct Message {
     pub channel: u8,
     pub property: u32,
     pub cents: i64,
+    pub day: u32,
     pub status: Status,
     pub matched: Option<u16>,
     pub waker: Option<u16>,
@@ -43,7 +44,7 @@ pub struct Match {
 /// A call of a replay.
 #[derive(Clone, Copy, Debug, PartialEq, Eq)]
 pub enum Call {
-    Add { sender: u16, channel: u16, property: u32, cents: i64 },
+    Add { sender: u16, channel: u16, property: u32, cents: i64, day: u32 },
     Step { sender: u16 },
 }
 
@@ -61,9 +62,10 @@ impl Matcher {
         Ok(Matcher { table, lists })
     }
 
-    /// Adds a message of an idle sender; it answers [`Answer::Item`].
-    pub fn add(&mut self, sender: u16, channel: u16, property: u32, cents: i64) -> Result<Answer, Refusal> {
-        Answer::from_number(host::add(&self.table, &mut self.lists, sender, channel, property, cents))
+    /// Adds a message of an idle sender; it answers [`Answer::Item`]. Of the messages that fit, the one with the least
+    /// day is matched first, the lowest-numbered of equal days.
+    pub fn add(&mut self, sender: u16, channel: u16, property: u32, cents: i64, day: u32) -> Result<Answer, Refusal> {
+        Answer::from_number(host::add(&self.table, &mut self.lists, sender, channel, property, cents, day))
     }
 
     /// One step of a sender.
@@ -72,13 +74,14 @@ impl Matcher {
     }
 
     pub fn message(&self, number: u16) -> Result<Message, Refusal> {
-        let mut out = [0; 6];
+        let mut out = [0; 7];
         refused(host::read_message(&self.table, &self.lists, number, &mut out))?;
         let statuses = [Status::Pending, Status::Claimed, Status::Woken, Status::Consumed];
         Ok(Message {
             channel: out[0] as u8,
             property: out[1] as u32,
             cents: out[2],
+            day: out[6] as u32,
             status: statuses[out[3] as usize],
             matched: held(out[4]),
             waker: held(out[5]),
@@ -110,7 +113,7 @@ impl Matcher {
     pub fn replay(&mut self, calls: &[Call]) -> Result<Vec<Result<Answer, Refusal>>, Refusal> {
         let rows: Vec<_> = calls.iter().map(|call| call.row()).collect();
         let calls: Vec<u16> = rows.iter().flat_map(|row| row.0).collect();
-        let numbers: Vec<u32> = rows.iter().map(|row| row.1).collect();
+        let numbers: Vec<u32> = rows.iter().flat_map(|row| row.1).collect();
         let amounts: Vec<i64> = rows.iter().map(|row| row.2).collect();
         let calls = host::Replay { calls: &calls, numbers: &numbers, amounts: &amounts };
         let mut answers = vec![0; rows.len()];
@@ -142,7 +145,7 @@ impl Matcher {
 /// let merged = merge_tables(&FIRST, &SECOND, &[Some(0), None])?;
 /// assert_eq!(merged[12..], [0, 1, 0, 0, 0, 2, 1, 2, 0, 2, 0, 0, 1, 0, 2]);
 /// let mut matcher = Matcher::open(merged)?;
-/// matcher.add(0, 2, 7, 5000)?;
+/// matcher.add(0, 2, 7, 5000, 0)?;
 ///
 /// assert_eq!(merge_tables(&FIRST, &SECOND, &[Some(1), None]), Err(Refusal::ChannelMap));
 /// # Ok::<(), Refusal>(())
@@ -164,11 +167,13 @@ fn table_len(table: &[u8]) -> usize {
 }
 
 impl Call {
-    /// Kind, sender and channel; property; cents.
-    fn row(self) -> ([u16; 3], u32, i64) {
+    /// Kind, sender and channel; property and day; cents.
+    fn row(self) -> ([u16; 3], [u32; 2], i64) {
         match self {
-            Call::Add { sender, channel, property, cents } => ([host::ADD, sender, channel], property, cents),
-            Call::Step { sender } => ([host::STEP, sender, 0], 0, 0),
+            Call::Add { sender, channel, property, cents, day } => {
+                ([host::ADD, sender, channel], [property, day], cents)
+            }
+            Call::Step { sender } => ([host::STEP, sender, 0], [0, 0], 0),
         }
     }
 }

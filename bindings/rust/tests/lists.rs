@@ -9,8 +9,9 @@ const NO_BOARD: u32 = 17 * 65_536 + 30;
 fn run_of_p() -> (Vec<u16>, Vec<u32>, Vec<i64>) {
     let steps = |sender: u16| [host::STEP, sender, 0].repeat(10);
     let calls = [vec![host::ADD, 0, 1], steps(0), vec![65_535, 1, 0], steps(1), steps(0)].concat();
-    let (mut numbers, mut amounts) = (vec![0; 32], vec![0; 32]);
-    (numbers[0], numbers[11], amounts[11]) = (7, 7, 5000);
+    let (mut numbers, mut amounts) = (vec![0; 64], vec![0; 32]);
+    (numbers[0], numbers[1], numbers[22], numbers[23]) = (7, 20_454, 7, u32::MAX);
+    amounts[11] = 5000;
     (calls, numbers, amounts)
 }
 
@@ -30,6 +31,7 @@ fn places() {
     assert_eq!((&lists.links[..2], &lists.links[1024..1026]), (&[1, 1][..], &[2, 0][..]));
     assert_eq!(lists.links[2048..2050], [1, 0]);
     assert_eq!((&lists.keys[..2], &lists.cents[..2]), (&[7, 7][..], &[0, 5000][..]));
+    assert_eq!(lists.keys[host::DAYS..][..2], [20_454, u32::MAX]);
 }
 
 #[test]
@@ -40,11 +42,11 @@ fn lists_of_another_length() {
             0 => lists.board.push(0),
             1 => lists.bytes.truncate(1024),
             2 => lists.links.clear(),
-            3 => lists.keys.push(7),
+            3 => lists.keys.truncate(1024),
             _ => lists.cents.truncate(1023),
         }
         let found = lists.clone();
-        assert_eq!(host::add(&TABLE_P, &mut lists, 0, 1, 7, 0), NO_BOARD);
+        assert_eq!(host::add(&TABLE_P, &mut lists, 0, 1, 7, 0, 0), NO_BOARD);
         assert_eq!(host::step(&TABLE_P, &mut lists, 0), NO_BOARD);
         assert_eq!(host::quiet(&TABLE_P, &lists, &mut [0]), 30);
         assert_eq!(host::open(&TABLE_P, &mut lists.board), if list == 0 { 30 } else { 0 });
@@ -59,7 +61,8 @@ fn rows_of_another_length() {
     let uneven = [
         Replay { calls: &calls[..95], ..whole },
         Replay { calls: &calls[..32], ..whole },
-        Replay { numbers: &numbers[..31], ..whole },
+        Replay { numbers: &numbers[..63], ..whole },
+        Replay { numbers: &numbers[..32], ..whole },
         Replay { amounts: &amounts[..31], ..whole },
     ];
     let (mut lists, found, mut answers) = (opened(), opened(), [9; 31]);

@@ -81,12 +81,12 @@ fn answered_alike() {
     let mut first = Matcher::open(TABLE_P).unwrap();
     let mut merged = Matcher::open(merge_tables(&TABLE_P, &SECOND, &MAP).unwrap()).unwrap();
     for (sender, channel) in [(0, 1), (1, 0), (2, 0), (3, 1)] {
-        assert_eq!(first.add(sender, channel, 7, 5000), merged.add(sender, channel, 7, 5000));
+        assert_eq!(first.add(sender, channel, 7, 5000, 0), merged.add(sender, channel, 7, 5000, 0));
         for sender in [0, 1, 2, 3].repeat(20) {
             assert_eq!(first.step(sender), merged.step(sender));
         }
     }
     assert_eq!((first.counts(), merged.counts()), ((4, 2), (4, 2)));
     assert_eq!((first.match_(1), first.quiet()), (merged.match_(1), Ok(true)));
-    assert_eq!((first.add(4, 2, 7, 0), merged.add(4, 2, 7, 0).is_ok()), (Err(Refusal::NoSuchChannel), true));
+    assert_eq!((first.add(4, 2, 7, 0, 0), merged.add(4, 2, 7, 0, 0).is_ok()), (Err(Refusal::NoSuchChannel), true));
 }

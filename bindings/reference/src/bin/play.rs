@@ -38,15 +38,21 @@ fn read_line(line: &[u8]) -> Option<Call> {
     }
     let words: Vec<&[u8]> = line.split(|&byte| byte == b' ').collect();
     match words[..] {
-        [b"a", sender, channel, property, cents] => Some(Call::Add {
-            sender: number(sender)?.try_into().ok()?,
-            channel: number(channel)?.try_into().ok()?,
-            property: number(property)?.try_into().ok()?,
-            cents: signed(cents)?,
-        }),
+        [b"a", sender, channel, property, cents] => add([sender, channel, property, cents, b"0"]),
+        [b"a", sender, channel, property, cents, day] => add([sender, channel, property, cents, day]),
         [b"s", sender] => Some(Call::Step { sender: number(sender)?.try_into().ok()? }),
         _ => None,
     }
+}
+
+fn add([sender, channel, property, cents, day]: [&[u8]; 5]) -> Option<Call> {
+    Some(Call::Add {
+        sender: number(sender)?.try_into().ok()?,
+        channel: number(channel)?.try_into().ok()?,
+        property: number(property)?.try_into().ok()?,
+        cents: signed(cents)?,
+        day: number(day)?.try_into().ok()?,
+    })
 }
 
 /// Decimal digits, at least one; none above a u64.
