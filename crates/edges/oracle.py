@@ -1,5 +1,6 @@
 #!/usr/bin/env python3
-# The expected printout of edges, from document 01 alone: each line with the sentence or the reason that gives it.
+# The expected printout of edges, from document 01 and request 2 of document 02 alone: each line with the sentence or
+# the reason that gives it.
 # Run: python3 oracle.py | diff - stdout
 #
 # A line of one call: its answer, and `kept` where every list must be as found ("a refusal returns the number only and
@@ -8,12 +9,12 @@
 # empty board, all by one desk.
 #
 # The five lists: board, 674 numbers (items, matches, then 21 for each of 32 desks); bytes, 3,072 (trays, statuses,
-# rules of matches); links, 10,240 (matches of items, wakers, eight items of each match); keys, 1,024; cents, 1,024. A
-# desk's 21: state (0 idle, 1 at work, 2 blocked), signal, own item, waker, slip, match made (these four plus 1, 0 for
-# none), item in hand, rule, phase, place, second number, mark, how often `again`, eight chosen items. Phases: 0 look,
-# 1 claim, 2 revert (second: claims made), 3 consume (second: match plus 1), 4 tell, 5 wake, 6 free, 7 signal, 8 pass
-# end, 9 rest (place: rests left less 1). Wake, signal and pass end have no place. A rule, a place, the claims made
-# and the count of `again` are bytes; signal and mark are 0 or 1.
+# rules of matches); links, 10,240 (matches of items, wakers, eight items of each match); keys, 2,048 (properties,
+# days); cents, 1,024. A desk's 21: state (0 idle, 1 at work, 2 blocked), signal, own item, waker, slip, match made
+# (these four plus 1, 0 for none), item in hand, rule, phase, place, second number, mark, how often `again`, eight
+# chosen items. Phases: 0 look, 1 claim, 2 revert (second: claims made), 3 consume (second: match plus 1), 4 tell, 5
+# wake, 6 free, 7 signal, 8 pass end, 9 rest (place: rests left less 1). Wake, signal and pass end have no place. A
+# rule, a place, the claims made and the count of `again` are bytes; signal and mark are 0 or 1.
 
 
 def one(label, answer):
@@ -95,6 +96,8 @@ for name in ["board", "bytes", "links", "keys", "cents"]:
     broken(name)
     six(name, 13, 0, 0, 0, 14, 15)  # an empty board: desk 0 idle: 13; its add taken; no item 0, no match 0
     broken(name)
+    if name == "keys":
+        broken("keys, properties alone")  # 1,024 numbers, no days
 
 # 4. "a call given them first gives the reader's numbers": before 30 (a list too short) and 8 (desk 32).
 for n, label in [(1, "11 bytes"), (2, "17 trays"), (3, "a byte less"), (4, "tray byte 2"), (5, "a rule of 9"),
@@ -122,7 +125,7 @@ print("match 0: 15")
 print("slip: 0 reply 0")  # "A slip without a match reads as none, which is no refusal"
 print("quiet: 0 quiet")  # "every desk is idle, or blocked without a signal"
 
-# 6. Desks 0 to 31, trays under T, any property, cents in range.
+# 6. Desks 0 to 31, trays under T, any property, any day, cents in range.
 one("add, desk 31", "item 0")
 one("add, desk 32", "refused 8")
 one("add, desk 65,535", "refused 8")
@@ -136,10 +139,12 @@ one("tray 1 of 2", "item 0")
 one("tray 2 of 2", "refused 10")
 one("tray 256", "refused 10")  # not tray 0
 one("tray 65,535", "refused 10")
-for label, taken in [("property 0", True), ("property 4,294,967,295", True),  # "u32, any value"
-                     ("cents 999,999,999,999", True), ("cents 1,000,000,000,000", False),
+for label in ["property 0", "property 4,294,967,295", "day 0", "day 4,294,967,295"]:  # "u32, any value"
+    print(f"{label}: item 0 0 as sent")  # the add, and a read of item 0
+print("day 65,536, day 0 is asked for: item 0 0")  # read, and not as asked for
+for label, taken in [("cents 999,999,999,999", True), ("cents 1,000,000,000,000", False),
                      ("cents -999,999,999,999", True), ("cents -1,000,000,000,000", False)]:
-    print(f"{label}:", "item 0 0 as sent" if taken else "refused 11 kept 14")  # the add, and a read of item 0
+    print(f"{label}:", "item 0 0 as sent" if taken else "refused 11 kept 14")
 
 # 7. "A rule's members are handed back as the part of the table bytes that holds them"; "a claim alters one record of it
 # and no other": a pending one.
@@ -281,7 +286,8 @@ broken("the last desk, state 3")
 
 # 10. A replay, on table P and an empty board, of the first rows of 01's run of P: the calls of the rows, each as by
 # itself; 30 for rows that do not fit and 31 for less room than rows, after the refusals that every board call has. A
-# place for an answer that was not written is a dash.
+# row has three numbers of calls, a property and a day, and an amount. A place for an answer that was not written is a
+# dash.
 def replay(label, number, *answers):
     print(f"{label}: {number}", *answers)
 
@@ -293,8 +299,8 @@ replay("two rows, room for two", 0, *RUN[:2], "-")
 replay("three rows, room for three", 0, *RUN[:3], "-")
 replay("two rows, room for three", 0, *RUN[:2], "-")
 replay("no rows, no room", 0, "-", "kept")  # no call
-for label in ["a number of the calls less", "a number of the calls more", "a property less", "a property more",
-              "an amount less", "an amount more", "rows and no amounts"]:
+for label in ["a number of the calls less", "a number of the calls more", "a day less", "a property more",
+              "properties alone", "an amount less", "an amount more", "rows and no amounts"]:
     replay(label, "30 kept")
 replay("room for one", "31 kept")
 replay("no room", "31 kept")
@@ -303,3 +309,38 @@ replay("rows that fit, a board that is not sound", "30 kept")
 # then match 0, quiet, and desk 0's slip: "match 0 rule 0 cents 5000 items 1 0 / quiet yes"; the slip is match 0 plus 1
 replay("the run of P", 0, *RUN, "0 rule 0 members 2 items 1 0 cents 5000", "0 quiet", "0 reply 1")
 replay("1 before 30", "1 kept")
+
+
+# 11. "A look takes the fitting pending item with the least day, equal days by lowest number". Items are added by a desk
+# each, and the desk of the last steps: it has its item in hand, whose own day does not count. Then match 0 is read.
+def chosen(label, hand, rule, items, before=(), after=()):
+    adds = [f"item {n}" for n in range(hand + 1)]
+    looks = [f"looked {n}" for n in items]
+    consumes = [f"consumed {n}" for n in items]
+    read = [f"0 rule {rule} members 2 items", *items]
+    print(f"{label}:", *adds, *before, *looks, f"claimed {items[0]}", "matched 0", *consumes, *read, *after)
+
+
+def looked(label, hand, item):
+    print(f"{label}:", *[f"item {n}" for n in range(hand + 1)], f"looked {item}")
+
+
+# Rule: trays 0 1, of any properties. Items in tray 0 of the days in the label, then one in tray 1.
+chosen("days 9 and 3", 2, 0, [1, 2], after=["0 as sent"])  # and a read of item 1 with its day
+chosen("days 3 and 9", 2, 0, [0, 2])
+chosen("days 5 and 5", 2, 0, [0, 2])  # "equal days by lowest number"
+chosen("days 4,294,967,295 and 0", 2, 0, [1, 2])
+chosen("days 0 and 4,294,967,295", 2, 0, [0, 2])
+chosen("days 0 and 0", 2, 0, [0, 2])
+chosen("days 4,294,967,295, both", 2, 0, [0, 2])
+chosen("day 4,294,967,295 alone", 1, 0, [0, 1])  # there is no day that is none
+looked("days 2,147,483,648 and 2,147,483,647", 2, 1)  # a day has no sign
+looked("days 9, 3 and 3", 3, 1)
+# item 3 in hand; before it matches desk 4 comes: item 1 is claimed, so item 2; desk 5: item 1 is consumed, 2 is claimed
+print("days 9, 3 and 6, two of them taken: item 0 item 1 item 2 item 3 looked 1 looked 3 claimed 1",
+      "item 4 looked 2 looked 4 claimed 2 matched 0 matched 1 consumed 1 consumed 3 item 5 looked 0")
+# P's rule wants one property: item 1 is older and does not fit
+chosen("older, of another property", 2, 0, [0, 2])
+# Q's rule 0 names tray 0 and an empty one; rule 1 names tray 0 twice: the hand is the first, and not chosen again
+chosen("the oldest in hand", 2, 1, [2, 1], before=["looked 2", "missed"])
+chosen("the newest in hand", 2, 1, [2, 1], before=["looked 2", "missed"])

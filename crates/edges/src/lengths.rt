@@ -65,7 +65,7 @@ fn tables() {
     );
 }
 
-// Each list at no numbers, one less than a board has, as many, and one more; then the tables.
+// Each list at no numbers, one less than a board has, as many, and one more; keys without days; then the tables.
 pub fn lines() {
     opened(
         &ONE,
@@ -82,9 +82,10 @@ pub fn lines() {
         links|L 2 10240;y 0\n\
         links|L 2 10241;y 0\n\
         keys|L 3 0;y 0\n\
-        keys|L 3 1023;y 0\n\
-        keys|L 3 1024;y 0\n\
-        keys|L 3 1025;y 0\n\
+        keys|L 3 2047;y 0\n\
+        keys|L 3 2048;y 0\n\
+        keys|L 3 2049;y 0\n\
+        keys, properties alone|L 3 1024;y 0\n\
         cents|L 4 0;y 0\n\
         cents|L 4 1023;y 0\n\
         cents|L 4 1024;y 0\n\

@@ -1,5 +1,6 @@
 // The board's public calls at their edges. What is printed is held to `oracle.py`, which has the reasons.
 mod acts;
+mod days;
 mod full;
 mod jobs;
 mod lengths;
@@ -22,4 +23,5 @@ fn main() {
     jobs::lines();
     numbers::lines();
     replays::lines();
+    days::lines();
 }

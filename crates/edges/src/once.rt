@@ -22,6 +22,7 @@ fn record(status: u8) -> Message {
         channel: 1,
         property: 7,
         cents: 1,
+        day: 0,
         status: status,
         matched: 0,
         waker: 0,

@@ -28,11 +28,12 @@ fn numbers(q: u8, r: u8, m: u8, k: u8) {
     say::next(k);
 }
 
-// A message's number, and whether channel, property and cents are these.
+// A message's number, and whether channel, property, cents and day are these.
 fn message(r: MessageAnswer, x: Sent) {
     let m = r.message;
     say::next(r.number);
-    if (m.channel as u16 == x.channel) & (m.property == x.property) & (m.cents == x.cents) {
+    let told = (m.channel as u16 == x.channel) & (m.property == x.property);
+    if told & (m.cents == x.cents) & (m.day == x.day) {
         say::text(b" as sent");
     }
 }

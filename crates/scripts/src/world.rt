@@ -11,7 +11,7 @@ pub struct World {
     pub board: [u16; 675],
     pub bytes: [u8; 3073],
     pub links: [u16; 10241],
-    pub keys: [u32; 1025],
+    pub keys: [u32; 2049],
     pub cents: [i64; 1025],
     pub lens: [usize; 5],
 }
@@ -31,9 +31,9 @@ pub fn filled(x: u8) -> World {
         board: [number; 675],
         bytes: [x; 3073],
         links: [number; 10241],
-        keys: [key; 1025],
+        keys: [key; 2049],
         cents: [amount; 1025],
-        lens: [674, 3072, 10240, 1024, 1024],
+        lens: [674, 3072, 10240, 2048, 1024],
     }
 }
 
@@ -43,11 +43,12 @@ pub fn is_same(a: World, b: World) -> bool {
     while i < 10241 {
         let n = i % 675;
         let y = i % 3073;
-        let k = i % 1025;
+        let k = i % 2049;
+        let c = i % 1025;
         let numbers = (a.board[n] == b.board[n])
             & (a.bytes[y] == b.bytes[y])
             & (a.links[i] == b.links[i]);
-        if !(numbers & (a.keys[k] == b.keys[k]) & (a.cents[k] == b.cents[k])) {
+        if !(numbers & (a.keys[k] == b.keys[k]) & (a.cents[c] == b.cents[c])) {
             return false;
         }
         i += 1;
@@ -134,7 +135,7 @@ fn lend(
     mut board: [u16; 675],
     mut bytes: [u8; 3073],
     mut links: [u16; 10241],
-    mut keys: [u32; 1025],
+    mut keys: [u32; 2049],
     mut cents: [i64; 1025],
     lens: [usize; 5],
     p: Part,
@@ -142,7 +143,7 @@ fn lend(
     let n0 = lens[0] % 676;
     let n1 = lens[1] % 3074;
     let n2 = lens[2] % 10242;
-    let n3 = lens[3] % 1026;
+    let n3 = lens[3] % 2050;
     let n4 = lens[4] % 1026;
     let said = lent(
         table,
