@@ -1,10 +1,11 @@
--- `columns::in_block` meets its contract: the lowest bit of a block's word.
+-- `columns::in_block` meets its contract: the bits of a block's word.
 use mathlib.Core.Path.{_≡_}
 use Prim.Native.Nat.{_-_}
 use borrow.Author.Needs.{needs}
 use Rattle.columns.specs.Firsts.{ofKind}
+use Rattle.columns.specs.Ranks.{dayIn}
 use Rattle.columns.proofs.Walks.{kind-taking}
-use Rattle.columns.proofs.Words.{bit-first}
+use Rattle.columns.proofs.Words.{bit-least}
 use Rattle.columns.proofs.in_block.Statement.{statement}
 use Rattle.columns.proofs.in_block.Tie as tie
 
@@ -12,10 +13,10 @@ returns : tie.Need-returns
 returns c =
     let a = c .before .before .before .before .before .before .before .args in
     let z : a .to - a .from ≡ 64 = c .before .before .if1 .taken in
-    rw (c .first-of .ensures, c .before .word-at .ensures, z)
-    (bit-first (ofKind (a .channels .now) (a .statuses .now) (a .wanted) (a .status)) _ _
-    (kind-taking (a .channels .now) (a .keys .now) (a .statuses .now) (a .wanted) (a .status) (a .equal)
-    (a .property) (a .chosen .now)) (a .from) 64)
+    rw (c .least-of .ensures, c .before .word-at .ensures, z)
+    (bit-least (dayIn (a .keys .now)) (ofKind (a .channels .now) (a .statuses .now) (a .want .channel) (a .status)) _ _
+    (kind-taking (a .channels .now) (a .keys .now) (a .statuses .now) (a .want) (a .status) (a .chosen .now))
+    (a .best) (a .from) 64)
 
 pub in-block-spec : {M : Type 1} → statement M
 in-block-spec =
