@@ -14,6 +14,7 @@ ghost use Rattle.model.specs.Steps as MS;
 ghost use Rattle.columns.specs.Columns.{Unread, boardBy, Lent, Passed};
 ghost use Rattle.state.specs.declared.Phase.the-variants as P;
 ghost use Rattle.state.specs.Views.{phaseIn, chosenBy, jobIn, senderIn, effectIn};
+use columns::Want;
 use state::Change;
 use state::Effect;
 use state::Job;
@@ -21,7 +22,7 @@ use state::Phase;
 use state::Said;
 use state::Sender;
 
-// The message that a look takes for the k-th member: the subject in its own place, or else the lowest that is free; its
+// The message that a look takes for the k-th member: the subject in its own place, or else the oldest that is free; its
 // number plus 1, 0 for none.
 fn choice(
     table: &[u8],
@@ -51,17 +52,12 @@ fn choice(
     }
     let wanted = chords::channel_at(table, chord, k);
     let equal = table::is_equal(table, chord);
-    columns::lowest(
-        channels,
-        keys,
-        statuses,
-        start,
-        n,
-        wanted,
-        equal,
-        property,
-        chosen,
-    )
+    let want = Want {
+        channel: wanted,
+        equal: equal,
+        property: property,
+    };
+    columns::oldest(channels, keys, statuses, start, n, want, chosen)
 }
 
 // A look that takes none: the next chord, and the job is to be tried again if a claimed message would fit.
@@ -90,16 +86,12 @@ fn missed(
     let property = keys[at];
     let wanted = chords::channel_at(table, j.chord, k);
     let equal = table::is_equal(table, j.chord);
-    let claimed = columns::some_claimed(
-        channels,
-        keys,
-        statuses,
-        start,
-        n,
-        wanted,
-        equal,
-        property,
-    );
+    let want = Want {
+        channel: wanted,
+        equal: equal,
+        property: property,
+    };
+    let claimed = columns::some_claimed(channels, keys, statuses, start, n, want);
     let next = state::next_chord(table, j, channel, j.retry | claimed);
     state::works(d, next, Said::Missed, Change::None)
 }

@@ -31,9 +31,9 @@ returns-2 c =
     λ o w ws wc wk.
     let m = columnsBy (a .channels .now) (a .keys .now) (a .statuses .now) o in
     choice-other t (a .channels .now) (a .keys .now) (a .statuses .now) (a .n) o w (a .k) (f .first-of .result)
-    (a .subject) (a .chord) (s .pre .1 .0 .1) (f .first-of .ensures) ws wc (x .channel-at .result) (c .lowest .result)
+    (a .subject) (a .chord) (s .pre .1 .0 .1) (f .first-of .ensures) ws wc (x .channel-at .result) (c .oldest .result)
     (a .chosen .now) wk (i .if1 .left) (x .channel-at .ensures)
-    (c .lowest .ensures .1 o (chordAt t (a .chord)) (getD (messagesFrom m 0 (a .n)) (a .subject) noMessage .sent)
+    (c .oldest .ensures .1 o (chordAt t (a .chord)) (getD (messagesFrom m 0 (a .n)) (a .subject) noMessage .sent)
     (sym (g .is-equal .ensures)) (nth-property m (a .n) (a .subject) (s .pre .1 .0 .1)))
 
 pub choice-spec : {M : Type 1} → statement M
