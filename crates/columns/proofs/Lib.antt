@@ -7,3 +7,4 @@ pub mod Oldests
 pub mod Walks
 pub mod Passed
 pub mod Words
+pub mod Blocks

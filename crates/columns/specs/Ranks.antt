@@ -1,7 +1,9 @@
 -- A message's rank in the order of days and numbers, and the least rank of those that pass a test (rule 4.2).
+use mathlib.Core.Path.{_≡_}
+use mathlib.Core.Logic.{_⊎_}
 use mathlib.Core.Bool.{Bool, _&&_, _||_, not}
 use mathlib.Core.List.{List}
-use Prim.Native.Nat.{ℕ, zero, suc, _+_, _*_}
+use Prim.Native.Nat.{ℕ, zero, suc, _+_, _*_, _<_}
 use lib.Dec.{eqb, ltb}
 use lib.ListN.{getD}
 use Rattle.model.specs.Basics.{pick}
@@ -27,3 +29,7 @@ isFirst b = not (eqb b 0) && ltb b 65536
 unfoldable pub leastFrom : (ℕ → ℕ) → (ℕ → Bool) → ℕ → ℕ → ℕ → ℕ
 leastFrom day p b i zero = b
 leastFrom day p b i (suc n) = leastFrom day p (better (p i) (rankOf day i) b) (suc i) n
+
+-- b is none, or the rank of a message below number n
+abbrev pub RankBelow : (ℕ → ℕ) → ℕ → ℕ → Type 0
+RankBelow day n b = (b ≡ 0) ⊎ ((k : ℕ) × (k < n) × (b ≡ rankOf day k))

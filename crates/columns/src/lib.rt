@@ -3,14 +3,15 @@ ghost use mathlib.Core.Path.{_≡_};
 ghost use mathlib.Core.Logic.{_⊎_};
 ghost use Prim.Native.Nat.{ℕ, _+_, _-_, _<_, _≤_};
 ghost use mathlib.Core.Bool.{false};
+ghost use mathlib.Core.List.{List};
 ghost use lib.ListN.{length, getD};
 ghost use Rattle.model.specs.Basics.{isIn};
 ghost use Rattle.model.specs.Tables.{Chord};
 ghost use Rattle.model.specs.Boards.{Sent};
 ghost use Rattle.model.specs.Looks.{isFree, oldest, someClaimed, dayAt};
 ghost use Rattle.columns.specs.Columns.{Lent, Passed, Unread, daysAt, boardBy};
-ghost use Rattle.columns.specs.Firsts.{firstFrom, found, ofKind, taking, eligible};
-ghost use Rattle.columns.specs.Ranks.{dayIn, rankOf, better, isFirst, leastFrom};
+ghost use Rattle.columns.specs.Firsts.{firstFrom, found, ofKind, ofProperty, ofDayBefore, taking, eligible};
+ghost use Rattle.columns.specs.Ranks.{dayIn, rankOf, better, isFirst, leastFrom, RankBelow};
 ghost use Rattle.columns.specs.Words.{bit, wordFrom, leastBit};
 
 // What a member of a chord wants of a message: the channel, and the property number where equal ones are wanted.
@@ -138,6 +139,53 @@ fn rank(keys: &[u32], n: u16) -> u64
     (day as u64) * 65536 + ((n as u64) + 1)
 }
 
+// One of the messages of the numbers `from` up to `to` has the property.
+fn any_property(keys: &[u32], from: usize, to: usize, property: u32) -> bool
+    requires { ⌜ (from ≤ to) × (to ≤ length (now keys)) ⌝ }
+    ensures { λ r. ⌜ r ≡ found (firstFrom (ofProperty (now (keys .entry)) property) from (to - from)) ⌝ }
+{
+    let mut any = false;
+    let mut i = from;
+    while i < to {
+        any = any | (keys[i] == property);
+        i += 1;
+    }
+    any
+}
+
+// One of them is of a day before that day.
+fn any_before(keys: &[u32], from: usize, to: usize, day: u32) -> bool
+    requires { ⌜ (from ≤ to) × (daysAt + to ≤ length (now keys)) ⌝ }
+    ensures { λ r. ⌜ r ≡ found (firstFrom (ofDayBefore (now (keys .entry)) day) from (to - from)) ⌝ }
+{
+    let mut any = false;
+    let mut i = from;
+    while i < to {
+        any = any | (keys[DAYS + i] < day);
+        i += 1;
+    }
+    any
+}
+
+// Whether one of the 64 messages from number `at` on may have the property and come before the best so far.
+fn is_worth(keys: &[u32], at: usize, want: Want, best: u64) -> bool
+    requires { ⌜ (daysAt + (at + 64) ≤ length (now keys)) × (at + 64 ≤ 1024) ⌝ }
+    requires { ⌜ RankBelow (dayIn (now keys)) at best ⌝ }
+    ensures { λ r. ⌜ (r ≡ false → (chosen : List ℕ) (k : ℕ) → at ≤ k → k < at + 64
+        → better (taking (now (keys .entry)) want chosen k) (rankOf (dayIn (now (keys .entry))) k) best ≡ best) ⌝ }
+{
+    if want.equal {
+        if !any_property(keys, at, at + 64, want.property) {
+            return false;
+        }
+    }
+    if best == 0 {
+        return true;
+    }
+    let number = (best % 65536) as usize;
+    any_before(keys, at, at + 64, keys[DAYS + (number - 1)])
+}
+
 // The best rank so far, or that of message n where it is to be taken and comes before it; 0 is none.
 fn weighed(keys: &[u32], n: u16, want: Want, best: u64, chosen: &[u16]) -> u64
     requires { ⌜ daysAt + n < length (now keys) ⌝ }
@@ -241,10 +289,14 @@ fn in_block(
     chosen: &[u16],
 ) -> u64
     requires { ⌜ (from ≤ to) × Lent to (now channels) (now keys) (now statuses) × (isFirst best ≡ false) ⌝ }
+    requires { ⌜ RankBelow (dayIn (now keys)) from best ⌝ }
     ensures { λ r. ⌜ r ≡ leastFrom (dayIn (now (keys .entry))) (eligible (now (channels .entry)) (now (keys .entry))
         (now (statuses .entry)) want status (now (chosen .entry))) best from (to - from) ⌝ }
 {
     if to - from == 64 {
+        if !is_worth(keys, from as usize, want, best) {
+            return best;
+        }
         let w = word_at(channels, statuses, from as usize, want.channel, status);
         return least_of(keys, w, from, want, best, chosen);
     }
