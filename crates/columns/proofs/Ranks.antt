@@ -8,7 +8,7 @@ use native.Mathlib.Numerals.{add-one}
 use native.Mathlib.Omega.{arith}
 use lib.Dec.{eqb, ltb}
 use lib.ListN.{getD}
-use borrow.Author.Tests.{ne-eqb, le-ltb, eqb-false, ltb-true, not-true}
+use borrow.Author.Tests.{ne-eqb, le-ltb, eqb-false, ltb-true, not-true, not-false}
 use Rattle.model.specs.Basics.{pick}
 use Rattle.model.proofs.Tests.{both, never, tested}
 use Rattle.columns.specs.Firsts.{firstFrom}
@@ -20,19 +20,19 @@ pub better-unless : (t : Bool) (x b : ℕ) → t ≡ false → better t x b ≡ 
 unfolding better
 better-unless t x b e = rw e
 
-pub better-later : (t : Bool) (x b r : ℕ) → r ≡ x → (eqb b 0 || ltb r b) ≡ false → better t x b ≡ b
+pub better-later : (t : Bool) (x b r : ℕ) → r ≡ x → not (eqb b 0 || ltb r b) ≡ true → better t x b ≡ b
 unfolding better
-better-later t x b r e f = rw (← e, f, and-false t)
+better-later t x b r e f = rw (← e, not-true (eqb b 0 || ltb r b) f, and-false t)
 
-pub better-taken : (t : Bool) (x b r : ℕ) → r ≡ x → t ≡ true → (eqb b 0 || ltb r b) ≡ true → r ≡ better t x b
+pub better-taken : (t : Bool) (x b r : ℕ) → r ≡ x → t ≡ true → not (eqb b 0 || ltb r b) ≡ false → r ≡ better t x b
 unfolding better
-better-taken t x b r e g f = rw (g, ← e, f)
+better-taken t x b r e g f = rw (g, ← e, not-false (eqb b 0 || ltb r b) f)
 
 -- a best of day 0 stays beside a greater rank
 pub better-stays : (t : Bool) (x b : ℕ) → isFirst b ≡ true → b < x → better t x b ≡ b
 better-stays t x b f h =
     let n : b ≢ 0 = eqb-false b 0 (not-true _ (both {t = not (eqb b 0)} f .0)) in
-    better-later t x b x refl (rw (ne-eqb b 0 n) (le-ltb x b (omega arith)))
+    better-later t x b x refl (rw (ne-eqb b 0 n, le-ltb x b (omega arith)))
 
 pub rank-is : (keys : List ℕ) (k r : ℕ) → r ≡ getD keys (1024 + k) 0 * 65536 + (k + 1) → r ≡ rankOf (dayIn keys) k
 unfolding rankOf

@@ -20,7 +20,7 @@ returns-2 c =
     let a = c .before .before .before .before .before .before .before .before .args in
     let k = c .before .rank in
     sym (better-later _ (rankOf (dayIn (a .keys .now)) (a .n)) (a .best) (k .result) (k .ensures)
-    (not-true _ (c .if2 .taken)))
+    (c .if2 .taken))
 
 returns-3 : tie.Need-returns-3
 returns-3 c =
@@ -38,7 +38,7 @@ returns-4 c =
     better-taken _ (rankOf (dayIn (a .keys .now)) (a .n)) (a .best) (k .rank .result) (k .rank .ensures)
     (wanted-by (a .keys .now) (a .want) (a .chosen .now) (a .n) false (not-false _ (e .if1 .left))
     (sym (c .if3 .left) ∙ c .before .is-in .ensures))
-    (not-false _ (c .before .before .if2 .left))
+    (c .before .before .if2 .left)
 
 pub weighed-spec : {M : Type 1} → statement M
 weighed-spec =
