@@ -9,11 +9,11 @@ use native.Mathlib.Omega.{arith}
 use Rattle.model.specs.Tables.{Table, Chord, chordAt, channelAt, size}
 use Rattle.model.specs.Boards.{Board, Job, Phase, State, Sent, Message, Status, messageAt, noMessage, look, claim}
 use Rattle.model.specs.Boards.{revert, pending, claimed, woken, consumed, isClaimed, isPending, isOpen}
-use Rattle.model.specs.Looks.{fits, someClaimed, missedRetry, choice}
+use Rattle.model.specs.Looks.{fits, someClaimed, missedRetry, choice, Chosen, the-subject, another}
 use Rattle.model.specs.Holdings.{Held-place, Holds}
 use Rattle.model.proofs.Tests.{both, never}
 use Rattle.model.proofs.Grows.{is-pending}
-use Rattle.model.proofs.Choice.{Chosen, the-subject, another, choice-some}
+use Rattle.model.proofs.Choice.{choice-some}
 use Rattle.model.proofs.AtWork.{AtWork}
 use Rattle.alone.proofs.Calm.{Calm}
 

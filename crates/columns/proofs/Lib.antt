@@ -2,6 +2,9 @@
 pub mod ListFrom
 pub mod Messages
 pub mod Firsts
+pub mod Ranks
+pub mod Oldests
 pub mod Walks
 pub mod Passed
 pub mod Words
+pub mod Blocks

@@ -1,94 +1,116 @@
--- Laws of messages walked by their columns: their tests, and the first that passes.
-use mathlib.Core.Path.{_≡_, refl, _∙_}
-use mathlib.Core.Bool.{Bool, true, false, _&&_, _||_, not, and-false, and-true, and-assoc}
+-- Laws of messages walked by their columns: their tests, and the oldest that passes.
+use mathlib.Core.Path.{_≡_, refl, sym, ap, _∙_}
+use mathlib.Core.Bool.{Bool, true, false, _&&_, _||_, not, and-false}
 use mathlib.Core.List.{List, []}
-use Prim.Native.Nat.{ℕ, _+_, _-_, _<_, _≤_}
+use Prim.Native.Nat.{ℕ, _-_, _%_, _<_, _≤_}
+use native.Mathlib.Omega.{arith}
 use lib.Dec.{eqb}
 use lib.ListN.{getD}
-use Rattle.model.specs.Basics.{isIn, pick}
+use Rattle.model.specs.Basics.{isIn}
 use Rattle.model.specs.Tables.{Chord}
-use Rattle.model.specs.Boards.{Sent, isClaimed}
-use Rattle.model.specs.Looks.{alike, fits, isFree, lowest, someClaimed}
-use Rattle.columns.specs.Columns.{Columns, messageIn, messagesFrom}
-use Rattle.columns.specs.Firsts.{firstFrom, found, ofKind, taking, suiting, eligible}
-use Rattle.columns.proofs.Firsts.{first-step, first-skip, first-lowest, first-found}
-use Rattle.columns.proofs.Messages.{pending-is, claimed-is}
+use Rattle.model.specs.Boards.{Sent, Message, noMessage, isClaimed}
+use Rattle.model.specs.Looks.{alike, fits, isFree, oldest, someClaimed, dayAt}
+use Rattle.columns.specs.declared.Want as DW
+use Rattle.columns.specs.Columns.{Columns, Unread, messageIn, messagesFrom, columnsBy, boardBy}
+use Rattle.columns.specs.Firsts.{firstFrom, ofKind, taking, eligible}
+use Rattle.columns.specs.Ranks.{dayIn, leastFrom}
+use Rattle.columns.proofs.Ranks.{least-skip}
+use Rattle.columns.proofs.Oldests.{least-oldest, least-found}
+use Rattle.columns.proofs.Messages.{pending-is, claimed-is, nth-message}
 
 -- equal property numbers, where the chord wants them
 pub alike-is : (c : Chord) (s x : Sent) → alike c s x ≡ (not (c .equal) || eqb (x .property) (s .property))
 unfolding alike
 alike-is c s x = refl
 
-module _ (channels keys statuses : List ℕ) (wanted status : ℕ) (equal : Bool) (property : ℕ)
-    (chosen : List ℕ) (k : ℕ) where
-  eligible-is : (t u : Bool) → suiting channels keys statuses wanted status equal property k ≡ t
-      → isIn k chosen ≡ u → eligible channels keys statuses wanted status equal property chosen k ≡ (t && not u)
-  unfolding eligible
-  eligible-is t u e f = rw (e, f)
+-- a message is to be taken by two tests
+module _ (keys : List ℕ) (want : DW.Want) (chosen : List ℕ) (k : ℕ) where
+  pub not-wanted : (not (want .equal) || eqb (getD keys k 0) (want .property)) ≡ false
+      → taking keys want chosen k ≡ false
+  unfolding taking
+  not-wanted e = rw e
 
-  -- the first is message k, or one of those after it
-  pub eligible-step : (n : ℕ) → k < n → (t u : Bool)
-      → suiting channels keys statuses wanted status equal property k ≡ t → isIn k chosen ≡ u →
-      let q = eligible channels keys statuses wanted status equal property chosen in
-      firstFrom q k (n - k) ≡ pick (t && not u) (k + 1) (firstFrom q (k + 1) (n - (k + 1)))
-  eligible-step n h t u e f = first-step _ k n h ∙ rw (eligible-is t u e f)
+  pub wanted-by : (u : Bool) → (not (want .equal) || eqb (getD keys k 0) (want .property)) ≡ true → u ≡ isIn k chosen
+      → taking keys want chosen k ≡ not u
+  unfolding taking
+  wanted-by u e f = rw (e, f)
 
+module _ (channels keys statuses : List ℕ) (want : DW.Want) (status : ℕ) (chosen : List ℕ) where
   -- of another channel or status it is not eligible
-  other-kind : ofKind channels statuses wanted status k ≡ false
-      → eligible channels keys statuses wanted status equal property chosen k ≡ false
-  unfolding ofKind eligible
-  other-kind e =
-      go (eqb (getD channels k 0) wanted) (not equal || eqb (getD keys k 0) property)
-      (eqb (getD statuses k 0) status) (not (isIn k chosen)) e
-    where
-      go : (a b d f : Bool) → (a && d) ≡ false → (((a && b) && d) && f) ≡ false
-      go false b d f e = refl
-      go true false d f e = refl
-      go true true d f e = rw e
+  pub other-kind : (k : ℕ) → ofKind channels statuses (want .channel) status k ≡ false
+      → eligible channels keys statuses want status chosen k ≡ false
+  unfolding eligible
+  other-kind k e = rw e
 
   -- of both it is eligible where it is to be taken
-  pub kind-taking : (ofKind channels statuses wanted status k && taking keys equal property chosen k)
-      ≡ eligible channels keys statuses wanted status equal property chosen k
-  unfolding ofKind taking eligible
-  kind-taking =
-      go (eqb (getD channels k 0) wanted) (not equal || eqb (getD keys k 0) property)
-      (eqb (getD statuses k 0) status) (not (isIn k chosen))
+  pub kind-taking : (k : ℕ) → (ofKind channels statuses (want .channel) status k && taking keys want chosen k)
+      ≡ eligible channels keys statuses want status chosen k
+  unfolding eligible
+  kind-taking k = refl
+
+  pub kind-is : (k : ℕ) → ofKind channels statuses (want .channel) status k ≡ true
+      → eligible channels keys statuses want status chosen k ≡ taking keys want chosen k
+  unfolding eligible
+  kind-is k e = rw e
+
+  -- messages of other channels or statuses are passed over
+  pub kind-skip : (b i j n : ℕ) → i ≤ j → j ≤ n
+      → firstFrom (ofKind channels statuses (want .channel) status) i (j - i) ≡ 0
+      → let q = eligible channels keys statuses want status chosen in
+      leastFrom (dayIn keys) q b i (n - i) ≡ leastFrom (dayIn keys) q b j (n - j)
+  kind-skip = least-skip (dayIn keys) _ (ofKind channels statuses (want .channel) status) other-kind
+
+day-from : (m : Columns) (n k : ℕ) → k < n
+    → dayIn (m .keys) k ≡ getD (messagesFrom m 0 n) k noMessage .sent .day
+unfolding messageIn
+day-from m n k h = sym (ap (λ (x : Message). x .sent .day) (nth-message m n k h))
+
+module _ (channels keys statuses : List ℕ) (o : Unread) (n : ℕ) (want : DW.Want) (c : Chord) (s : Sent)
+    (e : c .equal ≡ want .equal) (p : s .property ≡ want .property) (l : n ≤ 1024) where
+  abbrev m : Columns
+  m = columnsBy channels keys statuses o
+
+  free-is : (chosen : List ℕ) (k : ℕ)
+      → isFree c (want .channel) s chosen k (messageIn m k) ≡ eligible channels keys statuses want 0 chosen k
+  unfolding messageIn eligible ofKind taking
+  free-is chosen k =
+      rw (alike-is, e, p, pending-is (getD statuses k 0))
+      (go (eqb (getD channels k 0) (want .channel)) (not (want .equal) || eqb (getD keys k 0) (want .property))
+      (eqb (getD statuses k 0) 0) (not (isIn k chosen)))
     where
-      go : (a b d f : Bool) → ((a && d) && (b && f)) ≡ (((a && b) && d) && f)
+      go : (a b d f : Bool) → ((a && b) && (d && f)) ≡ ((a && d) && (b && f))
       go false b d f = refl
-      go true b false f = rw (and-false b)
-      go true b true f = rw (and-true b)
+      go true b false f = and-false b
+      go true b true f = refl
 
--- messages of other channels or statuses are passed over
-pub kind-skip : (channels keys statuses : List ℕ) (wanted status : ℕ) (equal : Bool) (property : ℕ)
-    (chosen : List ℕ) (i j n : ℕ) → i ≤ j → j ≤ n
-    → firstFrom (ofKind channels statuses wanted status) i (j - i) ≡ 0 →
-    let q = eligible channels keys statuses wanted status equal property chosen in
-    firstFrom q i (n - i) ≡ firstFrom q j (n - j)
-kind-skip channels keys statuses wanted status equal property chosen =
-    first-skip _ (ofKind channels statuses wanted status)
-    (other-kind channels keys statuses wanted status equal property chosen)
+  -- of the least rank of the pending ones the number
+  pub oldest-is : (chosen : List ℕ) (r : ℕ)
+      → r ≡ leastFrom (dayIn keys) (eligible channels keys statuses want 0 chosen) 0 0 n
+      → r % 65536
+      ≡ oldest (dayAt (boardBy channels keys statuses n o)) (isFree c (want .channel) s chosen) 0 (messagesFrom m 0 n)
+  oldest-is chosen r q =
+      ap (λ x. x % 65536) q
+      ∙ least-oldest (dayIn keys) _ (messageIn m) (isFree c (want .channel) s chosen) (free-is chosen)
+      (dayAt (boardBy channels keys statuses n o)) n (omega arith) (day-from m n)
 
-module _ (m : Columns) (n wanted : ℕ) (c : Chord) (s : Sent) (equal : Bool) (property : ℕ)
-    (e : c .equal ≡ equal) (p : s .property ≡ property) where
-  free-is : (chosen : List ℕ) (k : ℕ) → isFree c wanted s chosen k (messageIn m k)
-      ≡ eligible (m .channels) (m .keys) (m .statuses) wanted 0 equal property chosen k
-  unfolding messageIn eligible
-  free-is chosen k = rw (alike-is, e, p, pending-is (getD (m .statuses) k 0), ← and-assoc)
+  claiming : (k : ℕ) → (fits c (want .channel) s (messageIn m k) && isClaimed (messageIn m k .status))
+      ≡ eligible channels keys statuses want 1 [] k
+  unfolding messageIn eligible ofKind taking
+  claiming k =
+      rw (alike-is, e, p, claimed-is (getD statuses k 0))
+      (go (eqb (getD channels k 0) (want .channel)) (not (want .equal) || eqb (getD keys k 0) (want .property))
+      (eqb (getD statuses k 0) 1))
+    where
+      go : (a b d : Bool) → ((a && b) && d) ≡ ((a && d) && (b && true))
+      go false b d = refl
+      go true b false = and-false b
+      go true b true = refl
 
-  pub lowest-is : (chosen : List ℕ)
-      → firstFrom (eligible (m .channels) (m .keys) (m .statuses) wanted 0 equal property chosen) 0 n
-      ≡ lowest (isFree c wanted s chosen) 0 (messagesFrom m 0 n)
-  lowest-is chosen = first-lowest _ (messageIn m) (isFree c wanted s chosen) (free-is chosen) 0 n
-
-  claiming : (k : ℕ) → (fits c wanted s (messageIn m k) && isClaimed (messageIn m k .status))
-      ≡ eligible (m .channels) (m .keys) (m .statuses) wanted 1 equal property [] k
-  unfolding messageIn eligible
-  claiming k = rw (alike-is, e, p, claimed-is (getD (m .statuses) k 0), and-true)
-
-  pub some-claimed-is :
-      found (firstFrom (eligible (m .channels) (m .keys) (m .statuses) wanted 1 equal property []) 0 n)
-      ≡ someClaimed c wanted s (messagesFrom m 0 n)
+  -- there is a least rank of the claimed ones
+  pub some-claimed-is : (r : ℕ) → r ≡ leastFrom (dayIn keys) (eligible channels keys statuses want 1 []) 0 0 n
+      → not (eqb r 0) ≡ someClaimed c (want .channel) s (messagesFrom m 0 n)
   unfolding someClaimed
-  some-claimed-is =
-      first-found _ (messageIn m) (λ x. fits c wanted s x && isClaimed (x .status)) claiming 0 n
+  some-claimed-is r q =
+      ap (λ x. not (eqb x 0)) q
+      ∙ least-found (dayIn keys) _ (messageIn m) (λ x. fits c (want .channel) s x && isClaimed (x .status)) claiming n
+      (omega arith)

@@ -9,9 +9,9 @@ use native.Mathlib.Omega.{arith}
 use lib.Pow.{pow-pos, pow-mono, shl-exact}
 use lib.Count.{trailingZeros, under}
 use lib.Dec.{eqb}
-use Rattle.model.specs.Basics.{pick}
-use Rattle.columns.specs.Firsts.{firstFrom}
-use Rattle.columns.specs.Words.{bit, wordFrom, firstBit}
+use Rattle.columns.specs.Ranks.{rankOf, better, isFirst, leastFrom}
+use Rattle.columns.specs.Words.{bit, wordFrom, leastBit}
+use Rattle.columns.proofs.Ranks.{rank-above, better-stays}
 
 pub bit-le : (b : Bool) → bit b ≤ 1
 unfolding bit
@@ -88,54 +88,75 @@ lowest-bit w h l =
     let two : 1 < 2 ^ 1 = omega (arith, two-pow-succ 0, pow-zero 2) in
     (z .0, pow-pos t, z .1, shl-exact 1 t 64 two (omega arith) ∙ one-mul (2 ^ t))
 
-module _ (p : ℕ → Bool) where
-  bit-clear : (w i n : ℕ) → w % 2 ≡ 0 → firstBit p w i (suc n) ≡ firstBit p (w / 2) (suc i) n
-  unfolding firstBit
-  bit-clear w i n e = rw e
+module _ (day : ℕ → ℕ) (p : ℕ → Bool) where
+  bit-clear : (w b i n : ℕ) → w % 2 ≡ 0 → leastBit day p w b i (suc n) ≡ leastBit day p (w / 2) b (suc i) n
+  unfolding leastBit better
+  bit-clear w b i n e = rw e
 
-  bit-set : (w i n : ℕ) → w % 2 ≡ 1 → firstBit p w i (suc n) ≡ pick (p i) (suc i) (firstBit p (w / 2) (suc i) n)
-  unfolding firstBit
-  bit-set w i n e = rw e
+  bit-set : (w b i n : ℕ) → w % 2 ≡ 1
+      → leastBit day p w b i (suc n) ≡ leastBit day p (w / 2) (better (p i) (rankOf day i) b) (suc i) n
+  unfolding leastBit
+  bit-set w b i n e = rw e
 
   -- no bit is set
-  pub bit-none : (i n : ℕ) → firstBit p 0 i n ≡ 0
-  unfolding firstBit
-  bit-none i zero = refl
-  bit-none i (suc n) = bit-none (suc i) n
+  pub bit-none : (b i n : ℕ) → leastBit day p 0 b i n ≡ b
+  unfolding leastBit better
+  bit-none b i zero = refl
+  bit-none b i (suc n) = bit-none b (suc i) n
+
+  -- a best of day 0 stays
+  bit-stays : (w b i n : ℕ) → isFirst b ≡ true → b ≤ i → leastBit day p w b i n ≡ b
+  unfolding leastBit
+  bit-stays w b i zero f h = refl
+  bit-stays w b i (suc n) f h =
+      let l = rank-above day i in
+      rw (better-stays (eqb (w % 2) 1 && p i) (rankOf day i) b f (omega arith))
+      (bit-stays (w / 2) b (suc i) n f (omega arith))
+
+  -- the lowest bit, at place t, is number k's: the least is that of the other bits, x the best with number k weighed;
+  -- where x is of day 0 and number k's, it is x
+  abbrev pub Turn : ℕ → ℕ → ℕ → ℕ → ℕ → ℕ → ℕ → Type 0
+  Turn k b x n w i t =
+      (leastBit day p w b i n ≡ leastBit day p (w - 2 ^ t) x i n)
+      × (isFirst x ≡ true → x ≤ k + 1 → leastBit day p (w - 2 ^ t) x i n ≡ x)
 
   -- `bit-turn` below by the last digit d, t the place of the lowest bit of the others
-  turn-under : (n w i k t d : ℕ) → w % 2 ≡ d → w ≢ 0 → (d ≡ 0 → 2 ^ t ≤ w / 2)
-      → (d ≡ 0 → suc i + t ≡ k
-      → firstBit p (w / 2) (suc i) n ≡ pick (p k) (k + 1) (firstBit p (w / 2 - 2 ^ t) (suc i) n))
-      → i + under d t ≡ k
-      → firstBit p w i (suc n) ≡ pick (p k) (k + 1) (firstBit p (w - 2 ^ under d t) i (suc n))
-  turn-under n w i k t zero x h l f y =
+  turn-under : (n w i k b x t d : ℕ) → better (p k) (rankOf day k) b ≡ x → w % 2 ≡ d → w ≢ 0
+      → (d ≡ 0 → 2 ^ t ≤ w / 2) → (d ≡ 0 → suc i + t ≡ k → Turn k b x n (w / 2) (suc i) t) → i + under d t ≡ k
+      → Turn k b x (suc n) w i (under d t)
+  turn-under n w i k b x t zero q e h l f y =
       let m = l refl in
       let c : (w - 2 ^ suc t) % 2 ≡ 0 = omega (arith, two-pow-succ t) in
-      let b : (w - 2 ^ suc t) / 2 ≡ w / 2 - 2 ^ t = omega (arith, two-pow-succ t) in
-      bit-clear w i n x ∙ f refl (omega arith) ∙ rw (bit-clear (w - 2 ^ suc t) i n c, b)
-  turn-under n w i k t (suc d) x h l f y =
+      let z : (w - 2 ^ suc t) / 2 ≡ w / 2 - 2 ^ t = omega (arith, two-pow-succ t) in
+      let r = f refl (omega arith) in (
+        bit-clear w b i n e ∙ r .0 ∙ rw (bit-clear (w - 2 ^ suc t) x i n c, z),
+        λ g a. rw (bit-clear (w - 2 ^ suc t) x i n c, z) (r .1 g a),
+      )
+  turn-under n w i k b x t (suc d) q e h l f y =
       let o : w % 2 ≡ 1 = omega arith in
       let c : (w - 1) % 2 ≡ 0 = omega arith in
-      let b : (w - 1) / 2 ≡ w / 2 = omega arith in
-      let z : k ≡ i = omega arith in
-      bit-set w i n o ∙ rw (z, pow-zero 2, add-one i, bit-clear (w - 1) i n c, b)
+      let z : (w - 1) / 2 ≡ w / 2 = omega arith in
+      let s : i ≡ k = omega arith in
+      let u : better (p i) (rankOf day i) b ≡ x = rw s q in (
+        bit-set w b i n o ∙ rw (u, pow-zero 2, bit-clear (w - 1) x i n c, z),
+        λ g a. rw (pow-zero 2, bit-clear (w - 1) x i n c) (bit-stays ((w - 1) / 2) x (suc i) n g (omega arith)),
+      )
 
-  -- the first is the number of the lowest bit, or one of those of the other bits
-  pub bit-turn : (n w i k : ℕ) → w ≢ 0 → w < 2 ^ n → i + trailingZeros n w ≡ k
-      → firstBit p w i n ≡ pick (p k) (k + 1) (firstBit p (w - 2 ^ trailingZeros n w) i n)
+  pub bit-turn : (n w i k b x : ℕ) → better (p k) (rankOf day k) b ≡ x → w ≢ 0 → w < 2 ^ n → i + trailingZeros n w ≡ k
+      → Turn k b x n w i (trailingZeros n w)
   unfolding trailingZeros
-  bit-turn zero w i k h l e = absurd (h (omega (arith, pow-zero 2)))
-  bit-turn (suc n) w i k h l e =
+  bit-turn zero w i k b x q h l e = absurd (h (omega (arith, pow-zero 2)))
+  bit-turn (suc n) w i k b x q h l e =
       let less : w / 2 < 2 ^ n = omega (arith, two-pow-succ n) in
-      turn-under n w i k (trailingZeros n (w / 2)) (w % 2) refl h
-      (λ x. trailing-low n (w / 2) (λ y. h (omega arith)) less .1)
-      (λ x. bit-turn n (w / 2) (suc i) k (λ y. h (omega arith)) less) e
+      turn-under n w i k b x (trailingZeros n (w / 2)) (w % 2) q refl h
+      (λ y. trailing-low n (w / 2) (λ z. h (omega arith)) less .1)
+      (λ y. bit-turn n (w / 2) (suc i) k b x q (λ z. h (omega arith)) less) e
 
--- the first of a word of tests p that passes q too
-pub bit-first : (p q r : ℕ → Bool) → ((k : ℕ) → (p k && q k) ≡ r k) → (i n : ℕ)
-    → firstBit q (wordFrom (λ k. bit (p k)) i n) i n ≡ firstFrom r i n
-unfolding firstBit wordFrom firstFrom
-bit-first p q r h i zero = refl
-bit-first p q r h i (suc n) =
-    rw (low-bit (p i), high-bits (p i), bit-is (p i), h i, bit-first p q r h (suc i) n)
+-- the least of a word of tests p that passes q too
+pub bit-least : (day : ℕ → ℕ) (p q r : ℕ → Bool) → ((k : ℕ) → (p k && q k) ≡ r k) → (b i n : ℕ)
+    → leastBit day q (wordFrom (λ k. bit (p k)) i n) b i n ≡ leastFrom day r b i n
+unfolding leastBit wordFrom leastFrom
+bit-least day p q r h b i zero = refl
+bit-least day p q r h b i (suc n) =
+    rw (low-bit (p i), high-bits (p i), bit-is (p i), h i)
+    (bit-least day p q r h (better (r i) (rankOf day i) b) (suc i) n)

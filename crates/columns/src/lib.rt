@@ -2,16 +2,27 @@
 ghost use mathlib.Core.Path.{_≡_};
 ghost use mathlib.Core.Logic.{_⊎_};
 ghost use Prim.Native.Nat.{ℕ, _+_, _-_, _<_, _≤_};
-ghost use mathlib.Core.Bool.{_&&_, _||_, not};
-ghost use lib.Dec.{eqb};
+ghost use mathlib.Core.Bool.{false};
+ghost use mathlib.Core.List.{List};
 ghost use lib.ListN.{length, getD};
 ghost use Rattle.model.specs.Basics.{isIn};
 ghost use Rattle.model.specs.Tables.{Chord};
 ghost use Rattle.model.specs.Boards.{Sent};
-ghost use Rattle.model.specs.Looks.{isFree, lowest, someClaimed};
-ghost use Rattle.columns.specs.Columns.{Lent, Passed, Unread, columnsBy, messagesFrom};
-ghost use Rattle.columns.specs.Firsts.{firstFrom, found, ofKind, taking, eligible};
-ghost use Rattle.columns.specs.Words.{bit, wordFrom, firstBit};
+ghost use Rattle.model.specs.Looks.{isFree, oldest, someClaimed, dayAt};
+ghost use Rattle.columns.specs.Columns.{Lent, Passed, Unread, daysAt, boardBy};
+ghost use Rattle.columns.specs.Firsts.{firstFrom, found, ofKind, ofProperty, ofDayBefore, taking, eligible};
+ghost use Rattle.columns.specs.Ranks.{dayIn, rankOf, better, isFirst, leastFrom, RankBelow};
+ghost use Rattle.columns.specs.Words.{bit, wordFrom, leastBit};
+
+// What a member of a chord wants of a message: the channel, and the property number where equal ones are wanted.
+pub struct Want {
+    pub channel: u8,
+    pub equal: bool,
+    pub property: u32,
+}
+
+// Where the days begin among the keys.
+pub const DAYS: usize = 1024;
 
 // Where the days begin in the list of keys.
 pub const DAYS: usize = 1024;
@@ -28,31 +39,6 @@ fn is_in(x: u16, s: &[u16]) -> bool
         i += 1;
     }
     false
-}
-
-// Message k is of the channel and of the status, and has the property number where equal ones are wanted.
-fn suits(
-    channels: &[u8],
-    keys: &[u32],
-    statuses: &[u8],
-    k: usize,
-    wanted: u8,
-    status: u8,
-    equal: bool,
-    property: u32,
-) -> bool
-    requires { ⌜ (k < length (now channels)) × (k < length (now keys)) × (k < length (now statuses)) ⌝ }
-    ensures { λ r. ⌜ r ≡ ((eqb (getD (now (channels .entry)) k 0) wanted
-        && (not equal || eqb (getD (now (keys .entry)) k 0) property))
-        && eqb (getD (now (statuses .entry)) k 0) status) ⌝ }
-{
-    if channels[k] != wanted {
-        return false;
-    }
-    if statuses[k] != status {
-        return false;
-    }
-    !equal | (keys[k] == property)
 }
 
 // One of the messages of the numbers `from` up to `to` is of the channel and of the status.
@@ -97,45 +83,6 @@ fn block_end(at: u16, n: u16) -> u16
         return n;
     }
     at + 64
-}
-
-// The first message of the numbers `from` up to `to` that is eligible: its number plus 1, 0 for none.
-fn first_in(
-    channels: &[u8],
-    keys: &[u32],
-    statuses: &[u8],
-    from: u16,
-    to: u16,
-    wanted: u8,
-    status: u8,
-    equal: bool,
-    property: u32,
-    chosen: &[u16],
-) -> u16
-    requires { ⌜ (from ≤ to) × Lent to (now channels) (now keys) (now statuses) ⌝ }
-    ensures { λ r. ⌜ r ≡ firstFrom (eligible (now (channels .entry)) (now (keys .entry)) (now (statuses .entry))
-        wanted status equal property (now (chosen .entry))) from (to - from) ⌝ }
-{
-    let mut i = from;
-    while i < to {
-        let k = i as usize;
-        if suits(
-            channels,
-            keys,
-            statuses,
-            k,
-            wanted,
-            status,
-            equal,
-            property,
-        ) {
-            if !is_in(i, chosen) {
-                return i + 1;
-            }
-        }
-        i += 1;
-    }
-    0
 }
 
 // Sixty-four messages' yes or no, a byte each: message at + i is of the channel and of the status.
@@ -185,151 +132,242 @@ fn word_at(channels: &[u8], statuses: &[u8], at: usize, wanted: u8, status: u8) 
     word_of(&y)
 }
 
-// Message n has the property number where equal ones are wanted, and is not chosen.
-fn takes(keys: &[u32], n: u16, equal: bool, property: u32, chosen: &[u16]) -> bool
-    requires { ⌜ n < length (now keys) ⌝ }
-    ensures { λ r. ⌜ r ≡ taking (now (keys .entry)) equal property (now (chosen .entry)) n ⌝ }
+// A message's rank in the order of days and numbers, never 0.
+fn rank(keys: &[u32], n: u16) -> u64
+    requires { ⌜ daysAt + n < length (now keys) ⌝ }
+    ensures { λ r. ⌜ r ≡ rankOf (dayIn (now (keys .entry))) n ⌝ }
 {
     let k = n as usize;
-    if !equal | (keys[k] == property) {
-        return !is_in(n, chosen);
-    }
-    false
+    let day = keys[DAYS + k];
+    (day as u64) * 65536 + ((n as u64) + 1)
 }
 
-// The first message of a word that has the property where equal ones are wanted, and is not chosen: its number plus 1,
-// 0 for none.
-fn first_of(
-    keys: &[u32],
-    word: u64,
-    at: u16,
-    equal: bool,
-    property: u32,
-    chosen: &[u16],
-) -> u16
-    requires { ⌜ (at + 64 ≤ 1024) × (at + 64 ≤ length (now keys)) ⌝ }
-    ensures { λ r. ⌜ r ≡ firstBit (taking (now (keys .entry)) equal property (now (chosen .entry))) word at 64 ⌝ }
+// One of the messages of the numbers `from` up to `to` has the property.
+fn any_property(keys: &[u32], from: usize, to: usize, property: u32) -> bool
+    requires { ⌜ (from ≤ to) × (to ≤ length (now keys)) ⌝ }
+    ensures { λ r. ⌜ r ≡ found (firstFrom (ofProperty (now (keys .entry)) property) from (to - from)) ⌝ }
 {
+    let mut any = false;
+    let mut i = from;
+    while i < to {
+        any = any | (keys[i] == property);
+        i += 1;
+    }
+    any
+}
+
+// One of them is of a day before that day.
+fn any_before(keys: &[u32], from: usize, to: usize, day: u32) -> bool
+    requires { ⌜ (from ≤ to) × (daysAt + to ≤ length (now keys)) ⌝ }
+    ensures { λ r. ⌜ r ≡ found (firstFrom (ofDayBefore (now (keys .entry)) day) from (to - from)) ⌝ }
+{
+    let mut any = false;
+    let mut i = from;
+    while i < to {
+        any = any | (keys[DAYS + i] < day);
+        i += 1;
+    }
+    any
+}
+
+// Whether one of the 64 messages from number `at` on may have the property and come before the best so far.
+fn is_worth(keys: &[u32], at: usize, want: Want, best: u64) -> bool
+    requires { ⌜ (daysAt + (at + 64) ≤ length (now keys)) × (at + 64 ≤ 1024) ⌝ }
+    requires { ⌜ RankBelow (dayIn (now keys)) at best ⌝ }
+    ensures { λ r. ⌜ (r ≡ false → (chosen : List ℕ) (k : ℕ) → at ≤ k → k < at + 64
+        → better (taking (now (keys .entry)) want chosen k) (rankOf (dayIn (now (keys .entry))) k) best ≡ best) ⌝ }
+{
+    if want.equal {
+        if !any_property(keys, at, at + 64, want.property) {
+            return false;
+        }
+    }
+    if best == 0 {
+        return true;
+    }
+    let number = (best % 65536) as usize;
+    any_before(keys, at, at + 64, keys[DAYS + (number - 1)])
+}
+
+// The best rank so far, or that of message n where it is to be taken and comes before it; 0 is none.
+fn weighed(keys: &[u32], n: u16, want: Want, best: u64, chosen: &[u16]) -> u64
+    requires { ⌜ daysAt + n < length (now keys) ⌝ }
+    ensures { λ r. ⌜ r ≡ better (taking (now (keys .entry)) want (now (chosen .entry)) n)
+        (rankOf (dayIn (now (keys .entry))) n) best ⌝ }
+{
+    let k = n as usize;
+    if !(!want.equal | (keys[k] == want.property)) {
+        return best;
+    }
+    let r = rank(keys, n);
+    if !((best == 0) | (r < best)) {
+        return best;
+    }
+    if is_in(n, chosen) {
+        return best;
+    }
+    r
+}
+
+// The same where message n is of the channel and of the status as well.
+fn judged(
+    channels: &[u8],
+    keys: &[u32],
+    statuses: &[u8],
+    n: u16,
+    want: Want,
+    status: u8,
+    best: u64,
+    chosen: &[u16],
+) -> u64
+    requires { ⌜ (n < length (now channels)) × (n < length (now statuses)) × (daysAt + n < length (now keys)) ⌝ }
+    ensures { λ r. ⌜ r ≡ better (eligible (now (channels .entry)) (now (keys .entry)) (now (statuses .entry)) want
+        status (now (chosen .entry)) n) (rankOf (dayIn (now (keys .entry))) n) best ⌝ }
+{
+    let k = n as usize;
+    if !((channels[k] == want.channel) & (statuses[k] == status)) {
+        return best;
+    }
+    weighed(keys, n, want, best, chosen)
+}
+
+// The least rank of the eligible messages of the numbers `from` up to `to`, or the best so far; none after one of day
+// 0 comes before it.
+fn least_in(
+    channels: &[u8],
+    keys: &[u32],
+    statuses: &[u8],
+    from: u16,
+    to: u16,
+    want: Want,
+    status: u8,
+    best: u64,
+    chosen: &[u16],
+) -> u64
+    requires { ⌜ (from ≤ to) × Lent to (now channels) (now keys) (now statuses) × (isFirst best ≡ false) ⌝ }
+    ensures { λ r. ⌜ r ≡ leastFrom (dayIn (now (keys .entry))) (eligible (now (channels .entry)) (now (keys .entry))
+        (now (statuses .entry)) want status (now (chosen .entry))) best from (to - from) ⌝ }
+{
+    let mut b = best;
+    let mut i = from;
+    while i < to {
+        b = judged(channels, keys, statuses, i, want, status, b, chosen);
+        if (b != 0) & (b < 65536) {
+            return b;
+        }
+        i += 1;
+    }
+    b
+}
+
+// The same of the messages of a word.
+fn least_of(keys: &[u32], word: u64, at: u16, want: Want, best: u64, chosen: &[u16]) -> u64
+    requires { ⌜ (at + 64 ≤ 1024) × (daysAt + (at + 64) ≤ length (now keys)) × (isFirst best ≡ false) ⌝ }
+    ensures { λ r. ⌜ r ≡ leastBit (dayIn (now (keys .entry))) (taking (now (keys .entry)) want (now (chosen .entry)))
+        word best at 64 ⌝ }
+{
+    let mut b = best;
     let mut w = word;
     while w != 0 {
         let t = u64::trailing_zeros(w);
-        let n = at + (t as u16);
-        if takes(keys, n, equal, property, chosen) {
-            return n + 1;
+        b = weighed(keys, at + (t as u16), want, b, chosen);
+        if (b != 0) & (b < 65536) {
+            return b;
         }
         w = w - (1 << t);
     }
-    0
+    b
 }
 
-// The first eligible message of a block: by its word where it is whole, one by one where it is what is left over.
+// The same of a block: by its word where it is whole, one by one where it is what is left over.
 fn in_block(
     channels: &[u8],
     keys: &[u32],
     statuses: &[u8],
     from: u16,
     to: u16,
-    wanted: u8,
+    want: Want,
     status: u8,
-    equal: bool,
-    property: u32,
+    best: u64,
     chosen: &[u16],
-) -> u16
-    requires { ⌜ (from ≤ to) × Lent to (now channels) (now keys) (now statuses) ⌝ }
-    ensures { λ r. ⌜ r ≡ firstFrom (eligible (now (channels .entry)) (now (keys .entry)) (now (statuses .entry))
-        wanted status equal property (now (chosen .entry))) from (to - from) ⌝ }
+) -> u64
+    requires { ⌜ (from ≤ to) × Lent to (now channels) (now keys) (now statuses) × (isFirst best ≡ false) ⌝ }
+    requires { ⌜ RankBelow (dayIn (now keys)) from best ⌝ }
+    ensures { λ r. ⌜ r ≡ leastFrom (dayIn (now (keys .entry))) (eligible (now (channels .entry)) (now (keys .entry))
+        (now (statuses .entry)) want status (now (chosen .entry))) best from (to - from) ⌝ }
 {
     if to - from == 64 {
-        let w = word_at(channels, statuses, from as usize, wanted, status);
-        return first_of(keys, w, from, equal, property, chosen);
+        if !is_worth(keys, from as usize, want, best) {
+            return best;
+        }
+        let w = word_at(channels, statuses, from as usize, want.channel, status);
+        return least_of(keys, w, from, want, best, chosen);
     }
-    first_in(
+    least_in(
         channels,
         keys,
         statuses,
         from,
         to,
-        wanted,
+        want,
         status,
-        equal,
-        property,
+        best,
         chosen,
     )
 }
 
-// The first eligible of the first n messages, block by block from number `start` on: those below it are consumed.
-fn first(
+// The least rank of the eligible of the first n messages, block by block from number `start` on: those below it are
+// consumed.
+fn least(
     channels: &[u8],
     keys: &[u32],
     statuses: &[u8],
     start: u16,
     n: u16,
-    wanted: u8,
+    want: Want,
     status: u8,
-    equal: bool,
-    property: u32,
     chosen: &[u16],
-) -> u16
+) -> u64
     requires { ⌜ Lent n (now channels) (now keys) (now statuses) ⌝ }
     requires { ⌜ Passed start n (now statuses) × (status < 3) ⌝ }
-    ensures { λ r. ⌜ r ≡ firstFrom (eligible (now (channels .entry)) (now (keys .entry)) (now (statuses .entry))
-        wanted status equal property (now (chosen .entry))) 0 n ⌝ }
+    ensures { λ r. ⌜ r ≡ leastFrom (dayIn (now (keys .entry))) (eligible (now (channels .entry)) (now (keys .entry))
+        (now (statuses .entry)) want status (now (chosen .entry))) 0 0 n ⌝ }
 {
+    let mut b: u64 = 0;
     let mut at = start;
     while at < n {
-        let from = next_block(channels, statuses, at, n, wanted, status);
+        let from = next_block(channels, statuses, at, n, want.channel, status);
         let to = block_end(from, n);
-        let r = in_block(
-            channels,
-            keys,
-            statuses,
-            from,
-            to,
-            wanted,
-            status,
-            equal,
-            property,
-            chosen,
-        );
-        if r != 0 {
-            return r;
+        b = in_block(channels, keys, statuses, from, to, want, status, b, chosen);
+        if (b != 0) & (b < 65536) {
+            return b;
         }
         at = to;
     }
-    0
+    b
 }
 
-// The lowest of the first n messages that a look takes for a member, pending and not chosen yet: its number plus 1, 0
+// The oldest of the first n messages that a look takes for a member, pending and not chosen yet: its number plus 1, 0
 // for none.
-pub fn lowest(
+pub fn oldest(
     channels: &[u8],
     keys: &[u32],
     statuses: &[u8],
     start: u16,
     n: u16,
-    wanted: u8,
-    equal: bool,
-    property: u32,
+    want: Want,
     chosen: &[u16],
 ) -> u16
     requires { ⌜ Lent n (now channels) (now keys) (now statuses) ⌝ }
     requires { ⌜ Passed start n (now statuses) ⌝ }
-    ensures { λ r. ⌜ (r ≤ n) × ((o : Unread) (c : Chord) (s : Sent) → c .equal ≡ equal → s .property ≡ property
-        → r ≡ lowest (isFree c wanted s (now (chosen .entry))) 0
-        (messagesFrom (columnsBy (now (channels .entry)) (now (keys .entry)) (now (statuses .entry)) o) 0 n)) ⌝ }
+    ensures { λ r. ⌜ (r ≤ n) × ((o : Unread) (c : Chord) (s : Sent) → c .equal ≡ want .equal
+        → s .property ≡ want .property
+        → r ≡ oldest (dayAt (boardBy (now (channels .entry)) (now (keys .entry)) (now (statuses .entry)) n o))
+        (isFree c (want .channel) s (now (chosen .entry))) 0
+        (boardBy (now (channels .entry)) (now (keys .entry)) (now (statuses .entry)) n o .messages)) ⌝ }
 {
-    first(
-        channels,
-        keys,
-        statuses,
-        start,
-        n,
-        wanted,
-        0,
-        equal,
-        property,
-        chosen,
-    )
+    let b = least(channels, keys, statuses, start, n, want, 0, chosen);
+    (b % 65536) as u16
 }
 
 // One of the first n messages would fit a member and is claimed, chosen or not.
@@ -339,28 +377,15 @@ pub fn some_claimed(
     statuses: &[u8],
     start: u16,
     n: u16,
-    wanted: u8,
-    equal: bool,
-    property: u32,
+    want: Want,
 ) -> bool
     requires { ⌜ Lent n (now channels) (now keys) (now statuses) ⌝ }
     requires { ⌜ Passed start n (now statuses) ⌝ }
-    ensures { λ r. ⌜ ((o : Unread) (c : Chord) (s : Sent) → c .equal ≡ equal → s .property ≡ property
-        → r ≡ someClaimed c wanted s
-        (messagesFrom (columnsBy (now (channels .entry)) (now (keys .entry)) (now (statuses .entry)) o) 0 n)) ⌝ }
+    ensures { λ r. ⌜ ((o : Unread) (c : Chord) (s : Sent) → c .equal ≡ want .equal → s .property ≡ want .property
+        → r ≡ someClaimed c (want .channel) s
+        (boardBy (now (channels .entry)) (now (keys .entry)) (now (statuses .entry)) n o .messages)) ⌝ }
 {
     let chosen = [0u16; 1];
-    let r = first(
-        channels,
-        keys,
-        statuses,
-        start,
-        n,
-        wanted,
-        1,
-        equal,
-        property,
-        &chosen[..0],
-    );
-    r != 0
+    let b = least(channels, keys, statuses, start, n, want, 1, &chosen[..0]);
+    b != 0
 }

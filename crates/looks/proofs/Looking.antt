@@ -11,7 +11,7 @@ use Rattle.model.specs.Basics.{firstBy, pick}
 use Rattle.model.specs.Tables.{Table, chordAt, channelAt, size}
 use Rattle.model.specs.Boards.{Board, Message, Job, Sender, noMessage, messageAt, claim, look}
 use Rattle.model.specs.Jobs.{nextChord, withChosen}
-use Rattle.model.specs.Looks.{isFree, lowest, someClaimed, choice}
+use Rattle.model.specs.Looks.{isFree, oldest, dayAt, someClaimed, choice}
 use Rattle.model.specs.Steps.{lookedBy, look-step}
 use Rattle.columns.specs.Columns.{Columns, Unread, columnsBy, boardBy, messageIn, messagesFrom}
 use Rattle.columns.proofs.Messages.{nth-message, nth-channel}
@@ -28,7 +28,7 @@ pub nth-property : (c : Columns) (n k : ℕ) → k < n
 unfolding messageIn
 nth-property c n k h = ap (λ (x : Message). x .sent .property) (nth-message c n k h)
 
--- the subject in its own place, and the lowest that is free in another
+-- the subject in its own place, whatever its day, and the oldest that is free in another
 module _ (t : Table) (ch pr st : List ℕ) (n : ℕ) (o : Unread) (w : Job) (k first subject chord : ℕ) (h : subject < n)
     (e : first ≡ firstBy (eqb (getD ch subject 0)) (chordAt t chord .channels)) (ws : w .subject ≡ subject)
     (wc : w .chord ≡ chord) where
@@ -41,7 +41,7 @@ module _ (t : Table) (ch pr st : List ℕ) (n : ℕ) (o : Unread) (w : Job) (k f
 
   pub choice-other : (wanted x : ℕ) (chosen : List ℕ) → w .chosen ≡ chosen → (first ≡ k → ⊥)
       → wanted ≡ channelAt t chord k
-      → x ≡ lowest
+      → x ≡ oldest (dayAt (boardBy ch pr st n o))
       (isFree (chordAt t chord) wanted (getD (messagesFrom c 0 n) subject noMessage .sent) chosen) 0
       (messagesFrom c 0 n)
       → x ≡ choice t (boardBy ch pr st n o) w k

@@ -1,9 +1,9 @@
 // The step of a sender that looks for a message for a member of its chord.
 ghost use mathlib.Core.Path.{_≡_};
 ghost use mathlib.Core.List.{[], _∷_, _++_};
-ghost use Prim.Native.Nat.{suc, _<_, _≤_};
+ghost use Prim.Native.Nat.{suc, _+_, _<_, _≤_};
 ghost use lib.Dec.{eqb};
-ghost use lib.ListN.{length, set};
+ghost use lib.ListN.{length, getD, set};
 ghost use Rattle.model.specs.Basics.{pick};
 ghost use Rattle.model.specs.Tables as MT;
 ghost use Rattle.model.specs.Boards as MB;
@@ -11,9 +11,10 @@ ghost use Rattle.model.specs.Jobs as MJ;
 ghost use Rattle.model.specs.Layout.{tableRefusal, tableOf};
 ghost use Rattle.model.specs.Looks as ML;
 ghost use Rattle.model.specs.Steps as MS;
-ghost use Rattle.columns.specs.Columns.{Unread, boardBy, Lent, Passed};
+ghost use Rattle.columns.specs.Columns.{Unread, daysAt, boardBy, Lent, Passed};
 ghost use Rattle.state.specs.declared.Phase.the-variants as P;
 ghost use Rattle.state.specs.Views.{phaseIn, chosenBy, jobIn, senderIn, effectIn};
+use columns::Want;
 use state::Change;
 use state::Effect;
 use state::Job;
@@ -21,7 +22,26 @@ use state::Phase;
 use state::Said;
 use state::Sender;
 
-// The message that a look takes for the k-th member: the subject in its own place, or else the lowest that is free; its
+// What the k-th member of the chord wants of a message beside the subject.
+fn want_of(table: &[u8], chord: u8, k: u8, keys: &[u32], subject: u16) -> Want
+    requires { ⌜ (tableRefusal (now table) ≡ 0) × (chord < length (tableOf (now table) .chords)) ⌝ }
+    requires { ⌜ (k < MT.size (tableOf (now table)) chord) × (daysAt + subject < length (now keys)) ⌝ }
+    ensures { λ r. ⌜ (r .channel ≡ MT.channelAt (tableOf (now (table .entry))) chord k)
+        × (r .equal ≡ MT.chordAt (tableOf (now (table .entry))) chord .equal)
+        × (r .property ≡ getD (now (keys .entry)) subject 0) ⌝ }
+{
+    let at = subject as usize;
+    let property = keys[at];
+    let channel = chords::channel_at(table, chord, k);
+    let equal = table::is_equal(table, chord);
+    Want {
+        channel: channel,
+        equal: equal,
+        property: property,
+    }
+}
+
+// The message that a look takes for the k-th member: the subject in its own place, or else the oldest that is free; its
 // number plus 1, 0 for none.
 fn choice(
     table: &[u8],
@@ -45,23 +65,11 @@ fn choice(
 {
     let at = subject as usize;
     let channel = channels[at];
-    let property = keys[at];
     if chords::first_of(table, chord, channel) == k {
         return subject + 1;
     }
-    let wanted = chords::channel_at(table, chord, k);
-    let equal = table::is_equal(table, chord);
-    columns::lowest(
-        channels,
-        keys,
-        statuses,
-        start,
-        n,
-        wanted,
-        equal,
-        property,
-        chosen,
-    )
+    let want = want_of(table, chord, k, keys, subject);
+    columns::oldest(channels, keys, statuses, start, n, want, chosen)
 }
 
 // A look that takes none: the next chord, and the job is to be tried again if a claimed message would fit.
@@ -87,19 +95,8 @@ fn missed(
     let j = d.job;
     let at = j.subject as usize;
     let channel = channels[at];
-    let property = keys[at];
-    let wanted = chords::channel_at(table, j.chord, k);
-    let equal = table::is_equal(table, j.chord);
-    let claimed = columns::some_claimed(
-        channels,
-        keys,
-        statuses,
-        start,
-        n,
-        wanted,
-        equal,
-        property,
-    );
+    let want = want_of(table, j.chord, k, keys, j.subject);
+    let claimed = columns::some_claimed(channels, keys, statuses, start, n, want);
     let next = state::next_chord(table, j, channel, j.retry | claimed);
     state::works(d, next, Said::Missed, Change::None)
 }

@@ -1,18 +1,20 @@
--- The look's choice by its two laws, and what a chosen message adds.
-use mathlib.Core.Path.{refl, _≡_, _∙_, sym}
-use mathlib.Core.Logic.{_≢_}
+-- The look's choice by its laws, which determine it, and what a chosen message adds.
+use mathlib.Core.Path.{refl, _≡_, _∙_, sym, ap}
+use mathlib.Core.Logic.{_≢_, ⊎-elim}
 use mathlib.Core.Bool.{true, not, Bool, _||_, false, _&&_}
 use mathlib.Core.List.{List, _++_, _∷_, []}
-use Prim.Native.Nat.{ℕ, _<_, suc}
-use borrow.Author.Tests.{eq-eqb, eqb-true, eqb-false, not-true}
+use Prim.Native.Nat.{ℕ, _<_, zero, suc}
+use borrow.Author.Tests.{eq-eqb, ne-eqb, eqb-true, eqb-false, not-true}
 use lib.Dec.{eqb}
 use lib.ListN.{length, getD}
 use native.Mathlib.Omega.{arith}
 use Rattle.model.specs.Tables.{Chord, Table, chordAt, channelAt, size}
 use Rattle.model.specs.Boards.{Sent, Board, Job, messageAt, isPending, Message, noMessage, isClaimed}
-use Rattle.model.specs.Looks.{alike, isFree, choice, subjectPlace, fits, someClaimed}
-use Rattle.model.proofs.Tests.{both}
-use Rattle.model.proofs.Lists.{lowest-none, lowest-at, first-passes, first-before, not-in, none-of}
+use Rattle.model.specs.Looks.{alike, isFree, isBefore, opens, dayAt, choice, subjectPlace, fits, someClaimed}
+use Rattle.model.specs.Looks.{Chosen, the-subject, another, Takes}
+use Rattle.model.proofs.Tests.{never, both, same?}
+use Rattle.model.proofs.Oldest.{before-not, oldest-none, oldest-at, oldest-first}
+use Rattle.model.proofs.Lists.{first-passes, first-before, not-in, none-of}
 use Rattle.model.proofs.Lists.{snoc-all, snoc-one}
 use Rattle.model.proofs.Passage.{on-board}
 use Rattle.model.proofs.Local.{Selection}
@@ -37,11 +39,15 @@ alike-via r a b c = go (not (r .equal))
         eq-eqb (c .property) (b .property)
         (eqb-true (c .property) (a .property) f ∙ sym (eqb-true (b .property) (a .property) e))
 
--- a message open to member k of the job's chord
-abbrev pub opens : Table → Board → Job → ℕ → ℕ → Bool
-opens t b w k n =
-    isFree (chordAt t (w .chord)) (channelAt t (w .chord) k) (messageAt b (w .subject) .sent) (w .chosen) n
-    (messageAt b n)
+-- the messages that are open to member k
+abbrev openTo : Table → Board → Job → ℕ → ℕ → Message → Bool
+openTo t b w k =
+    isFree (chordAt t (w .chord)) (channelAt t (w .chord) k) (messageAt b (w .subject) .sent) (w .chosen)
+
+pub choice-hand : (t : Table) (b : Board) (w : Job) (k : ℕ) → subjectPlace t b (w .subject) (w .chord) ≡ k
+    → choice t b w k ≡ suc (w .subject)
+unfolding choice
+choice-hand t b w k e = rw (eq-eqb _ k e)
 
 pub choice-none : (t : Table) (b : Board) (w : Job) (k : ℕ) → choice t b w k ≡ 0 → (n : ℕ)
     → n < length (b .messages) → opens t b w k n ≡ false
@@ -50,15 +56,7 @@ choice-none t b w k e n l = go (eqb (subjectPlace t b (w .subject) (w .chord)) k
   where
     go : (u : Bool) → eqb (subjectPlace t b (w .subject) (w .chord)) k ≡ u → opens t b w k n ≡ false
     go true q = let z : suc (w .subject) ≡ 0 = rw (q, choice) at e in absurd (omega arith)
-    go false q =
-        lowest-none
-        (isFree (chordAt t (w .chord)) (channelAt t (w .chord) k) (messageAt b (w .subject) .sent) (w .chosen))
-        (b .messages) (rw (q, choice) at e) n l
-
-pub data Chosen (t : Table) (b : Board) (w : Job) (k n : ℕ) : Type 0 where
-  the-subject : subjectPlace t b (w .subject) (w .chord) ≡ k → n ≡ w .subject → Chosen t b w k n
-  another : subjectPlace t b (w .subject) (w .chord) ≢ k → n < length (b .messages) → opens t b w k n ≡ true
-      → Chosen t b w k n
+    go false q = oldest-none (dayAt b) (openTo t b w k) (b .messages) (rw (q, choice) at e) n l
 
 pub choice-some : (t : Table) (b : Board) (w : Job) (k n : ℕ) → choice t b w k ≡ suc n → Chosen t b w k n
 unfolding choice
@@ -67,10 +65,52 @@ choice-some t b w k n e = go (eqb (subjectPlace t b (w .subject) (w .chord)) k) 
     go : (u : Bool) → eqb (subjectPlace t b (w .subject) (w .chord)) k ≡ u → Chosen t b w k n
     go true q = the-subject (eqb-true _ _ q) (let z : suc (w .subject) ≡ suc n = rw (q, choice) at e in omega arith)
     go false q =
-        let r = lowest-at
-        (isFree (chordAt t (w .chord)) (channelAt t (w .chord) k) (messageAt b (w .subject) .sent) (w .chosen))
-        (b .messages) n (rw (q, choice) at e) in
+        let r = oldest-at (dayAt b) (openTo t b w k) (b .messages) n (rw (q, choice) at e) in
         another (eqb-false _ _ q) (r .0) (r .1)
+
+pub choice-first : (t : Table) (b : Board) (w : Job) (k n : ℕ) → choice t b w k ≡ suc n
+    → subjectPlace t b (w .subject) (w .chord) ≢ k → (m : ℕ) → m < length (b .messages) → opens t b w k m ≡ true
+    → m ≢ n → isBefore (dayAt b) n m ≡ true
+unfolding choice
+choice-first t b w k n e h =
+    oldest-first (dayAt b) (openTo t b w k) (b .messages) n
+    (rw (ne-eqb (subjectPlace t b (w .subject) (w .chord)) k h, choice) at e)
+
+pub choice-takes : (t : Table) (b : Board) (w : Job) (k : ℕ) → Takes t b w k (choice t b w k)
+choice-takes t b w k = record {
+  hand = choice-hand t b w k;
+  none = choice-none t b w k;
+  some = choice-some t b w k;
+  first = choice-first t b w k;
+}
+
+-- the laws determine the choice
+pub takes-once : (t : Table) (b : Board) (w : Job) (k c d : ℕ) → Takes t b w k c → Takes t b w k d → c ≡ d
+takes-once t b w k c d p q =
+    ⊎-elim (λ e. p .hand e ∙ sym (q .hand e)) (go c d p q) (same? (subjectPlace t b (w .subject) (w .chord)) k)
+  where
+    is-open : (n : ℕ) → subjectPlace t b (w .subject) (w .chord) ≢ k → Chosen t b w k n
+        → (n < length (b .messages)) × (opens t b w k n ≡ true)
+    is-open n h (the-subject e z) = absurd (h e)
+    is-open n h (another e l o) = (l, o)
+
+    not-none : (n : ℕ) → Takes t b w k 0 → Takes t b w k (suc n) → subjectPlace t b (w .subject) (w .chord) ≢ k
+        → {X : Type 0} → X
+    not-none n p q h = let o = is-open n h (q .some n refl) in never (sym (p .none refl n (o .0)) ∙ o .1)
+
+    go : (c d : ℕ) → Takes t b w k c → Takes t b w k d → subjectPlace t b (w .subject) (w .chord) ≢ k → c ≡ d
+    go zero zero p q h = refl
+    go zero (suc n) p q h = not-none n p q h
+    go (suc m) zero p q h = not-none m q p h
+    go (suc m) (suc n) p q h = ⊎-elim (λ e. ap suc e) (λ e. absurd (apart e)) (same? m n)
+      where
+        apart : m ≢ n → ⊥
+        apart e =
+            let x = is-open m h (p .some m refl) in
+            let y = is-open n h (q .some n refl) in
+            let l = p .first m refl h n (y .0) (y .1) (λ z. e (sym z)) in
+            let r = q .first n refl h m (x .0) (x .1) e in
+            never (sym (before-not (dayAt b) m n l) ∙ r)
 
 pub record Fresh (t : Table) (b : Board) (h r : ℕ) (c : List ℕ) (n : ℕ) : Type 0 where
   pub on-board : n < length (b .messages)

@@ -25,6 +25,7 @@ pub mod Passage
 pub mod Phases
 -- The parts of the invariant
 pub mod Local
+pub mod Oldest
 pub mod Choice
 pub mod Holding
 pub mod Places

@@ -1,18 +1,18 @@
--- Laws of lists: members, all that pass, one element more, the first that passes, and the lowest that passes.
-use mathlib.Core.Path.{_≡_, refl, sym, _∙_, subst, ap}
+-- Laws of lists: members, all that pass, one element more, and the first that passes.
+use mathlib.Core.Path.{_≡_, refl, sym, _∙_, ap}
 use mathlib.Core.Logic.{_⊎_, inl, inr, _≢_}
 use mathlib.Core.Bool.{true, false, Bool, _&&_}
 use mathlib.Core.List.{List, [], _∷_, _++_, map}
-use Prim.Native.Nat.{ℕ, _<_, suc, zero, _+_, _≤_}
+use Prim.Native.Nat.{ℕ, _<_, suc, zero, _≤_}
 use borrow.Author.Tests.{eq-eqb, eqb-true}
 use lib.Dec.{eqb}
 use lib.ListN.{length, getD, take, set, length-append, List·getD-append}
 use lib.Seq.{getD-append-seam}
-use native.Mathlib.Nat.{not-suc-le-zero, le-of-suc-le-suc, zero-add}
+use native.Mathlib.Nat.{not-suc-le-zero, le-of-suc-le-suc}
 use native.Mathlib.Omega.{arith}
 use Rattle.model.specs.Basics.{isIn, every, firstBy}
 use Rattle.model.specs.Boards.{Message, noMessage}
-use Rattle.model.specs.Looks.{lowest, someMessage}
+use Rattle.model.specs.Looks.{someMessage}
 use Rattle.model.proofs.Tests.{or-right, never, either, both, and, neither, same?}
 
 -- members
@@ -145,48 +145,7 @@ first-same f g (m ∷ ms) e = go (g m) refl (e 0 (omega arith)) (first-same f g 
     go true p q ih = rw (q, p, firstBy)
     go false p q ih = rw (q, p, firstBy) (ap suc ih)
 
--- the lowest that passes
-none-from : (f : ℕ → Message → Bool) (n : ℕ) (is : List Message) → lowest f n is ≡ 0 → (j : ℕ) → j < length is
-    → f (n + j) (getD is j noMessage) ≡ false
-none-from f n [] e j h = absurd (not-suc-le-zero h)
-none-from f n (x ∷ xs) e j h = go (f n x) refl e j h (none-from f (suc n) xs)
-  where
-    go : (t : Bool) → f n x ≡ t → lowest f n (x ∷ xs) ≡ 0 → (j : ℕ) → j < suc (length xs)
-        → (lowest f (suc n) xs ≡ 0 → (j : ℕ) → j < length xs → f (suc n + j) (getD xs j noMessage) ≡ false)
-        → f (n + j) (getD (x ∷ xs) j noMessage) ≡ false
-    go true q e j h ih = let z : suc n ≡ 0 = rw (q, lowest) at e in absurd (omega arith)
-    go false q e zero h ih = let z : n + 0 ≡ n = omega arith in rw z q
-    go false q e (suc j) h ih =
-        let z : n + suc j ≡ suc n + j = omega arith in rw z (ih (rw (q, lowest) at e) j (le-of-suc-le-suc h))
-
-pub lowest-none : (f : ℕ → Message → Bool) (is : List Message) → lowest f 0 is ≡ 0 → (j : ℕ) → j < length is
-    → f j (getD is j noMessage) ≡ false
-lowest-none f is e j h =
-    subst (λ (n : ℕ). f n (getD is j noMessage) ≡ false) (zero-add j) (none-from f 0 is e j h)
-
-lowest-some : (f : ℕ → Message → Bool) (n : ℕ) (is : List Message) (k : ℕ) → lowest f n is ≡ suc k
-    → (j : ℕ) × (k ≡ n + j) × (j < length is) × (f k (getD is j noMessage) ≡ true)
-lowest-some f n [] k e = absurd (omega arith)
-lowest-some f n (x ∷ xs) k e = go (f n x) refl e (lowest-some f (suc n) xs k)
-  where
-    go : (t : Bool) → f n x ≡ t → lowest f n (x ∷ xs) ≡ suc k
-        → (lowest f (suc n) xs ≡ suc k → (j : ℕ) × (k ≡ suc n + j) × (j < length xs)
-        × (f k (getD xs j noMessage) ≡ true))
-        → (j : ℕ) × (k ≡ n + j) × (j < suc (length xs)) × (f k (getD (x ∷ xs) j noMessage) ≡ true)
-    go true q e ih =
-        let z : suc n ≡ suc k = rw (q, lowest) at e in
-        let y : n ≡ k = omega arith in
-        (0, omega arith, omega arith, rw (← y) q)
-    go false q e ih = let r = ih (rw (q, lowest) at e) in (suc (r .0), omega (arith, r .1), omega (arith, r .2), r .3)
-
-pub lowest-at : (f : ℕ → Message → Bool) (is : List Message) (k : ℕ) → lowest f 0 is ≡ suc k
-    → (k < length is) × (f k (getD is k noMessage) ≡ true)
-lowest-at f is k e = let r = lowest-some f 0 is k e in go (r .0) (r .1) (r .2) (r .3)
-  where
-    go : (j : ℕ) → k ≡ 0 + j → j < length is → f k (getD is j noMessage) ≡ true
-        → (k < length is) × (f k (getD is k noMessage) ≡ true)
-    go j z l p = let y : j ≡ k = omega arith in (omega arith, rw y at p)
-
+-- none that passes
 pub none-of : (f : Message → Bool) (is : List Message) → someMessage f is ≡ false → (j : ℕ) → j < length is
     → f (getD is j noMessage) ≡ false
 none-of f [] e j h = absurd (not-suc-le-zero h)

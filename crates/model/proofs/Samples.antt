@@ -8,7 +8,7 @@ use Rattle.model.specs.Layout.{word, countsOk, offsetsOk, kindsOk, chord
 use Rattle.model.specs.Boards.{builtinBackoffs, backoffAt, amount}
 use Rattle.model.specs.Effects.{messagesAfter, matchesAfter, sendersAfter, apply}
 use Rattle.model.specs.Jobs.{passFrom, job-end}
-use Rattle.model.specs.Looks.{alike, someClaimed, choice}
+use Rattle.model.specs.Looks.{alike, isBefore, oldest, someClaimed, choice}
 use Rattle.model.specs.Steps.{look-step, claim-step, revert-step, consume-step, tell-step, wokenOf, wake-step}
 use Rattle.model.specs.Steps.{skip, free-step, signal-step, more, pass-end-step, backoff-step, resume-step}
 use Rattle.model.specs.Steps.{stepBy}
@@ -18,9 +18,9 @@ use Rattle.model.specs.Samples.{outcome, samples, expected, shownBy, tab
 -- to unfold this is to unfold every definition that a run computes with
 unfoldable pub opened : ℕ
 unfolding isSync firstSync wakes naming word countsOk offsetsOk kindsOk chordOk membersOk tableRefusal tableOf
-    builtinBackoffs backoffAt amount messagesAfter matchesAfter sendersAfter apply passFrom alike someClaimed choice
-    look-step claim-step revert-step job-end consume-step tell-step wokenOf wake-step skip free-step signal-step more
-    pass-end-step backoff-step resume-step stepBy addRefusal added
+    builtinBackoffs backoffAt amount messagesAfter matchesAfter sendersAfter apply passFrom alike isBefore oldest
+    someClaimed choice look-step claim-step revert-step job-end consume-step tell-step wokenOf wake-step skip free-step
+    signal-step more pass-end-step backoff-step resume-step stepBy addRefusal added
 opened = 0
 
 pub m-items : map outcome samples ≡ map expected samples

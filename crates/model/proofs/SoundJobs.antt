@@ -17,7 +17,7 @@ use Rattle.model.specs.Boards.{free, pass-end, backoffAt, backoff, isPen
 use Rattle.model.specs.Effects.{apply}
 use Rattle.model.specs.Jobs.{passFrom, inState, goesIdle}
 use Rattle.model.specs.Jobs.{job-end, inJob, inPhase, nextChord, withChosen}
-use Rattle.model.specs.Looks.{choice, missedRetry}
+use Rattle.model.specs.Looks.{choice, Chosen, the-subject, another, missedRetry}
 use Rattle.model.specs.Steps.{restsThen, withMatched, skip, lookedBy, loses, fires, claimedBy, revertedTo}
 use Rattle.model.specs.Steps.{consumedTo, toTell, consumedEnd, consume-step, toldTo, wokenOf, passEndBy, more}
 use Rattle.model.specs.Steps.{job-step, look-step, claim-step, revert-step, tell-step, wake-step, free-step}
@@ -28,7 +28,7 @@ use Rattle.model.proofs.Lists.{isIn-nth, nth-isIn, snoc-all}
 use Rattle.model.proofs.Chords.{names-yes, skipped, wakes-first}
 use Rattle.model.proofs.Jobs.{pass-by, job-end-by}
 use Rattle.model.proofs.Frame.{records-count}
-use Rattle.model.proofs.Choice.{Chosen, choice-some, the-subject, another}
+use Rattle.model.proofs.Choice.{choice-some}
 use Rattle.model.proofs.Answering.{tell-chosen}
 use Rattle.model.proofs.SoundFacts.{JobFacts, SenderFacts, StateFacts, Below, PlaceOk, AllChosen, AtChord}
 use Rattle.model.proofs.SoundFrame.{Becomes, Wider, sender-wider, job-wider, StepFacts, owes}

@@ -1,5 +1,5 @@
 -- `looks::missed` meets its contract.
-use mathlib.Core.Path.{sym}
+use mathlib.Core.Path.{sym, _∙_}
 use Rattle.model.specs.Layout.{tableOf}
 use Rattle.model.specs.Tables.{chordAt}
 use Rattle.model.specs.Boards.{messageAt}
@@ -14,9 +14,8 @@ returns : tie.Need-returns
 returns c =
     let q = c .before in
     let f = q .before .before in
-    let g = f .before in
-    let x = g .before in
-    let s = x .before .before .before .before .before .before .before .before .before in
+    let g = f .before .want-of in
+    let s = f .before .before .before .before .before .before .before .before .before in
     let a = s .args in
     let t = tableOf (a .table .now) in
     let j = a .d .job in
@@ -24,10 +23,9 @@ returns c =
     let m = columnsBy (a .channels .now) (a .keys .now) (a .statuses .now) o in
     let b = boardBy (a .channels .now) (a .keys .now) (a .statuses .now) (a .n) o in
     rw (c .works .ensures)
-    (missed-is t b (a .d) (a .k) (q .next-chord .result) (x .channel-at .result) (f .some-claimed .result)
-    (x .channel-at .ensures)
-    (f .some-claimed .ensures o (chordAt t (j .chord)) (messageAt b (j .subject) .sent) (sym (g .is-equal .ensures))
-    (nth-property m (a .n) (j .subject) (s .pre .1 .0 .1)))
+    (missed-is t b (a .d) (a .k) (q .next-chord .result) (g .result .channel) (f .some-claimed .result) (g .ensures .0)
+    (f .some-claimed .ensures o (chordAt t (j .chord)) (messageAt b (j .subject) .sent) (sym (g .ensures .1))
+    (nth-property m (a .n) (j .subject) (s .pre .1 .0 .1) ∙ sym (g .ensures .2)))
     (q .next-chord .ensures b (nth-channel m (a .n) (j .subject) (s .pre .1 .0 .1))))
 
 pub missed-spec : {M : Type 1} → statement M
@@ -36,9 +34,6 @@ missed-spec =
     (tie.spec
     (λ c. search needs)
     (λ c. search needs)
-    (λ c. search needs)
-    (λ c. search needs)
-    (λ c κs. search needs)
     (λ c κs. search needs)
     (λ c κs. search needs)
     (λ c κs. search needs)

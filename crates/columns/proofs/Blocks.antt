@@ -1,0 +1,111 @@
+-- Laws of a block that is passed over: none of it has the property, or none of it comes before the best so far.
+use mathlib.Core.Path.{_≡_, refl, sym, _∙_}
+use mathlib.Core.Logic.{_≢_, inl, inr, ⊎-elim}
+use mathlib.Core.Bool.{Bool, true, false, _&&_, _||_, and-false}
+use mathlib.Core.List.{List}
+use Prim.Native.Nat.{ℕ, zero, suc, _+_, _-_, _*_, _%_, _<_, _≤_}
+use native.Mathlib.Numerals.{add-one}
+use native.Mathlib.Omega.{arith}
+use lib.Dec.{eqb, ltb}
+use lib.ListN.{getD}
+use borrow.Author.Tests.{ne-eqb, le-ltb, ltb-false}
+use Rattle.model.specs.Basics.{pick}
+use Rattle.model.proofs.Tests.{same?}
+use Rattle.columns.specs.declared.Want as DW
+use Rattle.columns.specs.Firsts.{firstFrom, found, ofProperty, ofDayBefore, taking}
+use Rattle.columns.specs.Ranks.{dayIn, rankOf, better, leastFrom, RankBelow}
+use Rattle.columns.proofs.Firsts.{none-here, not-found}
+use Rattle.columns.proofs.Ranks.{better-unless, better-later}
+use Rattle.columns.proofs.Walks.{not-wanted}
+
+-- none of n numbers passes
+none-passes : (p : ℕ → Bool) (i n : ℕ) → firstFrom p i n ≡ 0 → (k : ℕ) → i ≤ k → k < i + n → p k ≡ false
+unfolding firstFrom
+none-passes p i zero e k h l = absurd (omega arith)
+none-passes p i (suc n) e k h l =
+    let z = none-here (p i) i (firstFrom p (suc i) n) e in
+    ⊎-elim (λ x. rw (← x) (z .0)) (λ x. none-passes p (suc i) n (z .1) k (omega arith) (omega arith)) (same? i k)
+
+-- the message whose rank the best is
+module _ (day : ℕ → ℕ) (n b : ℕ) (few : n ≤ 1024) (some : b ≢ 0) where
+  pub rank-number : RankBelow day n b → (1 ≤ b % 65536) × (b % 65536 ≤ n)
+  unfolding rankOf
+  rank-number (inl e) = absurd (some e)
+  rank-number (inr (k, h, e)) = (omega arith, omega arith)
+
+  -- a message from number n on that is not of an earlier day comes after it
+  rank-later : RankBelow day n b → (k : ℕ) → n ≤ k → ltb (day k) (day (b % 65536 - 1)) ≡ false → b < rankOf day k
+  unfolding rankOf
+  rank-later (inl e) k l f = absurd (some e)
+  rank-later (inr (j, h, e)) k l f =
+      let z : b % 65536 - 1 ≡ j = omega arith in
+      let d = ltb-false (day k) (day j) (rw z at f) in
+      omega arith
+
+-- what a block leaves: each of its messages leaves the best as it is
+module _ (keys : List ℕ) (want : DW.Want) (best at : ℕ) where
+  abbrev pub Leaves : Type 0
+  Leaves =
+      (chosen : List ℕ) (k : ℕ) → at ≤ k → k < at + 64
+      → better (taking keys want chosen k) (rankOf (dayIn keys) k) best ≡ best
+
+  pub no-property : want .equal ≡ true
+      → found (firstFrom (ofProperty keys (want .property)) at (at + 64 - at)) ≡ false → Leaves
+  unfolding ofProperty
+  no-property q e chosen k h l =
+      let z = none-passes _ at (at + 64 - at) (not-found _ e) k h (omega arith) in
+      better-unless _ (rankOf (dayIn keys) k) best (not-wanted keys want chosen k (rw (q, z)))
+
+  pub none-before : RankBelow (dayIn keys) at best → at ≤ 1024 → best ≢ 0
+      → found (firstFrom (ofDayBefore keys (getD keys (1024 + (best % 65536 - 1)) 0)) at (at + 64 - at)) ≡ false
+      → Leaves
+  unfolding ofDayBefore
+  none-before r few some e chosen k h l =
+      let z = none-passes _ at (at + 64 - at) (not-found _ e) k h (omega arith) in
+      let m = rank-later (dayIn keys) at best few some r k h z in
+      better-later _ (rankOf (dayIn keys) k) best _ refl
+      (rw (ne-eqb best 0 some) (le-ltb (rankOf (dayIn keys) k) best (omega arith)))
+
+-- a narrower test leaves it too
+better-narrow : (u t : Bool) (x b : ℕ) → better t x b ≡ b → better (u && t) x b ≡ b
+unfolding better
+better-narrow true t x b e = e
+better-narrow false t x b e = refl
+
+module _ (day : ℕ → ℕ) (q p : ℕ → Bool) where
+  -- the best stays where each of n numbers leaves it
+  pub least-left : (b i n : ℕ) → ((k : ℕ) → i ≤ k → k < i + n → better (p k) (rankOf day k) b ≡ b)
+      → leastFrom day (λ k. q k && p k) b i n ≡ b
+  unfolding leastFrom
+  least-left b i zero h = refl
+  least-left b i (suc n) h =
+      rw (better-narrow (q i) (p i) (rankOf day i) b (h i (omega arith) (omega arith)))
+      (least-left b (suc i) n (λ k l m. h k (omega arith) (omega arith)))
+
+-- ranks of messages below a number
+module _ (day : ℕ → ℕ) where
+  pub below-more : (n m b : ℕ) → n ≤ m → RankBelow day n b → RankBelow day m b
+  below-more n m b l (inl e) = inl e
+  below-more n m b l (inr (k, h, e)) = inr (k, omega arith, e)
+
+  better-below : (t : Bool) (i b : ℕ) → RankBelow day i b → RankBelow day (suc i) (better t (rankOf day i) b)
+  unfolding better
+  better-below t i b r = go (t && (eqb b 0 || ltb (rankOf day i) b))
+    where
+      go : (u : Bool) → RankBelow day (suc i) (pick u (rankOf day i) b)
+      go true = inr (i, omega arith, refl)
+      go false = below-more i (suc i) b (omega arith) r
+
+  least-below : (p : ℕ → Bool) (b i n : ℕ) → RankBelow day i b → RankBelow day (i + n) (leastFrom day p b i n)
+  unfolding leastFrom
+  least-below p b i zero r = below-more i (i + 0) b (omega arith) r
+  least-below p b i (suc n) r =
+      let e : suc i + n ≡ i + suc n = omega arith in
+      rw (← e) (least-below p _ (suc i) n (better-below (p i) i b r))
+
+  -- what is found in a block is below its end
+  pub block-below : (p : ℕ → Bool) (b at from to r : ℕ) → at ≤ from → from ≤ to
+      → r ≡ leastFrom day p b from (to - from) → RankBelow day at b → RankBelow day to r
+  block-below p b at from to r h l e q =
+      let z : from + (to - from) ≡ to = omega arith in
+      rw (← z, e) (least-below p b from (to - from) (below-more at from b h q))
