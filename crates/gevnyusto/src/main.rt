@@ -169,7 +169,7 @@ fn run(table: &[u8], board: &mut [u16])
 {
     let mut bytes = [0u8; 3072];
     let mut links = [0u16; 10240];
-    let mut keys = [0u32; 1024];
+    let mut keys = [0u32; 2048];
     let mut cents = [0i64; 1024];
     serve(table, board, &mut bytes, &mut links, &mut keys, &mut cents);
 }
