@@ -24,9 +24,6 @@ pub struct Want {
 // Where the days begin among the keys.
 pub const DAYS: usize = 1024;
 
-// Where the days begin in the list of keys.
-pub const DAYS: usize = 1024;
-
 // The numbers hold x.
 fn is_in(x: u16, s: &[u16]) -> bool
     ensures { λ r. ⌜ r ≡ isIn x (now (s .entry)) ⌝ }

@@ -47,11 +47,15 @@ abbrev pub runAs : List ℕ → List Call → List Said → Sample
 runAs s cs said = record { table = s; calls = cs; refusal = 0; said = said }
 
 -- rule 8.3: the call of a line `a`
-abbrev pub send : ℕ → ℕ → ℕ → ℕ → Call
-send i channel property cents =
-    adds i (record { channel = channel; property = property; cents = pos cents; day = 0 })
+abbrev pub sendOn : ℕ → ℕ → ℕ → ℕ → ℕ → Call
+sendOn i channel property cents day =
+    adds i (record { channel = channel; property = property; cents = pos cents; day = day })
 
--- the same with cents below 0
+-- without a day
+abbrev pub send : ℕ → ℕ → ℕ → ℕ → Call
+send i channel property cents = sendOn i channel property cents 0
+
+-- with cents below 0
 abbrev pub sendBack : ℕ → ℕ → ℕ → ℕ → Call
 sendBack i channel property cents =
     adds i (record { channel = channel; property = property; cents = negℤ (pos cents); day = 0 })
@@ -172,6 +176,10 @@ oneMessage = send 0 0 7 0 ∷ replicate 3 (steps 0)
 abbrev pub secondMessage : List Call
 secondMessage = send 0 0 7 0 ∷ replicate 6 (steps 0)
 
+-- three senders' messages, of one channel and of these days; the third looks twice
+abbrev pub threeDays : ℕ → ℕ → ℕ → List Call
+threeDays a b c = sendOn 0 0 7 0 a ∷ sendOn 1 0 7 0 b ∷ sendOn 2 0 7 0 c ∷ replicate 2 (steps 2)
+
 abbrev pub saidOne : List Said
 saidOne = Item 0 ∷ Looked 0 ∷ Missed ∷ Ended ∷ []
 
@@ -198,6 +206,10 @@ samples =
     runAs tableP (send 0 0 7 999_999_999_999 ∷ send 1 0 7 1_000_000_000_000 ∷ []) (Item 0 ∷ Refused 11 ∷ []) ∷
     -- rules 1.4 and 6.4: the least cents, and 11 for one less
     runAs tableP (sendBack 0 0 7 999_999_999_999 ∷ sendBack 1 0 7 1_000_000_000_000 ∷ []) (Item 0 ∷ Refused 11 ∷ []) ∷
+    -- rule 4.2: the subject, whatever its day, and then the lesser day, or of equal days the lower number
+    runAs (repeating 1 2) (threeDays 9 3 5) (Item 0 ∷ Item 1 ∷ Item 2 ∷ Looked 2 ∷ Looked 1 ∷ []) ∷
+    runAs (repeating 1 2) (threeDays 3 9 1) (Item 0 ∷ Item 1 ∷ Item 2 ∷ Looked 2 ∷ Looked 0 ∷ []) ∷
+    runAs (repeating 1 2) (threeDays 4 4 4) (Item 0 ∷ Item 1 ∷ Item 2 ∷ Looked 2 ∷ Looked 0 ∷ []) ∷
     -- rules 4.2 and 4.3: a message takes one member, not two of its channel
     runAs (repeating 1 2) oneMessage saidOne ∷
     -- rule 4.6: with a second message both match
