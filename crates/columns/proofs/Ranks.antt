@@ -87,7 +87,7 @@ module _ (day : ℕ → ℕ) where
     least-split b i j n h l = least-parts b i (j - i) (n - j) (n - i) j (omega arith) (omega arith)
 
     -- a best of day 0 stays, since ranks are above their numbers
-    pub least-stays : (b i n : ℕ) → isFirst b ≡ true → b ≤ i → leastFrom day p b i n ≡ b
+    least-stays : (b i n : ℕ) → isFirst b ≡ true → b ≤ i → leastFrom day p b i n ≡ b
     unfolding leastFrom
     least-stays b i zero f h = refl
     least-stays b i (suc n) f h =

@@ -13,7 +13,7 @@ use Rattle.columns.specs.Columns.{daysAt}
 abbrev pub dayIn : List ℕ → ℕ → ℕ
 dayIn keys k = getD keys (daysAt + k) 0
 
--- a message has a lesser rank than another just if it comes before it; 0 is no message's
+-- a message numbered below 65,536 has a lesser rank than another just if it comes before it; 0 is no message's
 unfoldable pub rankOf : (ℕ → ℕ) → ℕ → ℕ
 rankOf day k = day k * 65536 + (k + 1)
 
