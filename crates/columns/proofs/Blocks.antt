@@ -1,10 +1,9 @@
 -- Laws of a block that is passed over: none of it has the property, or none of it comes before the best so far.
-use mathlib.Core.Path.{_≡_, refl, sym, _∙_}
+use mathlib.Core.Path.{_≡_, refl}
 use mathlib.Core.Logic.{_≢_, inl, inr, ⊎-elim}
-use mathlib.Core.Bool.{Bool, true, false, _&&_, _||_, and-false}
+use mathlib.Core.Bool.{Bool, true, false, _&&_, _||_}
 use mathlib.Core.List.{List}
-use Prim.Native.Nat.{ℕ, zero, suc, _+_, _-_, _*_, _%_, _<_, _≤_}
-use native.Mathlib.Numerals.{add-one}
+use Prim.Native.Nat.{ℕ, zero, suc, _+_, _-_, _%_, _<_, _≤_}
 use native.Mathlib.Omega.{arith}
 use lib.Dec.{eqb, ltb}
 use lib.ListN.{getD}
@@ -64,7 +63,7 @@ module _ (keys : List ℕ) (want : DW.Want) (best at : ℕ) where
       let z = none-passes _ at (at + 64 - at) (not-found _ e) k h (omega arith) in
       let m = rank-later (dayIn keys) at best few some r k h z in
       better-later _ (rankOf (dayIn keys) k) best _ refl
-      (rw (ne-eqb best 0 some) (le-ltb (rankOf (dayIn keys) k) best (omega arith)))
+      (rw (ne-eqb best 0 some, le-ltb (rankOf (dayIn keys) k) best (omega arith)))
 
 -- a narrower test leaves it too
 better-narrow : (u t : Bool) (x b : ℕ) → better t x b ≡ b → better (u && t) x b ≡ b

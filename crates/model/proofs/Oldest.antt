@@ -44,10 +44,6 @@ module _ (day : ℕ → ℕ) where
       ⊎-elim (λ f. absurd (both-ways m n (before-means m n e) (before-means n m f))) (λ f. f)
       (tested (isBefore day n m))
 
-  -- irreflexive
-  pub before-self : (n : ℕ) → isBefore day n n ≡ false
-  before-self n = ⊎-elim (before-not n n) (λ e. e) (tested (isBefore day n n))
-
   through : (m i n : ℕ) → Before day m i → Before day i n → Before day m n
   through m i n (inl p) (inl q) = inl (omega (arith, p, q))
   through m i n (inl p) (inr q) = inl (omega (arith, p, q .0))

@@ -52,8 +52,7 @@ loop-holds c =
 in-block-requires : tie.Need-in-block-requires Inv-loop μ-loop
 in-block-requires c κs =
     let p = c .before .before .before in
-    let s = p .before .before .before .before .before in
-    (
+    let s = p .before .before .before .before .before in (
       (search needs, lent-less (c .block-end .result) (s .args .n) (omega arith) (s .pre .0), p .loop .inv .1),
       below-more (dayIn (s .args .keys .now)) (p .loop .at) _ (p .loop .b) (omega arith) (p .loop .inv .2),
     )
