@@ -1,6 +1,6 @@
 -- Laws of the numbers that pass a test: a turn, the end, and two parts that meet.
 use mathlib.Core.Path.{_≡_, refl, sym, _∙_}
-use mathlib.Core.Bool.{Bool, true, false, _||_}
+use mathlib.Core.Bool.{Bool, true, false, _||_, or-assoc, or-false}
 use Prim.Native.Nat.{ℕ, zero, suc, _+_, _-_, _<_, _≤_}
 use native.Mathlib.Numerals.{add-one}
 use native.Mathlib.Omega.{arith}
@@ -12,7 +12,7 @@ pick-first : (t : Bool) (k x y : ℕ) → pick t (suc k) (firstOf x y) ≡ first
 pick-first true k x y = refl
 pick-first false k x y = refl
 
-pub found-pick : (t : Bool) (k x : ℕ) → found (pick t (suc k) x) ≡ (t || found x)
+found-pick : (t : Bool) (k x : ℕ) → found (pick t (suc k) x) ≡ (t || found x)
 found-pick true k x = refl
 found-pick false k x = refl
 
@@ -26,7 +26,7 @@ none-here true k x e = absurd (omega arith)
 none-here false k x e = (refl, e)
 
 module _ (p : ℕ → Bool) where
-  pub first-step : (i n : ℕ) → i < n → firstFrom p i (n - i) ≡ pick (p i) (i + 1) (firstFrom p (i + 1) (n - (i + 1)))
+  first-step : (i n : ℕ) → i < n → firstFrom p i (n - i) ≡ pick (p i) (i + 1) (firstFrom p (i + 1) (n - (i + 1)))
   unfolding firstFrom
   first-step i n h =
       let e : n - i ≡ suc (n - (i + 1)) = omega arith in
@@ -37,6 +37,15 @@ module _ (p : ℕ → Bool) where
   first-end i n h =
       let e : n - i ≡ 0 = omega arith in
       rw e
+
+  -- what was found so far, and number i
+  pub found-turn : (any x : Bool) (i n : ℕ) → i < n → x ≡ (any || found (firstFrom p i (n - i)))
+      → x ≡ ((any || p i) || found (firstFrom p (i + 1) (n - (i + 1))))
+  found-turn any x i n h e =
+      e ∙ rw (first-step i n h, add-one i, found-pick (p i) i) (sym (or-assoc any (p i) _))
+
+  pub found-end : (any x : Bool) (i n : ℕ) → n ≤ i → x ≡ (any || found (firstFrom p i (n - i))) → any ≡ x
+  found-end any x i n h e = sym (e ∙ rw (first-end i n h) (or-false any))
 
   first-parts : (i a b n j : ℕ) → a + b ≡ n → i + a ≡ j
       → firstFrom p i n ≡ firstOf (firstFrom p i a) (firstFrom p j b)

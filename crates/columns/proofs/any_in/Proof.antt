@@ -1,12 +1,11 @@
 -- `columns::any_in` meets its contract: what is found so far, or in what is left.
-use mathlib.Core.Bool.{_||_, or-assoc, or-false}
-use mathlib.Core.Path.{_≡_, refl, sym, _∙_}
+use mathlib.Core.Bool.{_||_}
+use mathlib.Core.Path.{_≡_, refl}
 use Prim.Native.Nat.{_≤_, _-_}
-use native.Mathlib.Numerals.{add-one}
 use native.Mathlib.Omega.{arith}
 use borrow.Author.Needs.{needs}
 use Rattle.columns.specs.Firsts.{firstFrom, found, ofKind}
-use Rattle.columns.proofs.Firsts.{found-pick, first-step, first-end}
+use Rattle.columns.proofs.Firsts.{found-turn, found-end}
 use Rattle.columns.proofs.any_in.Statement.{statement}
 use Rattle.columns.proofs.any_in.Tie as tie
 
@@ -25,20 +24,16 @@ loop-again : tie.Need-loop-again Inv-loop μ-loop
 unfolding ofKind
 loop-again c =
     let p = c .before .before .before in
-    let a = p .before .args in
-    let q = ofKind (a .channels .now) (a .statuses .now) (a .wanted) (a .status) in
-    let i = p .loop .i in (
+    let a = p .before .args in (
       search needs,
-      p .loop .inv .1
-          ∙ rw (first-step q i (a .to) (omega arith), add-one i, found-pick (q i) i)
-          (sym (or-assoc (p .loop .any) (q i) _)),
+      found-turn (ofKind (a .channels .now) (a .statuses .now) (a .wanted) (a .status)) (p .loop .any) _ (p .loop .i) (a .to)
+          (omega arith) (p .loop .inv .1),
     )
 
 returns : tie.Need-returns Inv-loop μ-loop
 returns c =
     let p = c .before in
-    let a = p .before .args in
-    sym (p .loop .inv .1 ∙ rw (first-end _ (p .loop .i) (a .to) (omega arith)) (or-false (p .loop .any)))
+    found-end _ (p .loop .any) _ (p .loop .i) (p .before .args .to) (omega arith) (p .loop .inv .1)
 
 pub any-in-spec : {M : Type 1} → statement M
 any-in-spec =
