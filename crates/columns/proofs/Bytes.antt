@@ -9,7 +9,7 @@ use lib.Pow.{pow-pos, pow-mono, shl-exact}
 use lib.Dec.{eqb}
 use lib.ListN.{getD}
 use borrow.Author.Tests.{ne-eqb}
-use Rattle.columns.specs.Words.{bit, wordFrom, placed, isYes, Marks}
+use Rattle.columns.specs.Words.{bit, wordFrom, placed, isYes, Marks, wordOf}
 use Rattle.columns.proofs.Words.{bit-le, word-below, word-parts}
 
 -- a yes or no shifted to its place among eight: nothing is shifted out
@@ -32,22 +32,20 @@ module _ (y : List ℕ) where
     pub marks-are : Marks y
     marks-are k l = rw (yes-is k l) (h k l)
 
-  abbrev word : ℕ → ℕ → ℕ
-  word i n = wordFrom (λ k. bit (isYes y k)) i n
-
-  pub word-fits : (i n m : ℕ) → n ≤ m → word i n < 2 ^ m
-  word-fits i n m h = lt-of-lt-of-le (word-below _ i n (λ k l. bit-le (isYes y k))) (pow-mono h)
+  pub word-fits : (i n m : ℕ) → n ≤ m → wordOf y i n < 2 ^ m
+  word-fits i n m h = lt-of-lt-of-le (word-below _ (λ k. bit-le (isYes y k)) i n) (pow-mono h)
 
   -- byte k, the i-th of its eight, added to those before it
   pub byte-more : (p i k : ℕ) → p + i ≡ k → k % 8 ≡ i → getD y k 0 ≡ placed (isYes y k) k
-      → word p i + getD y k 0 ≡ word p (i + 1)
+      → wordOf y p i + getD y k 0 ≡ wordOf y p (i + 1)
   unfolding placed wordFrom
   byte-more p i k e m h =
       let z : bit (isYes y k) + 2 * 0 ≡ bit (isYes y k) = omega arith in
-      rw (h, m) (sym (word-parts (λ k. bit (isYes y k)) p i 1 (i + 1) k refl e ∙ rw z))
+      rw (h, m) (sym (word-parts _ p i 1 (i + 1) k refl e ∙ rw z))
 
   -- eight bits, shifted above p bits: nothing is shifted out
-  pub eight-more : (p x : ℕ) → p + 8 ≤ 64 → x ≡ word p 8 → word 0 p + (x * 2 ^ p) % 2 ^ 64 ≡ word 0 (p + 8)
+  pub eight-more : (p x : ℕ) → p + 8 ≤ 64 → x ≡ wordOf y p 8
+      → wordOf y 0 p + (x * 2 ^ p) % 2 ^ 64 ≡ wordOf y 0 (p + 8)
   eight-more p x h e =
-      rw (e, shl-exact {a = word p 8} 8 p 64 (word-fits p 8 8 (omega arith)) (omega arith))
-      (sym (word-parts (λ k. bit (isYes y k)) 0 p 8 (p + 8) p refl (omega arith)))
+      rw (e, shl-exact {a = wordOf y p 8} 8 p 64 (word-fits p 8 8 (omega arith)) (omega arith))
+      (sym (word-parts _ 0 p 8 (p + 8) p refl (omega arith)))

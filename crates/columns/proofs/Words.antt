@@ -1,5 +1,5 @@
 -- Laws of words of bits: their size, their parts, and their lowest bit.
-use mathlib.Core.Path.{_≡_, refl, sym, _∙_}
+use mathlib.Core.Path.{_≡_, refl, _∙_}
 use mathlib.Core.Logic.{_≢_}
 use mathlib.Core.Bool.{Bool, true, false, _&&_}
 use Prim.Native.Nat.{ℕ, zero, suc, _+_, _-_, _*_, _/_, _%_, _^_, _<_, _≤_}
@@ -33,11 +33,10 @@ high-bits true n = omega arith
 high-bits false n = omega arith
 
 module _ (f : ℕ → ℕ) where
-  pub word-below : (i n : ℕ) → ((k : ℕ) → k < i + n → f k ≤ 1) → wordFrom f i n < 2 ^ n
+  pub word-below : ((k : ℕ) → f k ≤ 1) → (i n : ℕ) → wordFrom f i n < 2 ^ n
   unfolding wordFrom
-  word-below i zero h = omega (arith, pow-zero 2)
-  word-below i (suc n) h =
-      omega (arith, h i (omega arith), word-below (suc i) n (λ k l. h k (omega arith)), two-pow-succ n)
+  word-below h i zero = omega (arith, pow-zero 2)
+  word-below h i (suc n) = omega (arith, h i, word-below h (suc i) n, two-pow-succ n)
 
   -- n bits, and m above them from number j on
   pub word-parts : (i n m l j : ℕ) → n + m ≡ l → i + n ≡ j → wordFrom f i l ≡ wordFrom f i n + wordFrom f j m * 2 ^ n
@@ -48,8 +47,8 @@ module _ (f : ℕ → ℕ) where
       rw (x, z, pow-zero 2) (omega arith)
   word-parts i (suc n) m zero j e g = absurd (omega arith)
   word-parts i (suc n) m (suc l) j e g =
-      rw (word-parts (suc i) n m l j (omega arith) (omega arith), two-pow-succ n, mul-add (wordFrom f j m) (2 ^ n) (2 ^ n))
-      (omega arith)
+      let a = word-parts (suc i) n m l j (omega arith) (omega arith) in
+      rw (a, two-pow-succ n, mul-add (wordFrom f j m) (2 ^ n) (2 ^ n)) (omega arith)
 
   -- the same bits, `at` numbers on
   pub word-same : (g : ℕ → ℕ) (at i j n : ℕ) → ((k : ℕ) → k < i + n → f k ≡ g (at + k)) → at + i ≡ j

@@ -28,6 +28,10 @@ isYes y k = not (eqb (getD y k 0) 0)
 abbrev pub Marks : List ℕ → Type 0
 Marks y = (k : ℕ) → k < 64 → getD y k 0 ≡ placed (isYes y k) k
 
+-- the word of n of them, from number i on
+abbrev pub wordOf : List ℕ → ℕ → ℕ → ℕ
+wordOf y i n = wordFrom (λ k. bit (isYes y k)) i n
+
 -- the best rank b so far, or the least of n numbers from i on whose bit is set and that pass
 unfoldable pub leastBit : (ℕ → ℕ) → (ℕ → Bool) → ℕ → ℕ → ℕ → ℕ → ℕ
 leastBit day p w b i zero = b

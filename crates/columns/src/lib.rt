@@ -12,7 +12,7 @@ ghost use Rattle.model.specs.Looks.{isFree, oldest, someClaimed, dayAt};
 ghost use Rattle.columns.specs.Columns.{Lent, Passed, Unread, daysAt, boardBy};
 ghost use Rattle.columns.specs.Firsts.{firstFrom, found, ofKind, ofProperty, ofDayBefore, taking, eligible};
 ghost use Rattle.columns.specs.Ranks.{dayIn, rankOf, better, isFirst, leastFrom, RankBelow};
-ghost use Rattle.columns.specs.Words.{bit, wordFrom, placed, isYes, Marks, leastBit};
+ghost use Rattle.columns.specs.Words.{bit, wordFrom, placed, Marks, wordOf, leastBit};
 
 // What a member of a chord wants of a message: the channel, and the property number where equal ones are wanted.
 pub struct Want {
@@ -102,7 +102,7 @@ fn marks(channels: &[u8], statuses: &[u8], at: usize, wanted: u8, status: u8) ->
 // Eight of such bytes, from number `at` on, as a byte.
 fn byte_of(y: &[u8; 64], at: usize) -> u8
     requires { ⌜ (at + 8 ≤ 64) × (at % 8 ≡ 0) × Marks (now y) ⌝ }
-    ensures { λ r. ⌜ r ≡ wordFrom (λ k. bit (isYes (now (y .entry)) k)) at 8 ⌝ }
+    ensures { λ r. ⌜ r ≡ wordOf (now (y .entry)) at 8 ⌝ }
 {
     let mut s: u8 = 0;
     let mut i = 0;
@@ -123,7 +123,7 @@ fn wide(x: u8) -> u64
 // Such bytes as a word: bit k is whether byte k is a yes.
 fn word_of(y: &[u8; 64]) -> u64
     requires { ⌜ Marks (now y) ⌝ }
-    ensures { λ r. ⌜ r ≡ wordFrom (λ k. bit (isYes (now (y .entry)) k)) 0 64 ⌝ }
+    ensures { λ r. ⌜ r ≡ wordOf (now (y .entry)) 0 64 ⌝ }
 {
     let mut w: u64 = 0;
     let mut p: u64 = 0;

@@ -4,13 +4,13 @@ use Prim.Native.Nat.{_+_, _-_, _≤_}
 use native.Mathlib.Omega.{arith}
 use lib.ListN.{getD}
 use borrow.Author.Needs.{needs}
-use Rattle.columns.specs.Words.{bit, wordFrom, isYes}
+use Rattle.columns.specs.Words.{wordFrom, wordOf}
 use Rattle.columns.proofs.Bytes.{word-fits, byte-more}
 use Rattle.columns.proofs.byte_of.Statement.{statement}
 use Rattle.columns.proofs.byte_of.Tie as tie
 
 abbrev Inv-loop : tie.InvT-loop
-Inv-loop y at s₀ i₀ s i = (i ≤ 8) × (s ≡ wordFrom (λ k. bit (isYes y k)) at i)
+Inv-loop y at s₀ i₀ s i = (i ≤ 8) × (s ≡ wordOf y at i)
 
 abbrev μ-loop : tie.MeasureT-loop
 μ-loop y at s₀ i₀ s i = 8 - i
@@ -18,7 +18,7 @@ abbrev μ-loop : tie.MeasureT-loop
 -- the word with one bit more
 turn : (c : tie.In-loop Inv-loop μ-loop) → let p = c .before in
     let a = p .before .args in
-    p .loop .s + getD (a .y .now) (a .at + p .loop .i) 0 ≡ wordFrom (λ k. bit (isYes (a .y .now) k)) (a .at) (p .loop .i + 1)
+    p .loop .s + getD (a .y .now) (a .at + p .loop .i) 0 ≡ wordOf (a .y .now) (a .at) (p .loop .i + 1)
 turn c =
     let p = c .before in
     let s = p .before in

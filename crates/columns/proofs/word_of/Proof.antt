@@ -3,13 +3,13 @@ use mathlib.Core.Path.{_≡_, _∙_}
 use Prim.Native.Nat.{_+_, _-_, _*_, _%_, _^_, _≤_}
 use native.Mathlib.Omega.{arith}
 use borrow.Author.Needs.{needs}
-use Rattle.columns.specs.Words.{bit, wordFrom, isYes}
+use Rattle.columns.specs.Words.{wordFrom, wordOf}
 use Rattle.columns.proofs.Bytes.{word-fits, eight-more}
 use Rattle.columns.proofs.word_of.Statement.{statement}
 use Rattle.columns.proofs.word_of.Tie as tie
 
 abbrev Inv-loop : tie.InvT-loop
-Inv-loop y w₀ p₀ w p = (p ≤ 64) × (p % 8 ≡ 0) × (w ≡ wordFrom (λ k. bit (isYes y k)) 0 p)
+Inv-loop y w₀ p₀ w p = (p ≤ 64) × (p % 8 ≡ 0) × (w ≡ wordOf y 0 p)
 
 abbrev μ-loop : tie.MeasureT-loop
 μ-loop y w₀ p₀ w p = 64 - p
@@ -17,7 +17,7 @@ abbrev μ-loop : tie.MeasureT-loop
 -- the word with eight bits more
 turn : (c : tie.After-wide Inv-loop μ-loop) → let l = c .before .before .before in
     l .loop .w + (c .wide .result * 2 ^ l .loop .p) % 2 ^ 64
-    ≡ wordFrom (λ k. bit (isYes (l .before .args .y .now) k)) 0 (l .loop .p + 8)
+    ≡ wordOf (l .before .args .y .now) 0 (l .loop .p + 8)
 turn c =
     let l = c .before .before .before in
     rw (l .loop .inv .2)
