@@ -7,4 +7,5 @@ pub mod Oldests
 pub mod Walks
 pub mod Passed
 pub mod Words
+pub mod Bytes
 pub mod Blocks

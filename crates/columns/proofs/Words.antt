@@ -1,12 +1,11 @@
--- Laws of words of bits: their size, one bit more, and their lowest bit.
-use mathlib.Core.Path.{_≡_, refl, sym, _∙_}
+-- Laws of words of bits: their size, their parts, and their lowest bit.
+use mathlib.Core.Path.{_≡_, refl, _∙_}
 use mathlib.Core.Logic.{_≢_}
 use mathlib.Core.Bool.{Bool, true, false, _&&_}
 use Prim.Native.Nat.{ℕ, zero, suc, _+_, _-_, _*_, _/_, _%_, _^_, _<_, _≤_}
-use native.Mathlib.Nat.{pow-zero, two-pow-succ, one-mul, mul-add, lt-of-lt-of-le}
-use native.Mathlib.Numerals.{add-one}
+use native.Mathlib.Nat.{pow-zero, two-pow-succ, one-mul, mul-add}
 use native.Mathlib.Omega.{arith}
-use lib.Pow.{pow-pos, pow-mono, shl-exact}
+use lib.Pow.{pow-pos, shl-exact}
 use lib.Count.{trailingZeros, under}
 use lib.Dec.{eqb}
 use Rattle.columns.specs.Ranks.{rankOf, better, isFirst, leastFrom}
@@ -34,28 +33,22 @@ high-bits true n = omega arith
 high-bits false n = omega arith
 
 module _ (f : ℕ → ℕ) where
-  word-below : (i n : ℕ) → ((k : ℕ) → k < i + n → f k ≤ 1) → wordFrom f i n < 2 ^ n
+  pub word-below : ((k : ℕ) → f k ≤ 1) → (i n : ℕ) → wordFrom f i n < 2 ^ n
   unfolding wordFrom
-  word-below i zero h = omega (arith, pow-zero 2)
-  word-below i (suc n) h =
-      omega (arith, h i (omega arith), word-below (suc i) n (λ k l. h k (omega arith)), two-pow-succ n)
+  word-below h i zero = omega (arith, pow-zero 2)
+  word-below h i (suc n) = omega (arith, h i, word-below h (suc i) n, two-pow-succ n)
 
-  -- one bit more, above the others
-  word-more : (i n k : ℕ) → i + n ≡ k → wordFrom f i (suc n) ≡ wordFrom f i n + f k * 2 ^ n
+  -- n bits, and m above them from number j on
+  pub word-parts : (i n m l j : ℕ) → n + m ≡ l → i + n ≡ j → wordFrom f i l ≡ wordFrom f i n + wordFrom f j m * 2 ^ n
   unfolding wordFrom
-  word-more i zero k e = let z : i ≡ k = omega arith in rw (z, pow-zero 2) (omega arith)
-  word-more i (suc n) k e =
-      rw (word-more (suc i) n k (omega arith), two-pow-succ n, mul-add (f k) (2 ^ n) (2 ^ n)) (omega arith)
-
-  -- the next bit, shifted to its place: nothing is shifted out
-  pub word-step : (n x : ℕ) → n < 64 → f n ≤ 1 → x ≡ f n
-      → wordFrom f 0 n + (x * 2 ^ n) % 2 ^ 64 ≡ wordFrom f 0 (n + 1)
-  word-step n x h l e =
-      rw (e, shl-exact {a = f n} 1 n 64 (omega (arith, two-pow-succ 0, pow-zero 2)) (omega arith), add-one n)
-      (sym (word-more 0 n n (omega arith)))
-
-  pub word-fits : (n : ℕ) → n ≤ 64 → ((k : ℕ) → k < 64 → f k ≤ 1) → wordFrom f 0 n < 2 ^ 64
-  word-fits n h l = lt-of-lt-of-le (word-below 0 n (λ k x. l k (omega arith))) (pow-mono h)
+  word-parts i zero m l j e g =
+      let x : l ≡ m = omega arith in
+      let z : i ≡ j = omega arith in
+      rw (x, z, pow-zero 2) (omega arith)
+  word-parts i (suc n) m zero j e g = absurd (omega arith)
+  word-parts i (suc n) m (suc l) j e g =
+      let a = word-parts (suc i) n m l j (omega arith) (omega arith) in
+      rw (a, two-pow-succ n, mul-add (wordFrom f j m) (2 ^ n) (2 ^ n)) (omega arith)
 
   -- the same bits, `at` numbers on
   pub word-same : (g : ℕ → ℕ) (at i j n : ℕ) → ((k : ℕ) → k < i + n → f k ≡ g (at + k)) → at + i ≡ j

@@ -1,7 +1,7 @@
 // What a look reads of the lent messages: a column for each field, the first n messages of them.
 ghost use mathlib.Core.Path.{_≡_};
 ghost use mathlib.Core.Logic.{_⊎_};
-ghost use Prim.Native.Nat.{ℕ, _+_, _-_, _<_, _≤_};
+ghost use Prim.Native.Nat.{ℕ, _+_, _-_, _%_, _<_, _≤_};
 ghost use mathlib.Core.Bool.{false};
 ghost use mathlib.Core.List.{List};
 ghost use lib.ListN.{length, getD};
@@ -12,7 +12,7 @@ ghost use Rattle.model.specs.Looks.{isFree, oldest, someClaimed, dayAt};
 ghost use Rattle.columns.specs.Columns.{Lent, Passed, Unread, daysAt, boardBy};
 ghost use Rattle.columns.specs.Firsts.{firstFrom, found, ofKind, ofProperty, ofDayBefore, taking, eligible};
 ghost use Rattle.columns.specs.Ranks.{dayIn, rankOf, better, isFirst, leastFrom, RankBelow};
-ghost use Rattle.columns.specs.Words.{bit, wordFrom, leastBit};
+ghost use Rattle.columns.specs.Words.{bit, wordFrom, placed, Marks, wordOf, leastBit};
 
 // What a member of a chord wants of a message: the channel, and the property number where equal ones are wanted.
 pub struct Want {
@@ -82,19 +82,35 @@ fn block_end(at: u16, n: u16) -> u16
     at + 64
 }
 
-// Sixty-four messages' yes or no, a byte each: message at + i is of the channel and of the status.
-fn kinds(channels: &[u8], statuses: &[u8], at: usize, wanted: u8, status: u8) -> [u8; 64]
+// Sixty-four messages' yes or no, a byte each at its place among eight: message at + i is of the channel and of the
+// status.
+fn marks(channels: &[u8], statuses: &[u8], at: usize, wanted: u8, status: u8) -> [u8; 64]
     requires { ⌜ (at + 64 ≤ length (now channels)) × (at + 64 ≤ length (now statuses)) ⌝ }
     ensures { λ r. ⌜ ((k : ℕ) → k < 64
-        → getD r k 0 ≡ bit (ofKind (now (channels .entry)) (now (statuses .entry)) wanted status (at + k))) ⌝ }
+        → getD r k 0 ≡ placed (ofKind (now (channels .entry)) (now (statuses .entry)) wanted status (at + k)) k) ⌝ }
 {
     let mut y = [0u8; 64];
     let mut i = 0;
     while i < 64 {
-        y[i] = ((channels[at + i] == wanted) & (statuses[at + i] == status)) as u8;
+        let yes = (channels[at + i] == wanted) & (statuses[at + i] == status);
+        y[i] = (yes as u8) << (i % 8);
         i += 1;
     }
     y
+}
+
+// Eight of such bytes, from number `at` on, as a byte.
+fn byte_of(y: &[u8; 64], at: usize) -> u8
+    requires { ⌜ (at + 8 ≤ 64) × (at % 8 ≡ 0) × Marks (now y) ⌝ }
+    ensures { λ r. ⌜ r ≡ wordOf (now (y .entry)) at 8 ⌝ }
+{
+    let mut s: u8 = 0;
+    let mut i = 0;
+    while i < 8 {
+        s = s + y[at + i];
+        i += 1;
+    }
+    s
 }
 
 // A byte as a word.
@@ -104,17 +120,16 @@ fn wide(x: u8) -> u64
     x as u64
 }
 
-// Sixty-four bytes of 0 or 1 as a word: bit k is byte k.
+// Such bytes as a word: bit k is whether byte k is a yes.
 fn word_of(y: &[u8; 64]) -> u64
-    requires { ⌜ ((k : ℕ) → k < 64 → getD (now y) k 0 ≤ 1) ⌝ }
-    ensures { λ r. ⌜ r ≡ wordFrom (λ k. getD (now (y .entry)) k 0) 0 64 ⌝ }
+    requires { ⌜ Marks (now y) ⌝ }
+    ensures { λ r. ⌜ r ≡ wordOf (now (y .entry)) 0 64 ⌝ }
 {
     let mut w: u64 = 0;
-    let mut j: u64 = 0;
-    while j < 64 {
-        let q = j as usize;
-        w = w + (wide(y[q]) << j);
-        j += 1;
+    let mut p: u64 = 0;
+    while p < 64 {
+        w = w + (wide(byte_of(y, p as usize)) << p);
+        p += 8;
     }
     w
 }
@@ -125,7 +140,7 @@ fn word_at(channels: &[u8], statuses: &[u8], at: usize, wanted: u8, status: u8) 
     ensures { λ r. ⌜ r ≡ wordFrom
         (λ k. bit (ofKind (now (channels .entry)) (now (statuses .entry)) wanted status k)) at 64 ⌝ }
 {
-    let y = kinds(channels, statuses, at, wanted, status);
+    let y = marks(channels, statuses, at, wanted, status);
     word_of(&y)
 }
 
