@@ -272,66 +272,6 @@ fn least_in(
     b
 }
 
-// The same of sixteen, which are passed over where none is of the channel and of the status.
-fn least_of_16(
-    channels: &[u8],
-    keys: &[u32],
-    statuses: &[u8],
-    from: u16,
-    want: Want,
-    status: u8,
-    best: u64,
-    chosen: &[u16],
-) -> u64
-    requires { ⌜ Lent (from + 16) (now channels) (now keys) (now statuses) × (isFirst best ≡ false) ⌝ }
-    ensures { λ r. ⌜ r ≡ leastFrom (dayIn (now (keys .entry))) (eligible (now (channels .entry)) (now (keys .entry))
-        (now (statuses .entry)) want status (now (chosen .entry))) best from (from + 16 - from) ⌝ }
-{
-    let k = from as usize;
-    if !any_in(channels, statuses, k, k + 16, want.channel, status) {
-        return best;
-    }
-    least_in(
-        channels,
-        keys,
-        statuses,
-        from,
-        from + 16,
-        want,
-        status,
-        best,
-        chosen,
-    )
-}
-
-// The same of what is left over after the last block: sixteen at a time, then one by one.
-fn least_left(
-    channels: &[u8],
-    keys: &[u32],
-    statuses: &[u8],
-    from: u16,
-    to: u16,
-    want: Want,
-    status: u8,
-    best: u64,
-    chosen: &[u16],
-) -> u64
-    requires { ⌜ (from ≤ to) × Lent to (now channels) (now keys) (now statuses) × (isFirst best ≡ false) ⌝ }
-    ensures { λ r. ⌜ r ≡ leastFrom (dayIn (now (keys .entry))) (eligible (now (channels .entry)) (now (keys .entry))
-        (now (statuses .entry)) want status (now (chosen .entry))) best from (to - from) ⌝ }
-{
-    let mut b = best;
-    let mut i = from;
-    while to - i >= 16 {
-        b = least_of_16(channels, keys, statuses, i, want, status, b, chosen);
-        if (b != 0) & (b < 65536) {
-            return b;
-        }
-        i += 16;
-    }
-    least_in(channels, keys, statuses, i, to, want, status, b, chosen)
-}
-
 // The same of the messages of a word.
 fn least_of(keys: &[u32], word: u64, at: u16, want: Want, best: u64, chosen: &[u16]) -> u64
     requires { ⌜ (at + 64 ≤ 1024) × (daysAt + (at + 64) ≤ length (now keys)) × (isFirst best ≡ false) ⌝ }
@@ -351,7 +291,7 @@ fn least_of(keys: &[u32], word: u64, at: u16, want: Want, best: u64, chosen: &[u
     b
 }
 
-// The same of a block: by its word where it is whole, by smaller ones where it is what is left over.
+// The same of a block: by its word where it is whole, one by one where it is what is left over.
 fn in_block(
     channels: &[u8],
     keys: &[u32],
@@ -375,7 +315,7 @@ fn in_block(
         let w = word_at(channels, statuses, from as usize, want.channel, status);
         return least_of(keys, w, from, want, best, chosen);
     }
-    least_left(
+    least_in(
         channels,
         keys,
         statuses,
