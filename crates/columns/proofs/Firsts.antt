@@ -68,6 +68,15 @@ module _ (p : ℕ → Bool) where
       → firstFrom p i (n - i) ≡ firstFrom p j (n - j)
   first-later i j n h l e = first-split i j n h l ∙ rw e
 
+  -- none of more passes
+  pub first-fewer : (i m n : ℕ) → m ≤ n → firstFrom p i n ≡ 0 → firstFrom p i m ≡ 0
+  unfolding firstFrom
+  first-fewer i zero n l e = refl
+  first-fewer i (suc m) zero l e = absurd (omega arith)
+  first-fewer i (suc m) (suc n) l e =
+      let z = none-here (p i) i (firstFrom p (suc i) n) e in
+      rw (z .0) (first-fewer (suc i) m n (omega arith) (z .1))
+
   -- none of them passes
   pub first-empty : (i n : ℕ) → ((k : ℕ) → k < i + n → p k ≡ false) → firstFrom p i n ≡ 0
   unfolding firstFrom

@@ -2,7 +2,7 @@
 use mathlib.Core.Path.{_≡_, ap, _∙_}
 use mathlib.Core.Bool.{false, and-false}
 use mathlib.Core.List.{List}
-use Prim.Native.Nat.{ℕ, _-_, _<_}
+use Prim.Native.Nat.{ℕ, _-_, _<_, _≤_}
 use native.Mathlib.Omega.{arith}
 use lib.Dec.{eqb}
 use lib.ListN.{getD}
@@ -17,6 +17,13 @@ use Rattle.columns.proofs.Walks.{kind-skip}
 -- no message is below number 0
 pub passed-none : (n : ℕ) (statuses : List ℕ) → Passed 0 n statuses
 passed-none n statuses = record { within = omega arith; consumed = λ i h. absurd (omega arith) }
+
+pub passed-less : (start from n : ℕ) (statuses : List ℕ) → from ≤ start → Passed start n statuses
+    → Passed from n statuses
+passed-less start from n statuses l p = record {
+  within = let w = p .within in omega arith;
+  consumed = λ i h. p .consumed i (omega arith);
+}
 
 consumed-kind : (channels statuses : List ℕ) (wanted status k : ℕ) → getD statuses k 0 ≡ 3 → status < 3
     → ofKind channels statuses wanted status k ≡ false

@@ -3,7 +3,7 @@ use mathlib.Core.Path.{_≡_, refl, _∙_}
 use mathlib.Core.Logic.{_≢_}
 use mathlib.Core.Bool.{Bool, true, false, _&&_}
 use Prim.Native.Nat.{ℕ, zero, suc, _+_, _-_, _*_, _/_, _%_, _^_, _<_, _≤_}
-use native.Mathlib.Nat.{pow-zero, two-pow-succ, one-mul, mul-add}
+use native.Mathlib.Nat.{pow-zero, two-pow-succ, one-mul, mul-add, add-mul-mod-self-right, mod-eq-of-lt}
 use native.Mathlib.Omega.{arith}
 use lib.Pow.{pow-pos, shl-exact}
 use lib.Count.{trailingZeros, under}
@@ -50,6 +50,12 @@ module _ (f : ℕ → ℕ) where
       let a = word-parts (suc i) n m l j (omega arith) (omega arith) in
       rw (a, two-pow-succ n, mul-add (wordFrom f j m) (2 ^ n) (2 ^ n)) (omega arith)
 
+  -- the lowest n of l bits
+  pub word-low : ((k : ℕ) → f k ≤ 1) → (i n l : ℕ) → n ≤ l → wordFrom f i l % 2 ^ n ≡ wordFrom f i n
+  word-low h i n l m =
+      rw (word-parts i n (l - n) l (i + n) (omega arith) refl)
+      (add-mul-mod-self-right (wordFrom f i n) (wordFrom f (i + n) (l - n)) (2 ^ n) ∙ mod-eq-of-lt (word-below h i n))
+
   -- the same bits, `at` numbers on
   pub word-same : (g : ℕ → ℕ) (at i j n : ℕ) → ((k : ℕ) → k < i + n → f k ≡ g (at + k)) → at + i ≡ j
       → wordFrom f i n ≡ wordFrom g j n
@@ -72,14 +78,19 @@ trailing-low (suc n) w h l =
     low-under n w (trailingZeros n (w / 2)) (w % 2) h refl
     (λ e. trailing-low n (w / 2) (λ x. h (omega arith)) (omega (arith, two-pow-succ n)))
 
--- the same of a word of 64 bits, and 1 shifted to the place of its lowest bit: nothing is shifted out
+-- 1 shifted to a place in a word: nothing is shifted out
+pub one-shifted : (t : ℕ) → t < 64 → (1 * 2 ^ t) % 2 ^ 64 ≡ 2 ^ t
+one-shifted t h =
+    let two : 1 < 2 ^ 1 = omega (arith, two-pow-succ 0, pow-zero 2) in
+    shl-exact 1 t 64 two (omega arith) ∙ one-mul (2 ^ t)
+
+-- the same of a word of 64 bits, and 1 shifted to the place of its lowest bit
 pub lowest-bit : (w : ℕ) → w ≢ 0 → w < 2 ^ 64 → let t = trailingZeros 64 w in
     (t < 64) × (0 < 2 ^ t) × (2 ^ t ≤ w) × ((1 * 2 ^ t) % 2 ^ 64 ≡ 2 ^ t)
 lowest-bit w h l =
     let t = trailingZeros 64 w in
     let z = trailing-low 64 w h l in
-    let two : 1 < 2 ^ 1 = omega (arith, two-pow-succ 0, pow-zero 2) in
-    (z .0, pow-pos t, z .1, shl-exact 1 t 64 two (omega arith) ∙ one-mul (2 ^ t))
+    (z .0, pow-pos t, z .1, one-shifted t (z .0))
 
 module _ (day : ℕ → ℕ) (p : ℕ → Bool) where
   bit-clear : (w b i n : ℕ) → w % 2 ≡ 0 → leastBit day p w b i (suc n) ≡ leastBit day p (w / 2) b (suc i) n
@@ -145,11 +156,21 @@ module _ (day : ℕ → ℕ) (p : ℕ → Bool) where
       (λ y. trailing-low n (w / 2) (λ z. h (omega arith)) less .1)
       (λ y. bit-turn n (w / 2) (suc i) k b x q (λ z. h (omega arith)) less) e
 
--- the least of a word of tests p that passes q too
-pub bit-least : (day : ℕ → ℕ) (p q r : ℕ → Bool) → ((k : ℕ) → (p k && q k) ≡ r k) → (b i n : ℕ)
-    → leastBit day q (wordFrom (λ k. bit (p k)) i n) b i n ≡ leastFrom day r b i n
+-- the least of a word of m tests p that passes q too, by n bits
+bit-least : (day : ℕ → ℕ) (p q r : ℕ → Bool) → ((k : ℕ) → (p k && q k) ≡ r k) → (b i m n : ℕ) → m ≤ n
+    → leastBit day q (wordFrom (λ k. bit (p k)) i m) b i n ≡ leastFrom day r b i m
 unfolding leastBit wordFrom leastFrom
-bit-least day p q r h b i zero = refl
-bit-least day p q r h b i (suc n) =
+bit-least day p q r h b i zero n l = bit-none day q b i n
+bit-least day p q r h b i (suc m) zero l = absurd (omega arith)
+bit-least day p q r h b i (suc m) (suc n) l =
     rw (low-bit (p i), high-bits (p i), bit-is (p i), h i)
-    (bit-least day p q r h (better (r i) (rankOf day i) b) (suc i) n)
+    (bit-least day p q r h (better (r i) (rankOf day i) b) (suc i) m n (omega arith))
+
+-- the same of the lowest m bits of a word of 64
+pub low-least : (day : ℕ → ℕ) (p q r : ℕ → Bool) → ((k : ℕ) → (p k && q k) ≡ r k) → (b i m w : ℕ) → m ≤ 64
+    → w ≡ wordFrom (λ k. bit (p k)) i 64 → leastBit day q (w % 2 ^ m) b i 64 ≡ leastFrom day r b i m
+low-least day p q r h b i m w l e =
+    rw (e, word-low (λ k. bit (p k)) (λ k. bit-le (p k)) i m 64 l) (bit-least day p q r h b i m 64 l)
+
+pub word-fits : (p : ℕ → Bool) (i w : ℕ) → w ≡ wordFrom (λ k. bit (p k)) i 64 → w < 2 ^ 64
+word-fits p i w e = rw e (word-below (λ k. bit (p k)) (λ k. bit-le (p k)) i 64)

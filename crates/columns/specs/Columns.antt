@@ -79,12 +79,12 @@ boardBy channels keys statuses n o = record {
   backoffs = o .backoffs;
 }
 
--- columns long enough for n messages
+-- columns of 1,024 records, n of which are messages
 pub record Lent (n : ℕ) (channels keys statuses : List ℕ) : Type 0 where
   pub few : n ≤ 1024
-  pub channels-all : n ≤ length channels
-  pub keys-all : daysAt + n ≤ length keys
-  pub statuses-all : n ≤ length statuses
+  pub channels-all : 1024 ≤ length channels
+  pub keys-all : daysAt + 1024 ≤ length keys
+  pub statuses-all : 1024 ≤ length statuses
 
 -- the messages below number start are consumed, so that no look takes one of them, nor finds one claimed
 pub record Passed (start n : ℕ) (statuses : List ℕ) : Type 0 where

@@ -1,7 +1,7 @@
 // What a look reads of the lent messages: a column for each field, the first n messages of them.
 ghost use mathlib.Core.Path.{_≡_};
 ghost use mathlib.Core.Logic.{_⊎_};
-ghost use Prim.Native.Nat.{ℕ, _+_, _-_, _%_, _<_, _≤_};
+ghost use Prim.Native.Nat.{ℕ, _+_, _-_, _%_, _^_, _<_, _≤_};
 ghost use mathlib.Core.Bool.{false};
 ghost use mathlib.Core.List.{List};
 ghost use lib.ListN.{length, getD};
@@ -53,28 +53,10 @@ fn any_in(channels: &[u8], statuses: &[u8], from: usize, to: usize, wanted: u8, 
     any
 }
 
-// The next block of 64 of the n messages, from number `from` on, that has one of the channel and of the status; where
-// none has, those left over.
-fn next_block(channels: &[u8], statuses: &[u8], from: u16, n: u16, wanted: u8, status: u8) -> u16
-    requires { ⌜ (from ≤ n) × (n ≤ 1024) × (n ≤ length (now channels)) × (n ≤ length (now statuses)) ⌝ }
-    ensures { λ r. ⌜ (from ≤ r) × (r ≤ n) × (firstFrom
-        (ofKind (now (channels .entry)) (now (statuses .entry)) wanted status) from (r - from) ≡ 0) ⌝ }
-{
-    let mut at = from;
-    while n - at >= 64 {
-        let k = at as usize;
-        if any_in(channels, statuses, k, k + 64, wanted, status) {
-            return at;
-        }
-        at += 64;
-    }
-    at
-}
-
 // Where the block at number `at` ends.
 fn block_end(at: u16, n: u16) -> u16
     requires { ⌜ (at ≤ n) × (n ≤ 1024) ⌝ }
-    ensures { λ r. ⌜ (at ≤ r) × (r ≤ n) × ((r ≡ n) ⊎ (at < r)) ⌝ }
+    ensures { λ r. ⌜ (at ≤ r) × (r ≤ n) × (r ≤ at + 64) × ((r ≡ n) ⊎ (r ≡ at + 64)) ⌝ }
 {
     if n - at < 64 {
         return n;
@@ -291,7 +273,19 @@ fn least_of(keys: &[u32], word: u64, at: u16, want: Want, best: u64, chosen: &[u
     b
 }
 
-// The same of a block: by its word where it is whole, one by one where it is what is left over.
+// The lowest n of a word's bits.
+fn low_bits(w: u64, n: u16) -> u64
+    requires { ⌜ n ≤ 64 ⌝ }
+    ensures { λ r. ⌜ (w < 2 ^ 64 → r ≡ w % 2 ^ n) ⌝ }
+{
+    if n == 64 {
+        return w;
+    }
+    w % (1 << (n as u64))
+}
+
+// The same of a block, by its word; it is passed over where none of it is of the channel and of the status, or none is
+// worth a visit.
 fn in_block(
     channels: &[u8],
     keys: &[u32],
@@ -303,33 +297,52 @@ fn in_block(
     best: u64,
     chosen: &[u16],
 ) -> u64
-    requires { ⌜ (from ≤ to) × Lent to (now channels) (now keys) (now statuses) × (isFirst best ≡ false) ⌝ }
-    requires { ⌜ RankBelow (dayIn (now keys)) from best ⌝ }
+    requires { ⌜ (from ≤ to) × (to ≤ from + 64) × (from + 64 ≤ 1024) × (isFirst best ≡ false) ⌝ }
+    requires { ⌜ Lent to (now channels) (now keys) (now statuses) × RankBelow (dayIn (now keys)) from best ⌝ }
     ensures { λ r. ⌜ r ≡ leastFrom (dayIn (now (keys .entry))) (eligible (now (channels .entry)) (now (keys .entry))
         (now (statuses .entry)) want status (now (chosen .entry))) best from (to - from) ⌝ }
 {
-    if to - from == 64 {
-        if !is_worth(keys, from as usize, want, best) {
-            return best;
-        }
-        let w = word_at(channels, statuses, from as usize, want.channel, status);
-        return least_of(keys, w, from, want, best, chosen);
+    let at = from as usize;
+    if !any_in(channels, statuses, at, at + 64, want.channel, status) {
+        return best;
     }
-    least_in(
-        channels,
-        keys,
-        statuses,
-        from,
-        to,
-        want,
-        status,
-        best,
-        chosen,
-    )
+    if !is_worth(keys, at, want, best) {
+        return best;
+    }
+    let w = word_at(channels, statuses, at, want.channel, status);
+    least_of(keys, low_bits(w, to - from), from, want, best, chosen)
 }
 
-// The least rank of the eligible of the first n messages, block by block from number `start` on: those below it are
-// consumed.
+// The same of the first n messages, block by block from number `from` on, where the first block begins.
+fn by_blocks(
+    channels: &[u8],
+    keys: &[u32],
+    statuses: &[u8],
+    from: u16,
+    n: u16,
+    want: Want,
+    status: u8,
+    chosen: &[u16],
+) -> u64
+    requires { ⌜ (from ≤ n) × (from % 64 ≡ 0) × Lent n (now channels) (now keys) (now statuses) ⌝ }
+    ensures { λ r. ⌜ r ≡ leastFrom (dayIn (now (keys .entry))) (eligible (now (channels .entry)) (now (keys .entry))
+        (now (statuses .entry)) want status (now (chosen .entry))) 0 from (n - from) ⌝ }
+{
+    let mut b: u64 = 0;
+    let mut at = from;
+    while at < n {
+        let to = block_end(at, n);
+        b = in_block(channels, keys, statuses, at, to, want, status, b, chosen);
+        if (b != 0) & (b < 65536) {
+            return b;
+        }
+        at = to;
+    }
+    b
+}
+
+// The least rank of the eligible of the first n messages, of which those below number `start` are consumed: of few one
+// by one, else by blocks.
 fn least(
     channels: &[u8],
     keys: &[u32],
@@ -345,18 +358,11 @@ fn least(
     ensures { λ r. ⌜ r ≡ leastFrom (dayIn (now (keys .entry))) (eligible (now (channels .entry)) (now (keys .entry))
         (now (statuses .entry)) want status (now (chosen .entry))) 0 0 n ⌝ }
 {
-    let mut b: u64 = 0;
-    let mut at = start;
-    while at < n {
-        let from = next_block(channels, statuses, at, n, want.channel, status);
-        let to = block_end(from, n);
-        b = in_block(channels, keys, statuses, from, to, want, status, b, chosen);
-        if (b != 0) & (b < 65536) {
-            return b;
-        }
-        at = to;
+    if n - start <= 12 {
+        return least_in(channels, keys, statuses, start, n, want, status, 0, chosen);
     }
-    b
+    let from = start - start % 64;
+    by_blocks(channels, keys, statuses, from, n, want, status, chosen)
 }
 
 // The oldest of the first n messages that a look takes for a member, pending and not chosen yet: its number plus 1, 0
