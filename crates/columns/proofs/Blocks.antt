@@ -1,6 +1,6 @@
 -- Laws of a block that is passed over: none of it has the property, or none of it comes before the best so far.
 use mathlib.Core.Path.{_≡_, refl}
-use mathlib.Core.Logic.{_≢_, inl, inr, ⊎-elim}
+use mathlib.Core.Logic.{_≢_, inl, inr}
 use mathlib.Core.Bool.{Bool, true, false, _&&_, _||_}
 use mathlib.Core.List.{List}
 use Prim.Native.Nat.{ℕ, zero, suc, _+_, _-_, _%_, _<_, _≤_}
@@ -9,21 +9,12 @@ use lib.Dec.{eqb, ltb}
 use lib.ListN.{getD}
 use borrow.Author.Tests.{ne-eqb, le-ltb, ltb-false}
 use Rattle.model.specs.Basics.{pick}
-use Rattle.model.proofs.Tests.{same?}
 use Rattle.columns.specs.declared.Want as DW
 use Rattle.columns.specs.Firsts.{firstFrom, found, ofProperty, ofDayBefore, taking}
 use Rattle.columns.specs.Ranks.{dayIn, rankOf, better, leastFrom, RankBelow}
-use Rattle.columns.proofs.Firsts.{none-here, not-found}
+use Rattle.columns.proofs.Firsts.{not-found, none-passes}
 use Rattle.columns.proofs.Ranks.{better-unless, better-later}
 use Rattle.columns.proofs.Walks.{not-wanted}
-
--- none of n numbers passes
-none-passes : (p : ℕ → Bool) (i n : ℕ) → firstFrom p i n ≡ 0 → (k : ℕ) → i ≤ k → k < i + n → p k ≡ false
-unfolding firstFrom
-none-passes p i zero e k h l = absurd (omega arith)
-none-passes p i (suc n) e k h l =
-    let z = none-here (p i) i (firstFrom p (suc i) n) e in
-    ⊎-elim (λ x. rw (← x) (z .0)) (λ x. none-passes p (suc i) n (z .1) k (omega arith) (omega arith)) (same? i k)
 
 -- the message whose rank the best is
 module _ (day : ℕ → ℕ) (n b : ℕ) (few : n ≤ 1024) (some : b ≢ 0) where
@@ -43,7 +34,7 @@ module _ (day : ℕ → ℕ) (n b : ℕ) (few : n ≤ 1024) (some : b ≢ 0) whe
 
 -- what a block leaves: each of its messages leaves the best as it is
 module _ (keys : List ℕ) (want : DW.Want) (best at : ℕ) where
-  abbrev pub Leaves : Type 0
+  abbrev Leaves : Type 0
   Leaves =
       (chosen : List ℕ) (k : ℕ) → at ≤ k → k < at + 64
       → better (taking keys want chosen k) (rankOf (dayIn keys) k) best ≡ best
@@ -83,7 +74,7 @@ module _ (day : ℕ → ℕ) (q p : ℕ → Bool) where
 
 -- ranks of messages below a number
 module _ (day : ℕ → ℕ) where
-  pub below-more : (n m b : ℕ) → n ≤ m → RankBelow day n b → RankBelow day m b
+  below-more : (n m b : ℕ) → n ≤ m → RankBelow day n b → RankBelow day m b
   below-more n m b l (inl e) = inl e
   below-more n m b l (inr (k, h, e)) = inr (k, omega arith, e)
 

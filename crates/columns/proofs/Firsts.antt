@@ -1,16 +1,13 @@
--- Laws of the numbers that pass a test: a turn, the end, and two parts that meet.
+-- Laws of the first number that passes a test: a turn, the end, and where there is none.
 use mathlib.Core.Path.{_≡_, refl, sym, _∙_}
+use mathlib.Core.Logic.{⊎-elim}
 use mathlib.Core.Bool.{Bool, true, false, _||_, or-assoc, or-false}
 use Prim.Native.Nat.{ℕ, zero, suc, _+_, _-_, _<_, _≤_}
 use native.Mathlib.Numerals.{add-one}
 use native.Mathlib.Omega.{arith}
-use Rattle.model.specs.Basics.{pick, firstOf}
-use Rattle.model.proofs.Tests.{never}
+use Rattle.model.specs.Basics.{pick}
+use Rattle.model.proofs.Tests.{never, same?}
 use Rattle.columns.specs.Firsts.{firstFrom, found}
-
-pick-first : (t : Bool) (k x y : ℕ) → pick t (suc k) (firstOf x y) ≡ firstOf (pick t (suc k) x) y
-pick-first true k x y = refl
-pick-first false k x y = refl
 
 found-pick : (t : Bool) (k x : ℕ) → found (pick t (suc k) x) ≡ (t || found x)
 found-pick true k x = refl
@@ -32,7 +29,7 @@ module _ (p : ℕ → Bool) where
       let e : n - i ≡ suc (n - (i + 1)) = omega arith in
       rw (e, add-one i)
 
-  pub first-end : (i n : ℕ) → n ≤ i → firstFrom p i (n - i) ≡ 0
+  first-end : (i n : ℕ) → n ≤ i → firstFrom p i (n - i) ≡ 0
   unfolding firstFrom
   first-end i n h =
       let e : n - i ≡ 0 = omega arith in
@@ -47,26 +44,13 @@ module _ (p : ℕ → Bool) where
   pub found-end : (any x : Bool) (i n : ℕ) → n ≤ i → x ≡ (any || found (firstFrom p i (n - i))) → any ≡ x
   found-end any x i n h e = sym (e ∙ rw (first-end i n h) (or-false any))
 
-  first-parts : (i a b n j : ℕ) → a + b ≡ n → i + a ≡ j
-      → firstFrom p i n ≡ firstOf (firstFrom p i a) (firstFrom p j b)
+  -- none of n numbers passes
+  pub none-passes : (i n : ℕ) → firstFrom p i n ≡ 0 → (k : ℕ) → i ≤ k → k < i + n → p k ≡ false
   unfolding firstFrom
-  first-parts i zero b n j e f =
-      let x : n ≡ b = omega arith in
-      let y : i ≡ j = omega arith in
-      rw (x, y)
-  first-parts i (suc a) b zero j e f = absurd (omega arith)
-  first-parts i (suc a) b (suc n) j e f =
-      rw (first-parts (suc i) a b n j (omega arith) (omega arith))
-      (pick-first (p i) i (firstFrom p (suc i) a) (firstFrom p j b))
-
-  first-split : (i j n : ℕ) → i ≤ j → j ≤ n
-      → firstFrom p i (n - i) ≡ firstOf (firstFrom p i (j - i)) (firstFrom p j (n - j))
-  first-split i j n h l = first-parts i (j - i) (n - j) (n - i) j (omega arith) (omega arith)
-
-  -- the first is after j
-  pub first-later : (i j n : ℕ) → i ≤ j → j ≤ n → firstFrom p i (j - i) ≡ 0
-      → firstFrom p i (n - i) ≡ firstFrom p j (n - j)
-  first-later i j n h l e = first-split i j n h l ∙ rw e
+  none-passes i zero e k h l = absurd (omega arith)
+  none-passes i (suc n) e k h l =
+      let z = none-here (p i) i (firstFrom p (suc i) n) e in
+      ⊎-elim (λ x. rw (← x) (z .0)) (λ x. none-passes (suc i) n (z .1) k (omega arith) (omega arith)) (same? i k)
 
   -- none of more passes
   pub first-fewer : (i m n : ℕ) → m ≤ n → firstFrom p i n ≡ 0 → firstFrom p i m ≡ 0

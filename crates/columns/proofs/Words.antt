@@ -51,7 +51,7 @@ module _ (f : ℕ → ℕ) where
       rw (a, two-pow-succ n, mul-add (wordFrom f j m) (2 ^ n) (2 ^ n)) (omega arith)
 
   -- the lowest n of l bits
-  pub word-low : ((k : ℕ) → f k ≤ 1) → (i n l : ℕ) → n ≤ l → wordFrom f i l % 2 ^ n ≡ wordFrom f i n
+  word-low : ((k : ℕ) → f k ≤ 1) → (i n l : ℕ) → n ≤ l → wordFrom f i l % 2 ^ n ≡ wordFrom f i n
   word-low h i n l m =
       rw (word-parts i n (l - n) l (i + n) (omega arith) refl)
       (add-mul-mod-self-right (wordFrom f i n) (wordFrom f (i + n) (l - n)) (2 ^ n) ∙ mod-eq-of-lt (word-below h i n))

@@ -44,7 +44,7 @@ abbrev openTo : Table → Board → Job → ℕ → ℕ → Message → Bool
 openTo t b w k =
     isFree (chordAt t (w .chord)) (channelAt t (w .chord) k) (messageAt b (w .subject) .sent) (w .chosen)
 
-pub choice-hand : (t : Table) (b : Board) (w : Job) (k : ℕ) → subjectPlace t b (w .subject) (w .chord) ≡ k
+choice-hand : (t : Table) (b : Board) (w : Job) (k : ℕ) → subjectPlace t b (w .subject) (w .chord) ≡ k
     → choice t b w k ≡ suc (w .subject)
 unfolding choice
 choice-hand t b w k e = rw (eq-eqb _ k e)

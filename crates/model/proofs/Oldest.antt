@@ -50,11 +50,11 @@ module _ (day : ℕ → ℕ) where
   through m i n (inr p) (inl q) = inl (omega (arith, p .0, q))
   through m i n (inr p) (inr q) = inr (p .0 ∙ q .0, omega (arith, p .1, q .1))
 
-  pub before-trans : (m i n : ℕ) → isBefore day m i ≡ true → isBefore day i n ≡ true → isBefore day m n ≡ true
+  before-trans : (m i n : ℕ) → isBefore day m i ≡ true → isBefore day i n ≡ true → isBefore day m n ≡ true
   before-trans m i n p q = means-before m n (through m i n (before-means m i p) (before-means i n q))
 
   -- total
-  pub before-other : (m n : ℕ) → m ≢ n → isBefore day m n ≡ false → isBefore day n m ≡ true
+  before-other : (m n : ℕ) → m ≢ n → isBefore day m n ≡ false → isBefore day n m ≡ true
   unfolding isBefore
   before-other m n h e =
       let p = neither {t = ltb (day m) (day n)} e in

@@ -31,6 +31,12 @@ step-is t b d p x e q =
 
 module _ (t : Table) (channels keys statuses : List ℕ) (n count : ℕ) (d : DD.Sender)
     (r : Ready t channels keys statuses n count d) where
+  pub channels-in : n ≤ length channels
+  channels-in = omega (arith, r .lent .few, r .lent .channels-all)
+
+  pub statuses-in : n ≤ length statuses
+  statuses-in = omega (arith, r .lent .few, r .lent .statuses-all)
+
   pub own-in : d .own ≤ n
   own-in =
       let l = length-messages (columnsBy channels keys statuses (r .others)) 0 n in
@@ -82,7 +88,7 @@ module _ (t : Table) (channels keys statuses : List ℕ) (n count : ℕ) (d : DD
           omega (arith, job-facts .chosen-in i (omega (arith, a .counted)))
 
       pub held : ChoiceLent t (d .job .chosen) channels (size t (d .job .chord)) n
-      held = record { lent = r .lent .channels-all; below = chosen-in; known = r .known }
+      held = record { lent = channels-in; below = chosen-in; known = r .known }
 
       pub left : (k : ℕ)
           → PlaceOk t (boardBy channels keys statuses n (r .others)) (jobIn t (d .job)) (tell k)

@@ -1,7 +1,7 @@
 -- `steps::effect_of` meets its contract, state by state; an idle sender may not step.
 use Rattle.model.specs.Layout.{tableOf}
 use Rattle.columns.specs.Columns.{boardBy}
-use Rattle.steps.proofs.ReadyLaws.{own-in, own-some}
+use Rattle.steps.proofs.ReadyLaws.{channels-in, statuses-in, own-in, own-some}
 use Rattle.steps.proofs.StateSteps.{work-is, blocked-is, not-idle}
 use borrow.Author.Needs.{needs}
 use Rattle.steps.proofs.effect_of.Statement.{statement}
@@ -27,10 +27,9 @@ returns-2 c =
 blocked-step-requires : tie.Need-blocked-step-requires
 blocked-step-requires c κs =
     let s = start (c .before .before) in
-    let r = s .pre .1 .0 in
-    let l = r .lent in (
+    let r = s .pre .1 .0 in (
       (s .pre .0 .0, own-some _ _ _ _ _ _ _ r (c .enum-told3 .given .1), own-in _ _ _ _ _ _ _ r),
-      (l .channels-all, l .statuses-all, s .pre .1 .1 .0 .0, s .pre .1 .1 .0 .1),
+      (channels-in _ _ _ _ _ _ _ r, statuses-in _ _ _ _ _ _ _ r, s .pre .1 .1 .0 .0, s .pre .1 .1 .0 .1),
     )
 
 returns-3 : tie.Need-returns-3

@@ -66,7 +66,7 @@ sees-asks s =
     let r = s .pre .1 .0 in
     let h = subject-in s in (
       (s .pre .0 .0, omega arith, L.own-in _ _ _ _ _ _ _ r, L.waker-in _ _ _ _ _ _ _ r),
-      ((r .lent .channels-all, r .lent .statuses-all), r .known),
+      ((L.channels-in _ _ _ _ _ _ _ r, L.statuses-in _ _ _ _ _ _ _ r), r .known),
     )
 
 -- the step of the phase is the step of the job
@@ -85,13 +85,13 @@ shared-slice-read-channel : tie.Need-shared-slice-read-channel
 shared-slice-read-channel c =
     let s = entry c in
     let h = subject-in s in
-    omega (arith, s .pre .1 .0 .lent .channels-all)
+    omega (arith, L.channels-in _ _ _ _ _ _ _ (s .pre .1 .0))
 
 shared-slice-read-opened : tie.Need-shared-slice-read-opened
 shared-slice-read-opened c =
     let s = start c in
     let h = subject-in s in
-    omega (arith, s .pre .1 .0 .lent .statuses-all)
+    omega (arith, L.statuses-in _ _ _ _ _ _ _ (s .pre .1 .0))
 
 look-step-requires : tie.Need-look-step-requires
 look-step-requires c κs =
@@ -118,7 +118,7 @@ is-pending-requires c κs =
     let l = few s (p .0 .chord-in) in
     let h = L.chosen-in _ _ _ _ _ _ _ (s .pre .1 .0) (s .pre .0 .1) (all s (P.Claim (g .0 .0)) (g .1) refl) (p .0)
     (g .0 .0) (p .1) in
-    (omega (arith, p .1), omega (arith, s .pre .1 .0 .lent .statuses-all))
+    (omega (arith, p .1), omega (arith, L.statuses-in _ _ _ _ _ _ _ (s .pre .1 .0)))
 
 claim-step-requires : tie.Need-claim-step-requires
 claim-step-requires c κs =
