@@ -57,24 +57,14 @@ module _ (keys : List ℕ) (want : DW.Want) (best at : ℕ) where
       (rw (ne-eqb best 0 some, le-ltb (rankOf (dayIn keys) k) best (omega arith)))
 
 -- a narrower test leaves it too
-better-narrow : (u t : Bool) (x b : ℕ) → better t x b ≡ b → better (u && t) x b ≡ b
+pub better-narrow : (u t : Bool) (x b : ℕ) → better t x b ≡ b → better (u && t) x b ≡ b
 unfolding better
 better-narrow true t x b e = e
 better-narrow false t x b e = refl
 
-module _ (day : ℕ → ℕ) (q p : ℕ → Bool) where
-  -- the best stays where each of n numbers leaves it
-  pub least-left : (b i n : ℕ) → ((k : ℕ) → i ≤ k → k < i + n → better (p k) (rankOf day k) b ≡ b)
-      → leastFrom day (λ k. q k && p k) b i n ≡ b
-  unfolding leastFrom
-  least-left b i zero h = refl
-  least-left b i (suc n) h =
-      rw (better-narrow (q i) (p i) (rankOf day i) b (h i (omega arith) (omega arith)))
-      (least-left b (suc i) n (λ k l m. h k (omega arith) (omega arith)))
-
 -- ranks of messages below a number
 module _ (day : ℕ → ℕ) where
-  below-more : (n m b : ℕ) → n ≤ m → RankBelow day n b → RankBelow day m b
+  pub below-more : (n m b : ℕ) → n ≤ m → RankBelow day n b → RankBelow day m b
   below-more n m b l (inl e) = inl e
   below-more n m b l (inr (k, h, e)) = inr (k, omega arith, e)
 

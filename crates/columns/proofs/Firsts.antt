@@ -51,18 +51,3 @@ module _ (p : ℕ → Bool) where
   none-passes i (suc n) e k h l =
       let z = none-here (p i) i (firstFrom p (suc i) n) e in
       ⊎-elim (λ x. rw (← x) (z .0)) (λ x. none-passes (suc i) n (z .1) k (omega arith) (omega arith)) (same? i k)
-
-  -- none of more passes
-  pub first-fewer : (i m n : ℕ) → m ≤ n → firstFrom p i n ≡ 0 → firstFrom p i m ≡ 0
-  unfolding firstFrom
-  first-fewer i zero n l e = refl
-  first-fewer i (suc m) zero l e = absurd (omega arith)
-  first-fewer i (suc m) (suc n) l e =
-      let z = none-here (p i) i (firstFrom p (suc i) n) e in
-      rw (z .0) (first-fewer (suc i) m n (omega arith) (z .1))
-
-  -- none of them passes
-  pub first-empty : (i n : ℕ) → ((k : ℕ) → k < i + n → p k ≡ false) → firstFrom p i n ≡ 0
-  unfolding firstFrom
-  first-empty i zero h = refl
-  first-empty i (suc n) h = rw (h i (omega arith)) (first-empty (suc i) n (λ k l. h k (omega arith)))

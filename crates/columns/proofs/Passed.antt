@@ -11,7 +11,6 @@ use Rattle.columns.specs.declared.Want as DW
 use Rattle.columns.specs.Columns.{Passed}
 use Rattle.columns.specs.Firsts.{ofKind, eligible}
 use Rattle.columns.specs.Ranks.{dayIn, leastFrom}
-use Rattle.columns.proofs.Firsts.{first-empty}
 use Rattle.columns.proofs.Walks.{kind-skip}
 
 -- no message is below number 0
@@ -38,7 +37,6 @@ pub passed-skip : (channels keys statuses : List ℕ) (want : DW.Want) (status :
     leastFrom (dayIn keys) q 0 0 n ≡ leastFrom (dayIn keys) q 0 start (n - start)
 passed-skip channels keys statuses want status chosen start n p h =
     let z : n ≡ n - 0 = omega arith in
-    let none = first-empty (ofKind channels statuses (want .channel) status) 0 (start - 0)
-    (λ k l. consumed-kind channels statuses (want .channel) status k (p .consumed k (omega arith)) h) in
     ap (leastFrom (dayIn keys) _ 0 0) z
-    ∙ kind-skip channels keys statuses want status chosen 0 0 start n (omega arith) (p .within) none
+    ∙ kind-skip channels keys statuses want status chosen 0 0 start n (omega arith) (p .within)
+    (λ k l m. consumed-kind channels statuses (want .channel) status k (p .consumed k m) h)

@@ -11,9 +11,7 @@ use lib.ListN.{getD}
 use borrow.Author.Tests.{ne-eqb, le-ltb, eqb-false, ltb-true, not-true, not-false}
 use Rattle.model.specs.Basics.{pick}
 use Rattle.model.proofs.Tests.{both, never, tested}
-use Rattle.columns.specs.Firsts.{firstFrom}
 use Rattle.columns.specs.Ranks.{dayIn, rankOf, better, isFirst, leastFrom}
-use Rattle.columns.proofs.Firsts.{none-here}
 
 -- the best so far stays where x does not pass, or is no better
 pub better-unless : (t : Bool) (x b : ℕ) → t ≡ false → better t x b ≡ b
@@ -128,15 +126,17 @@ module _ (day : ℕ → ℕ) where
         → leastFrom day p b i (n - i) ≡ leastFrom day p r j (n - j)
     least-later b i j n r h l e = least-split b i j n h l ∙ rw (← e)
 
-    -- a wider test that none of them passes
-    module _ (q : ℕ → Bool) (w : (k : ℕ) → q k ≡ false → p k ≡ false) where
-      least-none : (b i n : ℕ) → firstFrom q i n ≡ 0 → leastFrom day p b i n ≡ b
-      unfolding firstFrom leastFrom
-      least-none b i zero e = refl
-      least-none b i (suc n) e =
-          let z = none-here (q i) i (firstFrom q (suc i) n) e in
-          rw (better-unless (p i) (rankOf day i) b (w i (z .0))) (least-none b (suc i) n (z .1))
+    -- the best stays where each of n numbers leaves it
+    pub least-left : (b i n : ℕ) → ((k : ℕ) → i ≤ k → k < i + n → better (p k) (rankOf day k) b ≡ b)
+        → leastFrom day p b i n ≡ b
+    unfolding leastFrom
+    least-left b i zero h = refl
+    least-left b i (suc n) h =
+        rw (h i (omega arith) (omega arith)) (least-left b (suc i) n (λ k l m. h k (omega arith) (omega arith)))
 
-      pub least-skip : (b i j n : ℕ) → i ≤ j → j ≤ n → firstFrom q i (j - i) ≡ 0
-          → leastFrom day p b i (n - i) ≡ leastFrom day p b j (n - j)
-      least-skip b i j n h l e = least-split b i j n h l ∙ rw (least-none b i (j - i) e)
+    -- none of those up to j passes
+    pub least-skip : (b i j n : ℕ) → i ≤ j → j ≤ n → ((k : ℕ) → i ≤ k → k < j → p k ≡ false)
+        → leastFrom day p b i (n - i) ≡ leastFrom day p b j (n - j)
+    least-skip b i j n h l e =
+        least-split b i j n h l
+        ∙ rw (least-left b i (j - i) (λ k m o. better-unless (p k) (rankOf day k) b (e k m (omega arith))))

@@ -12,7 +12,7 @@ use Rattle.model.specs.Boards.{Sent, Message, noMessage, isClaimed}
 use Rattle.model.specs.Looks.{alike, fits, isFree, oldest, someClaimed, dayAt}
 use Rattle.columns.specs.declared.Want as DW
 use Rattle.columns.specs.Columns.{Columns, Unread, messageIn, messagesFrom, columnsBy, boardBy}
-use Rattle.columns.specs.Firsts.{firstFrom, ofKind, taking, eligible}
+use Rattle.columns.specs.Firsts.{ofKind, taking, eligible}
 use Rattle.columns.specs.Ranks.{dayIn, leastFrom}
 use Rattle.columns.proofs.Ranks.{least-skip}
 use Rattle.columns.proofs.Oldests.{least-oldest, least-found}
@@ -55,10 +55,10 @@ module _ (channels keys statuses : List ℕ) (want : DW.Want) (status : ℕ) (ch
 
   -- messages of other channels or statuses are passed over
   pub kind-skip : (b i j n : ℕ) → i ≤ j → j ≤ n
-      → firstFrom (ofKind channels statuses (want .channel) status) i (j - i) ≡ 0
+      → ((k : ℕ) → i ≤ k → k < j → ofKind channels statuses (want .channel) status k ≡ false)
       → let q = eligible channels keys statuses want status chosen in
       leastFrom (dayIn keys) q b i (n - i) ≡ leastFrom (dayIn keys) q b j (n - j)
-  kind-skip = least-skip (dayIn keys) _ (ofKind channels statuses (want .channel) status) other-kind
+  kind-skip b i j n h l e = least-skip (dayIn keys) _ b i j n h l (λ k m o. other-kind k (e k m o))
 
 day-from : (m : Columns) (n k : ℕ) → k < n
     → dayIn (m .keys) k ≡ getD (messagesFrom m 0 n) k noMessage .sent .day

@@ -6,6 +6,7 @@ use Prim.Native.Nat.{ℕ, zero, suc, _+_, _-_, _*_, _/_, _%_, _^_, _<_, _≤_}
 use native.Mathlib.Nat.{pow-zero, two-pow-succ, one-mul, mul-add, add-mul-mod-self-right, mod-eq-of-lt}
 use native.Mathlib.Omega.{arith}
 use lib.Pow.{pow-pos, shl-exact}
+use lib.Bits.{bitAnd, and-step, and-self}
 use lib.Count.{trailingZeros, under}
 use lib.Dec.{eqb}
 use Rattle.columns.specs.Ranks.{rankOf, better, isFirst, leastFrom}
@@ -84,13 +85,36 @@ one-shifted t h =
     let two : 1 < 2 ^ 1 = omega (arith, two-pow-succ 0, pow-zero 2) in
     shl-exact 1 t 64 two (omega arith) ∙ one-mul (2 ^ t)
 
--- the same of a word of 64 bits, and 1 shifted to the place of its lowest bit
+-- `and-lowest` below by the last digit d, t the place of the lowest bit of the others
+and-under : (w t d : ℕ) → w ≢ 0 → w % 2 ≡ d → (d ≡ 0 → 2 ^ t ≤ w / 2)
+    → (d ≡ 0 → bitAnd (w / 2) (w / 2 - 1) ≡ w / 2 - 2 ^ t) → bitAnd w (w - 1) ≡ w - 2 ^ under d t
+and-under w t zero h e l f =
+    let m = l refl in
+    let a : (w - 1) / 2 ≡ w / 2 - 1 = omega arith in
+    let o : (w - 1) % 2 ≡ 1 = omega arith in
+    and-step w (w - 1) ∙ rw (a, e, o, f refl) (omega (arith, two-pow-succ t))
+and-under w t (suc d) h e l f =
+    let x : w % 2 ≡ 1 = omega arith in
+    let a : (w - 1) / 2 ≡ w / 2 = omega arith in
+    let o : (w - 1) % 2 ≡ 0 = omega arith in
+    and-step w (w - 1) ∙ rw (a, x, o, and-self (w / 2), pow-zero 2) (omega arith)
+
+-- the bits that a word shares with one less are all but its lowest
+and-lowest : (n w : ℕ) → w ≢ 0 → w < 2 ^ n → bitAnd w (w - 1) ≡ w - 2 ^ trailingZeros n w
+unfolding trailingZeros
+and-lowest zero w h l = absurd (h (omega (arith, pow-zero 2)))
+and-lowest (suc n) w h l =
+    let less : w / 2 < 2 ^ n = omega (arith, two-pow-succ n) in
+    and-under w (trailingZeros n (w / 2)) (w % 2) h refl
+    (λ e. trailing-low n (w / 2) (λ x. h (omega arith)) less .1)
+    (λ e. and-lowest n (w / 2) (λ x. h (omega arith)) less)
+
+-- the lowest bit of a word of 64, and the word without it
 pub lowest-bit : (w : ℕ) → w ≢ 0 → w < 2 ^ 64 → let t = trailingZeros 64 w in
-    (t < 64) × (0 < 2 ^ t) × (2 ^ t ≤ w) × ((1 * 2 ^ t) % 2 ^ 64 ≡ 2 ^ t)
+    (t < 64) × (0 < 2 ^ t) × (2 ^ t ≤ w) × (bitAnd w (w - 1) ≡ w - 2 ^ t)
 lowest-bit w h l =
-    let t = trailingZeros 64 w in
     let z = trailing-low 64 w h l in
-    (z .0, pow-pos t, z .1, one-shifted t (z .0))
+    (z .0, pow-pos (trailingZeros 64 w), z .1, and-lowest 64 w h l)
 
 module _ (day : ℕ → ℕ) (p : ℕ → Bool) where
   bit-clear : (w b i n : ℕ) → w % 2 ≡ 0 → leastBit day p w b i (suc n) ≡ leastBit day p (w / 2) b (suc i) n

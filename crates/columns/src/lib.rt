@@ -53,6 +53,25 @@ fn any_in(channels: &[u8], statuses: &[u8], from: usize, to: usize, wanted: u8, 
     any
 }
 
+// Where the first block from number `from` on begins that has a message of the channel and of the status; n or more if
+// none has.
+fn next_block(channels: &[u8], statuses: &[u8], from: u16, n: u16, wanted: u8, status: u8) -> u16
+    requires { ⌜ (from % 64 ≡ 0) × (from ≤ n) × (n ≤ 1024) ⌝ }
+    requires { ⌜ (1024 ≤ length (now channels)) × (1024 ≤ length (now statuses)) ⌝ }
+    ensures { λ r. ⌜ (from ≤ r) × (r ≤ 1024) × (r % 64 ≡ 0) × ((k : ℕ) → from ≤ k → k < r
+        → ofKind (now (channels .entry)) (now (statuses .entry)) wanted status k ≡ false) ⌝ }
+{
+    let mut at = from;
+    while at < n {
+        let k = at as usize;
+        if any_in(channels, statuses, k, k + 64, wanted, status) {
+            return at;
+        }
+        at += 64;
+    }
+    at
+}
+
 // Where the block at number `at` ends.
 fn block_end(at: u16, n: u16) -> u16
     requires { ⌜ (at ≤ n) × (n ≤ 1024) ⌝ }
@@ -268,7 +287,7 @@ fn least_of(keys: &[u32], word: u64, at: u16, want: Want, best: u64, chosen: &[u
         if (b != 0) & (b < 65536) {
             return b;
         }
-        w = w - (1 << t);
+        w = w & (w - 1);
     }
     b
 }
@@ -284,8 +303,7 @@ fn low_bits(w: u64, n: u16) -> u64
     w % (1 << (n as u64))
 }
 
-// The same of a block, by its word; it is passed over where none of it is of the channel and of the status, or none is
-// worth a visit.
+// The same of a block, by its word; it is passed over where none of it is worth a visit.
 fn in_block(
     channels: &[u8],
     keys: &[u32],
@@ -303,9 +321,6 @@ fn in_block(
         (now (statuses .entry)) want status (now (chosen .entry))) best from (to - from) ⌝ }
 {
     let at = from as usize;
-    if !any_in(channels, statuses, at, at + 64, want.channel, status) {
-        return best;
-    }
     if !is_worth(keys, at, want, best) {
         return best;
     }
@@ -331,8 +346,12 @@ fn by_blocks(
     let mut b: u64 = 0;
     let mut at = from;
     while at < n {
-        let to = block_end(at, n);
-        b = in_block(channels, keys, statuses, at, to, want, status, b, chosen);
+        let k = next_block(channels, statuses, at, n, want.channel, status);
+        if n <= k {
+            return b;
+        }
+        let to = block_end(k, n);
+        b = in_block(channels, keys, statuses, k, to, want, status, b, chosen);
         if (b != 0) & (b < 65536) {
             return b;
         }

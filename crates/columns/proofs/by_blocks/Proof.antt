@@ -2,14 +2,15 @@
 use mathlib.Core.Bool.{false}
 use mathlib.Core.Logic.{inl, ⊎-elim}
 use mathlib.Core.Path.{_≡_, refl, sym, _∙_}
-use Prim.Native.Nat.{_-_, _%_, _<_, _≤_}
+use Prim.Native.Nat.{ℕ, _-_, _%_, _<_, _≤_}
 use native.Mathlib.Omega.{arith}
 use borrow.Author.Needs.{needs}
 use Rattle.columns.specs.Firsts.{eligible}
 use Rattle.columns.specs.Ranks.{dayIn, isFirst, leastFrom, RankBelow}
-use Rattle.columns.proofs.Blocks.{block-below}
+use Rattle.columns.proofs.Blocks.{below-more, block-below}
 use Rattle.columns.proofs.Messages.{lent-less}
 use Rattle.columns.proofs.Ranks.{least-here, least-later, least-end}
+use Rattle.columns.proofs.Walks.{kind-skip}
 use Rattle.columns.proofs.by_blocks.Statement.{statement}
 use Rattle.columns.proofs.by_blocks.Tie as tie
 
@@ -25,52 +26,99 @@ abbrev μ-loop : tie.MeasureT-loop
 abbrev start : tie.At-loop Inv-loop μ-loop → tie.Start Inv-loop μ-loop
 start p = p .before .before .before .before .before
 
+abbrev loop : tie.After-next-block Inv-loop μ-loop → tie.At-loop Inv-loop μ-loop
+loop c = c .before .before
+
+-- none up to number j, where no block before it has a message of the channel and of the status
+passed : (c : tie.After-next-block Inv-loop μ-loop) (j : ℕ) → let p = loop c in
+    let a = start p .args in
+    p .loop .at ≤ j → j ≤ a .n → j ≤ c .next-block .result
+    → let q = eligible (a .channels .now) (a .keys .now) (a .statuses .now) (a .want) (a .status) (a .chosen .now) in
+    leastFrom (dayIn (a .keys .now)) q 0 (a .from) (a .n - a .from)
+    ≡ leastFrom (dayIn (a .keys .now)) q (p .loop .b) j (a .n - j)
+passed c j h l m =
+    let p = loop c in
+    let a = start p .args in
+    p .loop .inv .4
+    ∙ kind-skip (a .channels .now) (a .keys .now) (a .statuses .now) (a .want) (a .status) (a .chosen .now)
+    (p .loop .b) (p .loop .at) j (a .n) h l (λ k x y. c .next-block .ensures .3 k x (omega arith))
+
+-- the best so far is a message's before the block
+below : (c : tie.After-next-block Inv-loop μ-loop) → let p = loop c in
+    RankBelow (dayIn (start p .args .keys .now)) (c .next-block .result) (p .loop .b)
+below c =
+    let p = loop c in
+    below-more (dayIn (start p .args .keys .now)) (p .loop .at) (c .next-block .result) (p .loop .b)
+    (c .next-block .ensures .0) (p .loop .inv .3)
+
 loop-holds : tie.Need-loop-holds Inv-loop μ-loop
 loop-holds c =
     let s = c .before .before .before .before in
     (s .pre .0, λ l. s .pre .1, refl, inl refl, refl)
 
-in-block-requires : tie.Need-in-block-requires Inv-loop μ-loop
-in-block-requires c κs =
-    let p = c .before .before in
-    let s = start p in
-    let m = p .loop .inv .1 (omega arith) in
-    let l = s .pre .2 .few in (
-      (search needs, search needs, omega arith, p .loop .inv .2),
-      (lent-less (c .block-end .result) (s .args .n) (omega arith) (s .pre .2), p .loop .inv .3),
-    )
+next-block-requires : tie.Need-next-block-requires Inv-loop μ-loop
+next-block-requires c κs =
+    let p = c .before in
+    let l = start p .pre .2 in
+    ((p .loop .inv .1 (omega arith), search needs, l .few), (l .channels-all, l .statuses-all))
 
 returns : tie.Need-returns Inv-loop μ-loop
 returns c =
-    let p = c .before .before .before .before in
+    let k = c .before in
+    let p = loop k in
     let a = start p .args in
-    let f = c .before .in-block in
-    sym (p .loop .inv .4
-    ∙ least-here (dayIn (a .keys .now)) _ (p .loop .b) (p .loop .at) (c .before .before .block-end .result) (a .n)
-    (f .result) (omega arith) (omega arith) (f .ensures) (p .loop .inv .2) (c .if1 .taken))
+    sym (passed k (a .n) (omega arith) (omega arith) (omega arith)
+    ∙ least-end (dayIn (a .keys .now)) _ (p .loop .b) (a .n) (a .n) (omega arith))
+
+block-end-requires : tie.Need-block-end-requires Inv-loop μ-loop
+block-end-requires c κs = (omega arith, start (loop (c .before)) .pre .2 .few)
+
+in-block-requires : tie.Need-in-block-requires Inv-loop μ-loop
+in-block-requires c κs =
+    let k = c .before .before in
+    let p = loop k in
+    let s = start p in
+    let l = s .pre .2 in
+    let m = k .next-block .ensures .2 in (
+      (search needs, search needs, omega (arith, l .few), p .loop .inv .2),
+      (lent-less (c .block-end .result) (s .args .n) (omega arith) l, below k),
+    )
+
+returns-2 : tie.Need-returns-2 Inv-loop μ-loop
+returns-2 c =
+    let f = c .before in
+    let e = f .before in
+    let k = e .before .before in
+    let p = loop k in
+    let a = start p .args in
+    sym (passed k (k .next-block .result) (omega arith) (omega arith) (omega arith)
+    ∙ least-here (dayIn (a .keys .now)) _ (p .loop .b) (k .next-block .result) (e .block-end .result) (a .n)
+    (f .in-block .result) (omega arith) (omega arith) (f .in-block .ensures) (p .loop .inv .2) (c .if2 .taken))
 
 loop-less : tie.Need-loop-less Inv-loop μ-loop
 loop-less c = ⊎-elim (λ e. omega arith) (λ e. omega arith) (c .before .before .block-end .ensures .3)
 
 loop-again : tie.Need-loop-again Inv-loop μ-loop
 loop-again c =
-    let e = c .before .before .block-end in
-    let p = c .before .before .before .before in
+    let f = c .before in
+    let e = f .before in
+    let k = e .before .before in
+    let p = loop k in
     let a = start p .args in
-    let f = c .before .in-block in
-    let m = p .loop .inv .1 (omega arith) in (
+    let at = k .next-block .result in
+    let m = k .next-block .ensures .2 in (
       search needs,
-      λ l. ⊎-elim (λ z. absurd (omega arith)) (λ z. omega arith) (e .ensures .3),
-      c .if1 .left,
-      block-below (dayIn (a .keys .now)) _ (p .loop .b) (p .loop .at) (p .loop .at) (e .result) (f .result) (omega arith)
-          (omega arith) (f .ensures) (p .loop .inv .3),
-      p .loop .inv .4
-          ∙ least-later (dayIn (a .keys .now)) _ (p .loop .b) (p .loop .at) (e .result) (a .n) (f .result) (omega arith)
-          (omega arith) (f .ensures),
+      λ l. ⊎-elim (λ z. absurd (omega arith)) (λ z. omega arith) (e .block-end .ensures .3),
+      c .if2 .left,
+      block-below (dayIn (a .keys .now)) _ (p .loop .b) at at (e .block-end .result) (f .in-block .result)
+          (omega arith) (omega arith) (f .in-block .ensures) (below k),
+      passed k at (omega arith) (omega arith) (omega arith)
+          ∙ least-later (dayIn (a .keys .now)) _ (p .loop .b) at (e .block-end .result) (a .n) (f .in-block .result)
+          (omega arith) (omega arith) (f .in-block .ensures),
     )
 
-returns-2 : tie.Need-returns-2 Inv-loop μ-loop
-returns-2 c =
+returns-3 : tie.Need-returns-3 Inv-loop μ-loop
+returns-3 c =
     let p = c .before in
     let a = start p .args in
     sym (p .loop .inv .4 ∙ least-end (dayIn (a .keys .now)) _ (p .loop .b) (p .loop .at) (a .n) (omega arith))
@@ -82,9 +130,11 @@ by-blocks-spec =
     Inv-loop
     μ-loop
     loop-holds
-    (λ c κs. search needs)
-    in-block-requires
+    next-block-requires
     returns
+    block-end-requires
+    in-block-requires
+    returns-2
     loop-less
     loop-again
-    returns-2)
+    returns-3)

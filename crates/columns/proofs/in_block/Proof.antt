@@ -1,45 +1,35 @@
 -- `columns::in_block` meets its contract: a block that is passed over, or the bits of its word.
-use mathlib.Core.Path.{_≡_, sym, _∙_}
+use mathlib.Core.Path.{_≡_, sym}
 use Prim.Native.Nat.{_+_, _-_}
 use native.Mathlib.Omega.{arith}
 use borrow.Author.Needs.{needs}
 use borrow.Author.Tests.{not-true}
-use Rattle.columns.specs.Firsts.{ofKind, taking, eligible}
+use Rattle.columns.specs.Firsts.{ofKind, eligible}
 use Rattle.columns.specs.Ranks.{dayIn}
-use Rattle.columns.proofs.Firsts.{not-found, first-fewer}
-use Rattle.columns.proofs.Ranks.{least-end}
-use Rattle.columns.proofs.Walks.{kind-skip, kind-taking}
+use Rattle.columns.proofs.Ranks.{least-left}
+use Rattle.columns.proofs.Walks.{kind-taking}
 use Rattle.columns.proofs.Words.{low-least, word-fits}
-use Rattle.columns.proofs.Blocks.{least-left}
+use Rattle.columns.proofs.Blocks.{better-narrow}
 use Rattle.columns.proofs.in_block.Statement.{statement}
 use Rattle.columns.proofs.in_block.Tie as tie
 
-abbrev start : tie.After-any-in → tie.Start
+abbrev start : tie.After-is-worth → tie.Start
 start c = c .before .before .before .before .before
 
 returns : tie.Need-returns
+unfolding eligible
 returns c =
     let a = start (c .before) .args in
-    let e = not-found _ (sym (c .before .any-in .ensures) ∙ not-true _ (c .if1 .taken)) in
-    let z = first-fewer _ (a .from) (a .to - a .from) (a .from + 64 - a .from) (omega arith) e in
-    sym (kind-skip (a .channels .now) (a .keys .now) (a .statuses .now) (a .want) (a .status) (a .chosen .now)
-    (a .best) (a .from) (a .to) (a .to) (omega arith) (omega arith) z
-    ∙ least-end (dayIn (a .keys .now)) _ (a .best) (a .to) (a .to) (omega arith))
+    let p = ofKind (a .channels .now) (a .statuses .now) (a .want .channel) (a .status) in
+    let left = c .before .is-worth .ensures (not-true _ (c .if1 .taken)) (a .chosen .now) in
+    sym (least-left (dayIn (a .keys .now)) _ (a .best) (a .from) (a .to - a .from)
+    (λ k h l. better-narrow (p k) _ _ (a .best) (left k h (omega arith))))
 
 returns-2 : tie.Need-returns-2
-unfolding eligible
 returns-2 c =
-    let a = start (c .before .before .before) .args in
-    sym (least-left (dayIn (a .keys .now))
-    (ofKind (a .channels .now) (a .statuses .now) (a .want .channel) (a .status))
-    (taking (a .keys .now) (a .want) (a .chosen .now)) (a .best) (a .from) (a .to - a .from)
-    (λ k h l. c .before .is-worth .ensures (not-true _ (c .if2 .taken)) (a .chosen .now) k h (omega arith)))
-
-returns-3 : tie.Need-returns-3
-returns-3 c =
     let b = c .before in
     let w = b .before in
-    let s = start (w .before .before .before .before) in
+    let s = start (w .before .before) in
     let a = s .args in
     let p = ofKind (a .channels .now) (a .statuses .now) (a .want .channel) (a .status) in
     let e = w .word-at .ensures in
@@ -52,13 +42,10 @@ pub in-block-spec : {M : Type 1} → statement M
 in-block-spec =
     tie.close
     (tie.spec
-    (λ c. search needs)
     (λ c κs. search needs)
     returns
     (λ c κs. search needs)
-    returns-2
-    (λ c κs. search needs)
     (λ c. search needs)
     (λ c κs. search needs)
     (λ c κs. search needs)
-    returns-3)
+    returns-2)

@@ -2,8 +2,9 @@
 use mathlib.Core.Bool.{false}
 use mathlib.Core.Logic.{_≢_}
 use mathlib.Core.Path.{_≡_, refl, sym, _∙_}
-use Prim.Native.Nat.{_+_, _*_, _%_, _^_, _<_, _≤_}
+use Prim.Native.Nat.{_+_, _-_, _^_, _<_, _≤_}
 use native.Mathlib.Omega.{arith}
+use lib.Bits.{bitAnd}
 use lib.Count.{trailingZeros}
 use borrow.Author.Needs.{needs}
 use Rattle.columns.specs.Firsts.{taking}
@@ -25,7 +26,7 @@ abbrev μ-loop : tie.MeasureT-loop
 
 -- the lowest bit
 low : (p : tie.At-loop Inv-loop μ-loop) → p .loop .w ≢ 0 → let t = trailingZeros 64 (p .loop .w) in
-    (t < 64) × (0 < 2 ^ t) × (2 ^ t ≤ p .loop .w) × ((1 * 2 ^ t) % 2 ^ 64 ≡ 2 ^ t)
+    (t < 64) × (0 < 2 ^ t) × (2 ^ t ≤ p .loop .w) × (bitAnd (p .loop .w) (p .loop .w - 1) ≡ p .loop .w - 2 ^ t)
 low p h = lowest-bit (p .loop .w) h (p .loop .inv .0)
 
 -- the message of the lowest bit, weighed
@@ -61,23 +62,6 @@ returns c =
     (v .weighed .result) (v .weighed .ensures) (p .loop .inv .1) (c .if1 .taken) in
     sym (p .loop .inv .2 ∙ turn v .0 ∙ turn v .1 (c .if1 .taken) (omega arith))
 
-cast-w : tie.Need-cast-w Inv-loop μ-loop
-cast-w c =
-    let i = c .before .before in
-    let l = low (i .before) (i .loop-test .taken) in
-    search needs
-
-shl-w : tie.Need-shl-w Inv-loop μ-loop
-shl-w c =
-    let i = c .before .before in
-    low (i .before) (i .loop-test .taken) .0
-
-sub-w : tie.Need-sub-w Inv-loop μ-loop
-sub-w c =
-    let i = c .before .before in
-    let l = low (i .before) (i .loop-test .taken) in
-    rw (l .3) (l .2)
-
 loop-less : tie.Need-loop-less Inv-loop μ-loop
 loop-less c =
     let i = c .before .before in
@@ -108,9 +92,7 @@ least-of-spec =
     add-weighed
     weighed-requires
     returns
-    cast-w
-    shl-w
-    sub-w
+    (λ c. search needs)
     loop-less
     loop-again
     returns-2)
