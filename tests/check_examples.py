@@ -25,7 +25,10 @@ def faults(folder):
         yield "not quiet"
     readme = (folder / "README.md").read_text()
     quoted = re.findall(r"^    (.+)$", readme, re.MULTILINE)
-    words = "item|looked|missed|ended|claimed|lost|reverted|matched|consumed|told|woke|freed|signalled|resumed|answered|refused"
+    words = (
+        "item|looked|missed|ended|claimed|lost|reverted|matched|consumed|told|woke|freed|signalled|resumed|answered|"
+        "refused"
+    )
     quoted += re.findall(rf"`((?:{words})(?: \d+)?)`", readme)
     for quote in quoted:
         if quote not in lines:

@@ -80,7 +80,9 @@ def failing_cases():
     with tempfile.TemporaryDirectory() as folder:
         (pathlib.Path(folder) / "rules.bin").write_bytes(TABLE_P)
         with open("/dev/full", "wb") as full:
-            run = subprocess.run([PROGRAM], cwd=folder, input=RUN_OF_P, stdout=full, stderr=subprocess.PIPE, timeout=120)
+            run = subprocess.run(
+                [PROGRAM], cwd=folder, input=RUN_OF_P, stdout=full, stderr=subprocess.PIPE, timeout=120
+            )
         yield "a full device", run.stderr, b"standard output: No space left on device\n"
         unreadable = os.open(folder, os.O_RDONLY)
         run = subprocess.run([PROGRAM], cwd=folder, stdin=unreadable, capture_output=True, timeout=120)

@@ -8,7 +8,7 @@ use crate::world::{Proved, plain_call, restore};
 use reference::{Board, Call, Table, calls};
 use std::hint::black_box;
 
-const RATIO: Target = Target::AtMost(1.5);
+const RATIO: Target = Target::AtMost(1.1);
 
 /// What the timed step does.
 #[derive(Clone, Copy)]

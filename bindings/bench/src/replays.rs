@@ -8,7 +8,7 @@ use crate::world::{Proved, restore};
 use reference::board::CONSUMED;
 use reference::{Board, Call, Phase, Rows, State, calls};
 
-const SPEED: Target = Target::AtLeast(0.7);
+const SPEED: Target = Target::AtLeast(0.85);
 
 /// A replay from a board; the other lists keep what the round before left, where they were empty.
 fn times(table: &[u8], board: &Board, rows: &Rows) -> Times {

@@ -1,5 +1,5 @@
-//! What an accepted call may not alter, whatever else it does: the rows of other senders, but for their signals, and the
-//! eight numbers of every match that was recorded before it.
+//! What an accepted call may not alter, whatever else it does: the rows of other senders, but for their signals, and
+//! the eight numbers of every match that was recorded before it.
 
 use reference::lists::MEMBERS;
 use reference::{Lists, SENDER_NUMBERS};

@@ -136,7 +136,8 @@ module _ (s : List ℕ) (h : Held) (k : Call) (v w : Said) (f g : Held) (z : ref
           → SameFrom (g .board .messages) (part at 1024 (g .columns .keys)) (part at 1024 (h .columns .keys))
           → part at 1024 (f .columns .keys) ≡ part at 1024 (g .columns .keys)
       keys-part at n e =
-          each 0 _ _ _ (length-part at 1024 _ (omega (arith, a .keys-len))) (length-part at 1024 _ (omega (arith, b .keys-len)))
+          each 0 _ _ _ (length-part at 1024 _ (omega (arith, a .keys-len)))
+          (length-part at 1024 _ (omega (arith, b .keys-len)))
           (λ i l. key at _ i l ∙ e i l ∙ sym (key at _ i l))
 
       property-same : (i : ℕ) → i < f .board .messages

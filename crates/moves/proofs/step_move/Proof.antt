@@ -63,7 +63,9 @@ columns-are : (c : tie.After-wakers)
     → let l = lent (start (caught c)) in
     let m = c .before in
     let t = m .before in
-    (t .before .channels .result .now ≡ columnsIn l .channels) × (t .statuses .result .now ≡ columnsIn l .statuses) × (m .matched .result .now ≡ columnsIn l .matched)
+    (t .before .channels .result .now ≡ columnsIn l .channels)
+    × (t .statuses .result .now ≡ columnsIn l .statuses)
+    × (m .matched .result .now ≡ columnsIn l .matched)
     × (c .wakers .result .now ≡ columnsIn l .wakers)
 columns-are c =
     let m = c .before in
