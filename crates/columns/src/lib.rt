@@ -105,7 +105,7 @@ fn least(
         (now (statuses .entry)) want status (now (chosen .entry))) 0 0 n ⌝ }
 {
     if n - start <= 12 {
-        return weigh::least_in(channels, keys, statuses, start, n, want, status, 0, chosen);
+        return weigh::least_in(channels, keys, statuses, start, n, want, status, chosen);
     }
     let from = start - start % 64;
     by_blocks(channels, keys, statuses, from, n, want, status, chosen)

@@ -2,7 +2,7 @@
 ghost use mathlib.Core.Path.{_≡_};
 ghost use mathlib.Core.Logic.{_⊎_};
 ghost use Prim.Native.Nat.{ℕ, _+_, _-_, _%_, _<_, _≤_};
-ghost use mathlib.Core.Bool.{false};
+ghost use mathlib.Core.Bool.{true, false};
 ghost use mathlib.Core.List.{List};
 ghost use lib.ListN.{length};
 ghost use Rattle.columns.specs.Columns.{daysAt};
@@ -40,6 +40,8 @@ pub fn next_block(
     requires { ⌜ (1024 ≤ length (now channels)) × (1024 ≤ length (now statuses)) ⌝ }
     ensures { λ r. ⌜ (from ≤ r) × (r ≤ 1024) × (r % 64 ≡ 0) × ((k : ℕ) → from ≤ k → k < r
         → ofKind (now (channels .entry)) (now (statuses .entry)) wanted status k ≡ false) ⌝ }
+    ensures { λ r. ⌜ (n ≤ r)
+        ⊎ (found (firstFrom (ofKind (now (channels .entry)) (now (statuses .entry)) wanted status) r 64) ≡ true) ⌝ }
 {
     let mut at = from;
     while at < n {

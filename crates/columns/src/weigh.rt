@@ -77,26 +77,25 @@ fn judged(
     weighed(keys, n, want, best, chosen)
 }
 
-// The least rank of the eligible messages of the numbers `from` up to `to`, or the best so far; none after one of day
-// 0 comes before it.
+// The least rank of the eligible messages of the numbers `from` up to `n`, one by one; none after one of day 0 comes
+// before it.
 pub fn least_in(
     channels: &[u8],
     keys: &[u32],
     statuses: &[u8],
     from: u16,
-    to: u16,
+    n: u16,
     want: Want,
     status: u8,
-    best: u64,
     chosen: &[u16],
 ) -> u64
-    requires { ⌜ (from ≤ to) × Lent to (now channels) (now keys) (now statuses) × (isFirst best ≡ false) ⌝ }
+    requires { ⌜ (from ≤ n) × Lent n (now channels) (now keys) (now statuses) ⌝ }
     ensures { λ r. ⌜ r ≡ leastFrom (dayIn (now (keys .entry))) (eligible (now (channels .entry)) (now (keys .entry))
-        (now (statuses .entry)) want status (now (chosen .entry))) best from (to - from) ⌝ }
+        (now (statuses .entry)) want status (now (chosen .entry))) 0 from (n - from) ⌝ }
 {
-    let mut b = best;
+    let mut b: u64 = 0;
     let mut i = from;
-    while i < to {
+    while i < n {
         b = judged(channels, keys, statuses, i, want, status, b, chosen);
         if (b != 0) & (b < 65536) {
             return b;
@@ -106,7 +105,7 @@ pub fn least_in(
     b
 }
 
-// The same of the messages of a word.
+// The best rank so far, or the least of the messages of a word, by its bits.
 pub fn least_of(keys: &[u32], word: u64, at: u16, want: Want, best: u64, chosen: &[u16]) -> u64
     requires { ⌜ (at + 64 ≤ 1024) × (daysAt + (at + 64) ≤ length (now keys)) × (isFirst best ≡ false) ⌝ }
     ensures { λ r. ⌜ r ≡ leastBit (dayIn (now (keys .entry))) (taking (now (keys .entry)) want (now (chosen .entry)))

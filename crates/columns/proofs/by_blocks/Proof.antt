@@ -41,7 +41,7 @@ passed c j h l m =
     let a = start p .args in
     p .loop .inv .4
     ∙ kind-skip (a .channels .now) (a .keys .now) (a .statuses .now) (a .want) (a .status) (a .chosen .now)
-    (p .loop .b) (p .loop .at) j (a .n) h l (λ k x y. c .next-block .ensures .3 k x (omega arith))
+    (p .loop .b) (p .loop .at) j (a .n) h l (λ k x y. c .next-block .ensures .0 .3 k x (omega arith))
 
 -- the best so far is a message's before the block
 below : (c : tie.After-next-block Inv-loop μ-loop) → let p = loop c in
@@ -49,7 +49,7 @@ below : (c : tie.After-next-block Inv-loop μ-loop) → let p = loop c in
 below c =
     let p = loop c in
     below-more (dayIn (start p .args .keys .now)) (p .loop .at) (c .next-block .result) (p .loop .b)
-    (c .next-block .ensures .0) (p .loop .inv .3)
+    (c .next-block .ensures .0 .0) (p .loop .inv .3)
 
 loop-holds : tie.Need-loop-holds Inv-loop μ-loop
 loop-holds c =
@@ -79,7 +79,7 @@ in-block-requires c κs =
     let p = loop k in
     let s = start p in
     let l = s .pre .2 in
-    let m = k .next-block .ensures .2 in (
+    let m = k .next-block .ensures .0 .2 in (
       (search needs, search needs, omega (arith, l .few), p .loop .inv .2),
       (lent-less (c .block-end .result) (s .args .n) (omega arith) l, below k),
     )
@@ -106,7 +106,7 @@ loop-again c =
     let p = loop k in
     let a = start p .args in
     let at = k .next-block .result in
-    let m = k .next-block .ensures .2 in (
+    let m = k .next-block .ensures .0 .2 in (
       search needs,
       λ l. ⊎-elim (λ z. absurd (omega arith)) (λ z. omega arith) (e .block-end .ensures .3),
       c .if2 .left,

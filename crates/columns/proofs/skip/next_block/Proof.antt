@@ -1,5 +1,6 @@
 -- `columns::skip::next_block` meets its contract: the blocks so far have no such message.
 use mathlib.Core.Bool.{false}
+use mathlib.Core.Logic.{inl, inr}
 use mathlib.Core.Path.{_≡_, sym, _∙_}
 use Prim.Native.Nat.{ℕ, _+_, _-_, _%_, _<_, _≤_}
 use native.Mathlib.Omega.{arith}
@@ -22,7 +23,10 @@ loop-holds : tie.Need-loop-holds Inv-loop μ-loop
 loop-holds c = (search needs, search needs, search needs, λ k h l. absurd (omega arith))
 
 returns : tie.Need-returns Inv-loop μ-loop
-returns c = c .before .before .before .loop .inv
+returns c =
+    let p = c .before .before .before in
+    let e : p .loop .at + 64 - p .loop .at ≡ 64 = omega arith in
+    (p .loop .inv, inr (rw (← e) (sym (c .before .any-in .ensures) ∙ c .if1 .taken)))
 
 loop-again : tie.Need-loop-again Inv-loop μ-loop
 loop-again c =
@@ -36,7 +40,7 @@ loop-again c =
     )
 
 returns-2 : tie.Need-returns-2 Inv-loop μ-loop
-returns-2 c = c .before .loop .inv
+returns-2 c = (c .before .loop .inv, inl (search needs))
 
 pub next-block-spec : {M : Type 1} → statement M
 next-block-spec =

@@ -11,16 +11,16 @@ use Rattle.columns.proofs.weigh.least_in.Statement.{statement}
 use Rattle.columns.proofs.weigh.least_in.Tie as tie
 
 abbrev Inv-loop : tie.InvT-loop
-Inv-loop channels keys statuses from to want status best chosen b₀ i₀ b i =
-    (i ≤ to) × (isFirst b ≡ false)
-    × (leastFrom (dayIn keys) (eligible channels keys statuses want status chosen) best from (to - from)
-    ≡ leastFrom (dayIn keys) (eligible channels keys statuses want status chosen) b i (to - i))
+Inv-loop channels keys statuses from n want status chosen b₀ i₀ b i =
+    (i ≤ n) × (isFirst b ≡ false)
+    × (leastFrom (dayIn keys) (eligible channels keys statuses want status chosen) 0 from (n - from)
+    ≡ leastFrom (dayIn keys) (eligible channels keys statuses want status chosen) b i (n - i))
 
 abbrev μ-loop : tie.MeasureT-loop
-μ-loop channels keys statuses from to want status best chosen b₀ i₀ b i = to - i
+μ-loop channels keys statuses from n want status chosen b₀ i₀ b i = n - i
 
 loop-holds : tie.Need-loop-holds Inv-loop μ-loop
-loop-holds c = (search needs, c .before .before .before .before .pre .2, refl)
+loop-holds c = (search needs, refl, refl)
 
 returns : tie.Need-returns Inv-loop μ-loop
 returns c =
@@ -29,7 +29,7 @@ returns c =
     let a = p .before .before .before .before .before .args in
     let q = eligible (a .channels .now) (a .keys .now) (a .statuses .now) (a .want) (a .status) (a .chosen .now) in
     sym (p .loop .inv .2
-    ∙ least-first (dayIn (a .keys .now)) q (p .loop .b) (p .loop .i) (a .to) (j .result) (omega arith) (j .ensures)
+    ∙ least-first (dayIn (a .keys .now)) q (p .loop .b) (p .loop .i) (a .n) (j .result) (omega arith) (j .ensures)
     (p .loop .inv .1) (c .if1 .taken))
 
 loop-again : tie.Need-loop-again Inv-loop μ-loop
@@ -41,7 +41,7 @@ loop-again c =
       search needs,
       c .if1 .left,
       p .loop .inv .2
-          ∙ least-step (dayIn (a .keys .now)) q (p .loop .b) (p .loop .i) (a .to) (j .result) (omega arith)
+          ∙ least-step (dayIn (a .keys .now)) q (p .loop .b) (p .loop .i) (a .n) (j .result) (omega arith)
           (j .ensures),
     )
 
@@ -49,7 +49,7 @@ returns-2 : tie.Need-returns-2 Inv-loop μ-loop
 returns-2 c =
     let p = c .before in
     let a = p .before .before .before .before .before .args in
-    sym (p .loop .inv .2 ∙ least-end (dayIn (a .keys .now)) _ (p .loop .b) (p .loop .i) (a .to) (omega arith))
+    sym (p .loop .inv .2 ∙ least-end (dayIn (a .keys .now)) _ (p .loop .b) (p .loop .i) (a .n) (omega arith))
 
 pub least-in-spec : {M : Type 1} → statement M
 least-in-spec =
