@@ -4,8 +4,7 @@ use Prim.Native.Nat.{ℕ}
 use lib.Dec.{leb}
 use lib.IntN.{ℤ, pos}
 use lib.ListN.{length, drop, replicate}
-use Rattle.model.specs.Basics.{unless, firstOf}
-use Rattle.model.specs.Layout.{flag}
+use Rattle.model.specs.Basics.{unless, firstOf, flag}
 use Rattle.model.specs.Boards.{Status, pending, claimed, woken, consumed, Message}
 use Rattle.model.specs.Pools.{MatchRead}
 use Rattle.boards.specs.Calls.{Held}

@@ -6,7 +6,8 @@ use native.Mathlib.Omega.{arith}
 use lib.ListN.{length, getD, take, drop, replicate, length-map, length-append}
 use lib.Seq.{sets, sets-eq, length-take-le}
 use Rattle.model.specs.Tables.{Chord, Table, noChord}
-use Rattle.model.specs.Layout.{flag, tableRefusal, tableOf}
+use Rattle.model.specs.Basics.{flag}
+use Rattle.model.specs.Layout.{tableRefusal, tableOf}
 use Rattle.model.proofs.Parts.{map-sets, stored-reads}
 use Rattle.model.proofs.AcceptedChords.{table-ok}
 use Rattle.codec.specs.declared.Table as DT

@@ -10,10 +10,8 @@ use borrow.Author.Tests.{ltb-true, eq-eqb, ne-eqb}
 use lib.Dec.{eqb, ltb}
 use lib.ListN.{length, getD, set, drop, drop-of-length-le}
 use lib.Seq.{drop-cons, getD-set-same, getD-set-other}
-use Rattle.model.specs.Basics.{isIn, pick}
-use Rattle.model.specs.Layout.{flag}
-use Rattle.model.proofs.Tests.{never, both, same?, or-not}
-use Rattle.model.proofs.Written.{flag-le}
+use Rattle.model.specs.Basics.{isIn, pick, flag}
+use Rattle.model.proofs.Tests.{never, both, same?, or-not, flag-le}
 use Rattle.merging.specs.Merges.{isNew, targets, newKinds, joinedOnce, kindsAgree}
 use Rattle.merger.specs.Asks.{countNew}
 

@@ -5,8 +5,8 @@ use mathlib.Core.List.{List, [], _∷_, map}
 use Prim.Native.Nat.{ℕ, _+_, _<_, _≤_}
 use lib.Dec.{ltb}
 use lib.ListN.{length}
-use Rattle.model.specs.Basics.{every}
-use Rattle.model.specs.Layout.{flag, tableRefusal, tableOf}
+use Rattle.model.specs.Basics.{every, flag}
+use Rattle.model.specs.Layout.{tableRefusal, tableOf}
 use Rattle.merging.specs.Merges.{isNew, mergedChord}
 use Rattle.codec.specs.declared.Chord as DC
 use Rattle.codec.specs.Views.{chordFor}

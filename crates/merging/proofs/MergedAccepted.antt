@@ -8,9 +8,9 @@ use lib.Dec.{ltb, leb, eqb}
 use lib.ListN.{length, getD, length-append, length-map}
 use native.Mathlib.Omega.{arith}
 use native.Mathlib.Nat.{not-suc-le-zero}
-use Rattle.model.specs.Basics.{every, pick}
+use Rattle.model.specs.Basics.{every, pick, flag}
 use Rattle.model.specs.Tables.{Chord, Table, noChord, chordAt}
-use Rattle.model.specs.Layout.{flag, tableOf, tableRefusal, keepsLayout, kindsOk, chordKeeps, membersOk}
+use Rattle.model.specs.Layout.{tableOf, tableRefusal, keepsLayout, kindsOk, chordKeeps, membersOk}
 use Rattle.model.proofs.Tests.{both, and, all-four, unless-none, first-none}
 use Rattle.model.proofs.Lists.{nth-every, every-append, nth-map}
 use Rattle.model.proofs.Accepted.{accepted}

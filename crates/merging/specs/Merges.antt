@@ -5,9 +5,9 @@ use mathlib.Core.List.{List, [], _∷_, _++_, map}
 use Prim.Native.Nat.{ℕ, _+_}
 use lib.Dec.{eqb, ltb, leb}
 use lib.ListN.{length, getD, drop}
-use Rattle.model.specs.Basics.{allOf, pick, every, isIn, unless, firstOf}
+use Rattle.model.specs.Basics.{allOf, pick, every, isIn, unless, firstOf, flag}
 use Rattle.model.specs.Tables.{Chord, Table}
-use Rattle.model.specs.Layout.{flag, tableRefusal, tableOf, tableBytes, writtenMembers}
+use Rattle.model.specs.Layout.{tableRefusal, tableOf, tableBytes, writtenMembers}
 use Rattle.model.specs.Boards.{emptyBoard}
 use Rattle.model.specs.Pools.{Call, adds, steps, history, matchReads}
 use Rattle.model.specs.Demands.{boardAfter}

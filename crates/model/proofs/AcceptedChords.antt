@@ -31,12 +31,12 @@ pub record ChordSays (next : ℕ) (s : List ℕ) : Type 0 where
   pub first : word 0 s ≡ next
   pub some : 1 ≤ getD s 2 0
   pub few : getD s 2 0 ≤ 8
-  pub either : getD s 3 0 ≤ 1
+  pub one-of : getD s 3 0 ≤ 2
 
 pub chord-says : (next : ℕ) (s : List ℕ) → chordOk next s ≡ true → ChordSays next s
 unfolding chordOk
 chord-says next s e =
-    let c = all-four (eqb (word 0 s) next) (leb 1 (getD s 2 0)) (leb (getD s 2 0) 8) (leb (getD s 3 0) 1) e in
+    let c = all-four (eqb (word 0 s) next) (leb 1 (getD s 2 0)) (leb (getD s 2 0) 8) (leb (getD s 3 0) 2) e in
     search (leb-true, eqb-true)
 
 -- chord q begins at the sum of the sizes before it

@@ -8,11 +8,12 @@ use borrow.Author.Tests.{eq-eqb, ne-eqb, eqb-true, eqb-false, not-true}
 use lib.Dec.{eqb}
 use lib.ListN.{length, getD}
 use native.Mathlib.Omega.{arith}
-use Rattle.model.specs.Tables.{Chord, Table, chordAt, channelAt, size}
+use Rattle.model.specs.Tables.{Equality, any, same-property, same-unit, agrees, Chord, Table, chordAt}
+use Rattle.model.specs.Tables.{channelAt, size}
 use Rattle.model.specs.Boards.{Sent, Board, Job, messageAt, isPending, Message, noMessage, isClaimed}
 use Rattle.model.specs.Looks.{alike, isFree, isBefore, opens, dayAt, choice, subjectPlace, fits, someClaimed}
 use Rattle.model.specs.Looks.{Chosen, the-subject, another, Takes}
-use Rattle.model.proofs.Tests.{never, both, same?}
+use Rattle.model.proofs.Tests.{never, both, and, same?}
 use Rattle.model.proofs.Oldest.{before-not, oldest-none, oldest-at, oldest-first}
 use Rattle.model.proofs.Lists.{first-passes, first-before, not-in, none-of}
 use Rattle.model.proofs.Lists.{snoc-all, snoc-one}
@@ -22,22 +23,32 @@ use Rattle.model.proofs.Local.{Selection}
 -- alike, by its two laws
 pub alike-refl : (r : Chord) (c : Sent) → alike r c c ≡ true
 unfolding alike
-alike-refl r c = go (not (r .equal)) (eq-eqb (c .property) (c .property) refl)
+alike-refl r c =
+    go (r .equal) (eq-eqb (c .property) (c .property) refl) (eq-eqb (c .unit) (c .unit) refl)
   where
-    go : (u : Bool) {v : Bool} → v ≡ true → (u || v) ≡ true
-    go true e = refl
-    go false e = e
+    go : (q : Equality) {p u : Bool} → p ≡ true → u ≡ true → agrees q p u ≡ true
+    go any e f = refl
+    go same-property e f = e
+    go same-unit e f = and e f
+
+abbrev Agree : Equality → Sent → Sent → Type 0
+Agree q s e = agrees q (eqb (e .property) (s .property)) (eqb (e .unit) (s .unit)) ≡ true
 
 pub alike-via : (r : Chord) (a b c : Sent) → alike r a b ≡ true → alike r a c ≡ true → alike r b c ≡ true
 unfolding alike
-alike-via r a b c = go (not (r .equal))
+alike-via r a b c = go (r .equal)
   where
-    go : (u : Bool) → (u || eqb (b .property) (a .property)) ≡ true → (u || eqb (c .property) (a .property)) ≡ true
-        → (u || eqb (c .property) (b .property)) ≡ true
-    go true e f = refl
-    go false e f =
-        eq-eqb (c .property) (b .property)
-        (eqb-true (c .property) (a .property) f ∙ sym (eqb-true (b .property) (a .property) e))
+    via : (x y z : ℕ) → eqb y x ≡ true → eqb z x ≡ true → eqb z y ≡ true
+    via x y z e f = eq-eqb z y (eqb-true z x f ∙ sym (eqb-true y x e))
+
+    go : (q : Equality) → Agree q a b → Agree q a c → Agree q b c
+    go any e f = refl
+    go same-property e f = via (a .property) (b .property) (c .property) e f
+    go same-unit e f =
+        let x = both {t = eqb (b .property) (a .property)} e in
+        let y = both {t = eqb (c .property) (a .property)} f in
+        and (via (a .property) (b .property) (c .property) (x .0) (y .0))
+        (via (a .unit) (b .unit) (c .unit) (x .1) (y .1))
 
 -- the messages that are open to member k
 abbrev openTo : Table → Board → Job → ℕ → ℕ → Message → Bool

@@ -19,7 +19,7 @@ use Rattle.model.proofs.Tests.{both}
 use Rattle.model.proofs.Accepted.{accepted, Accepted}
 use Rattle.model.proofs.AcceptedChords.{says-at, channels-of, chord-says, length-members, length-kinds}
 use Rattle.model.proofs.AcceptedChords.{length-chords}
-use Rattle.model.proofs.Written.{flag-byte, table-there}
+use Rattle.model.proofs.Written.{equality-back, table-there}
 
 -- a chord's channels as a part of the bytes
 chord-part : (s : List ℕ) (r : ℕ) → tableRefusal s ≡ 0 → r < countR s
@@ -85,7 +85,7 @@ chords-back (suc n) next s ms b l m e =
       drop-cons s 3 0 (omega arith),
       c .first,
       length-take-le (getD s 2 0) ms (omega arith),
-      flag-byte (getD s 3 0) (c .either),
+      equality-back (getD s 3 0) (c .one-of),
       chords-back n (next + getD s 2 0) (drop 4 s) (drop (getD s 2 0) ms) (λ j. rw getD-drop (b (4 + j)))
           (rw length-drop (omega arith)) (rw length-drop (omega arith)) (p .1),
     )

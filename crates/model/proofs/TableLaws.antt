@@ -1,10 +1,9 @@
--- Laws of accepted table bytes by the place of a chord: its entry, size, wish for equal properties, and its part.
+-- Laws of accepted table bytes by the place of a chord: its entry, size, what it wants to be equal, and its part.
 use mathlib.Core.Path.{_≡_, refl, sym}
 use mathlib.Core.Bool.{Bool, true, false}
 use mathlib.Core.List.{List}
 use Prim.Native.Nat.{ℕ, _<_, _≤_, _+_, _*_, zero, suc}
 use borrow.Author.Tests.{lt-ltb}
-use mir.Val.{boolByte}
 use lib.Dec.{eqb}
 use lib.ListN.{length, getD, take, drop}
 use lib.Seq.{drop-drop}
@@ -13,18 +12,13 @@ use native.Mathlib.Omega.{arith}
 use Rattle.model.specs.Tables.{chordAt, size, noChord}
 use Rattle.model.specs.Layout.{tableRefusal, tableOf, countT, countR, chordsStart, chordBytes, membersSum}
 use Rattle.model.specs.Layout.{chordEntry, partStart, partSize, chordRefusal, chordPart, chordsFrom, memberBytes}
-use Rattle.model.specs.Layout.{flag}
+use Rattle.model.specs.Layout.{equalityOf}
 use Rattle.model.proofs.Accepted.{accepted}
 use Rattle.model.proofs.AcceptedChords.{ChordSays, says-at, sum-up-to, size-of, length-chords}
 use Rattle.model.proofs.Survive.{tables-survive}
 
--- a bool as a byte
-pub byte-flag : (b : Bool) → boolByte b ≡ flag b
-byte-flag true = refl
-byte-flag false = refl
-
 equal-from : (n : ℕ) (s ms : List ℕ) (q : ℕ) → q < n
-    → getD (chordsFrom n s ms) q noChord .equal ≡ eqb (getD (drop (4 * q) s) 3 0) 1
+    → getD (chordsFrom n s ms) q noChord .equal ≡ equalityOf (getD (drop (4 * q) s) 3 0)
 equal-from zero s ms q h = absurd (not-suc-le-zero h)
 equal-from (suc n) s ms zero h = refl
 equal-from (suc n) s ms (suc q) h =
@@ -48,7 +42,7 @@ module _ (s : List ℕ) (q : ℕ) (e : tableRefusal s ≡ 0) (h : q < length (ta
   pub size-few : size (tableOf s) q ≤ 8
   size-few = rw size-is (entry-says .few)
 
-  pub equal-is : chordAt (tableOf s) q .equal ≡ eqb (getD (chordEntry s q) 3 0) 1
+  pub equal-is : chordAt (tableOf s) q .equal ≡ equalityOf (getD (chordEntry s q) 3 0)
   unfolding tableOf
   equal-is = rw (← entry-is) (equal-from (countR s) (chordBytes s) (memberBytes s) q below-count)
 

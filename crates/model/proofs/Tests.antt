@@ -6,7 +6,8 @@ use Prim.Native.Nat.{ℕ, zero, suc, _<_, _≤_}
 use borrow.Author.Tests.{eqb-true, eqb-false, ltb-true, ltb-false, leb-true, leb-false, eq-eqb, ne-eqb, lt-leb, le-leb}
 use lib.Dec.{T, eqb, ltb, leb}
 use native.Mathlib.Omega.{arith}
-use Rattle.model.specs.Basics.{unless, firstOf}
+use mir.Val.{boolByte}
+use Rattle.model.specs.Basics.{unless, firstOf, flag}
 
 pub never : {X : Type 0} → false ≡ true → X
 never e = absurd (subst T (sym e) tt)
@@ -132,3 +133,24 @@ all-four a b c d e =
     let q = both {t = b} (p .1) in
     let r = both {t = c} (q .1) in
     (p .0, q .0, r .0, r .1)
+
+-- a yes or no as a number
+pub byte-flag : (b : Bool) → boolByte b ≡ flag b
+byte-flag true = refl
+byte-flag false = refl
+
+pub flag-le : (b : Bool) → flag b ≤ 1
+flag-le true = omega arith
+flag-le false = omega arith
+
+pub flag-small : (b : Bool) → leb (flag b) 1 ≡ true
+flag-small b = le-leb (flag b) 1 (flag-le b)
+
+pub flag-read : (b : Bool) → eqb (flag b) 1 ≡ b
+flag-read true = refl
+flag-read false = refl
+
+pub flag-byte : (k : ℕ) → k ≤ 1 → flag (eqb k 1) ≡ k
+flag-byte zero h = refl
+flag-byte (suc zero) h = refl
+flag-byte (suc (suc k)) h = absurd (omega arith)

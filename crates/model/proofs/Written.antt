@@ -11,10 +11,10 @@ use lib.Seq.{take-append-seam, drop-append-seam, drop-drop}
 use native.Mathlib.Nat.{mod-add-div}
 use native.Mathlib.Omega.{arith}
 use Rattle.model.specs.Basics.{every}
-use Rattle.model.specs.Tables.{Chord, Table}
+use Rattle.model.specs.Tables.{Equality, any, same-property, same-unit, Chord, Table}
 use Rattle.model.specs.Layout.{countT, countR, countM, word, chordsStart, membersStart, chordKeeps, membersOk}
-use Rattle.model.specs.Layout.{flag, writtenChords, membersSum, writtenMembers, chordsFrom, chordsOk, chordOk}
-use Rattle.model.specs.Layout.{tableBytes, keepsLayout, kindsOk, tableOf, tableRefusal}
+use Rattle.model.specs.Layout.{equalityOf, equalityByte, writtenChords, membersSum, writtenMembers, chordsFrom}
+use Rattle.model.specs.Layout.{chordsOk, chordOk, tableBytes, keepsLayout, kindsOk, tableOf, tableRefusal}
 use Rattle.model.proofs.Tests.{both, all-four}
 use Rattle.model.proofs.Lists.{every-append}
 use Rattle.model.proofs.Accepted.{Accepted, accepts}
@@ -36,22 +36,22 @@ chord-kept T c e =
     let q = both {t = leb (length (c .channels)) 8} (p .1) in
     (p .0, q .0, q .1)
 
--- a flag as a byte
-pub flag-le : (b : Bool) → flag b ≤ 1
-flag-le true = omega arith
-flag-le false = omega arith
+-- what a chord wants, as a byte
+pub equality-small : (e : Equality) → leb (equalityByte e) 2 ≡ true
+equality-small any = refl
+equality-small same-property = refl
+equality-small same-unit = refl
 
-pub flag-small : (b : Bool) → leb (flag b) 1 ≡ true
-flag-small b = le-leb (flag b) 1 (flag-le b)
+pub equality-read : (e : Equality) → equalityOf (equalityByte e) ≡ e
+equality-read any = refl
+equality-read same-property = refl
+equality-read same-unit = refl
 
-pub flag-read : (b : Bool) → eqb (flag b) 1 ≡ b
-flag-read true = refl
-flag-read false = refl
-
-pub flag-byte : (k : ℕ) → k ≤ 1 → flag (eqb k 1) ≡ k
-flag-byte zero h = refl
-flag-byte (suc zero) h = refl
-flag-byte (suc (suc k)) h = absurd (omega arith)
+pub equality-back : (k : ℕ) → k ≤ 2 → equalityByte (equalityOf k) ≡ k
+equality-back zero h = refl
+equality-back (suc zero) h = refl
+equality-back (suc (suc zero)) h = refl
+equality-back (suc (suc (suc k))) h = absurd (omega arith)
 
 pub length-entries : (next : ℕ) (cs : List Chord) → length (writtenChords next cs) ≡ 4 * length cs
 length-entries next [] = refl
@@ -68,7 +68,7 @@ module _ (rest : List ℕ) where
       → chordsFrom (length cs) (writtenChords next cs ++ rest) (writtenMembers cs) ≡ cs
   read-written next [] = refl
   read-written next (c ∷ cs) =
-      rw (take-append-seam, drop-append-seam, flag-read, read-written (next + length (c .channels)) cs)
+      rw (take-append-seam, drop-append-seam, equality-read, read-written (next + length (c .channels)) cs)
 
   ok-written : (T next : ℕ) (cs : List Chord) → every (chordKeeps T) cs ≡ true
       → chordsOk (length cs) next (writtenChords next cs ++ rest) ≡ true
@@ -77,7 +77,7 @@ module _ (rest : List ℕ) where
   ok-written T next (c ∷ cs) e =
       let p = both {t = chordKeeps T c} e in
       let k = chord-kept T c (p .0) in
-      rw (eq-eqb _ _ (mod-add-div next 256), k .0, k .1, flag-small (c .equal))
+      rw (eq-eqb _ _ (mod-add-div next 256), k .0, k .1, equality-small (c .equal))
       (ok-written T (next + length (c .channels)) cs (p .1))
 
 members-keep : (T : ℕ) (cs : List Chord) → every (chordKeeps T) cs ≡ true → membersOk T (writtenMembers cs) ≡ true

@@ -8,6 +8,10 @@ abbrev pub pick : {A : Type 0} → Bool → A → A → A
 pick true a b = a
 pick false a b = b
 
+-- 1 for yes, 0 for no
+abbrev pub flag : Bool → ℕ
+flag b = pick b 1 0
+
 abbrev pub isIn : ℕ → List ℕ → Bool
 isIn x [] = false
 isIn x (y ∷ ys) = eqb x y || isIn x ys

@@ -19,6 +19,7 @@ pub record Sent : Type 0 where
   pub property : ℕ
   pub cents : ℤ
   pub day : ℕ
+  pub unit : ℕ
 
 -- rule 1.4. It notes the match that consumed it and the subject that woke it (its waker).
 pub record Message : Type 0 where
@@ -80,7 +81,7 @@ pub record Board : Type 0 where
   pub backoffs : List ℕ
 
 abbrev pub noSent : Sent
-noSent = record { channel = 0; property = 0; cents = pos 0; day = 0 }
+noSent = record { channel = 0; property = 0; cents = pos 0; day = 0; unit = 0 }
 
 abbrev pub noMessage : Message
 noMessage = record { sent = noSent; status = pending; match = 0; waker = 0 }

@@ -7,7 +7,7 @@ use Prim.Native.Nat.{ℕ, zero, suc, _+_, _*_, _/_, _%_, _<_}
 use lib.Dec.{eqb, ltb, leb}
 use lib.ListN.{length, getD, take, drop}
 use Rattle.model.specs.Basics.{allOf, pick, every, unless, firstOf}
-use Rattle.model.specs.Tables.{Chord, Table, chordAt}
+use Rattle.model.specs.Tables.{Equality, any, same-property, same-unit, Chord, Table, chordAt}
 
 -- rule 2.1: the i-th number of the bytes s
 unfoldable pub word : ℕ → List ℕ → ℕ
@@ -58,7 +58,7 @@ kindsOk ks = every (λ k. leb k 1) ks
 
 -- rule 2.4, and refusal 5 of rule 2.6: the four bytes of a chord whose members begin at next
 unfoldable pub chordOk : ℕ → List ℕ → Bool
-chordOk next s = allOf (eqb (word 0 s) next ∷ leb 1 (getD s 2 0) ∷ leb (getD s 2 0) 8 ∷ leb (getD s 3 0) 1 ∷ [])
+chordOk next s = allOf (eqb (word 0 s) next ∷ leb 1 (getD s 2 0) ∷ leb (getD s 2 0) 8 ∷ leb (getD s 3 0) 2 ∷ [])
 
 -- rule 2.4: each of n chords, from where the members before it end
 abbrev pub chordsOk : ℕ → ℕ → List ℕ → Bool
@@ -85,11 +85,17 @@ tableRefusal s =
     (unless (eqb (membersSum (countR s) (chordBytes s)) (countM s)) 6
     (unless (membersOk (countT s) (memberBytes s)) 7 0))))))
 
+-- rule 2.4: what a chord wants, by its last byte; one over 2 is refused 5 (rule 2.6)
+abbrev pub equalityOf : ℕ → Equality
+equalityOf zero = any
+equalityOf (suc zero) = same-property
+equalityOf (suc (suc k)) = same-unit
+
 -- rules 2.4 and 2.5: n chords, from their bytes and the members' bytes
 abbrev pub chordsFrom : ℕ → List ℕ → List ℕ → List Chord
 chordsFrom zero s ms = []
 chordsFrom (suc n) s ms =
-    record { channels = take (getD s 2 0) ms; equal = eqb (getD s 3 0) 1 } ∷ chordsFrom n (drop 4 s)
+    record { channels = take (getD s 2 0) ms; equal = equalityOf (getD s 3 0) } ∷ chordsFrom n (drop 4 s)
     (drop (getD s 2 0) ms)
 
 -- rules 2.2 to 2.5: the table that accepted bytes are
@@ -118,13 +124,15 @@ chordPart s r = pick (eqb (chordRefusal s r) 0) (take (partSize s r) (drop (part
 abbrev pub two : ℕ → List ℕ
 two v = v % 256 ∷ (v / 256 ∷ [])
 
-abbrev pub flag : Bool → ℕ
-flag b = pick b 1 0
+abbrev pub equalityByte : Equality → ℕ
+equalityByte any = 0
+equalityByte same-property = 1
+equalityByte same-unit = 2
 
 abbrev pub writtenChords : ℕ → List Chord → List ℕ
 writtenChords next [] = []
 writtenChords next (c ∷ cs) =
-    two next ++ (length (c .channels) ∷ (flag (c .equal) ∷ writtenChords (next + length (c .channels)) cs))
+    two next ++ (length (c .channels) ∷ (equalityByte (c .equal) ∷ writtenChords (next + length (c .channels)) cs))
 
 abbrev pub writtenMembers : List Chord → List ℕ
 writtenMembers [] = []

@@ -78,32 +78,34 @@ unfoldable pub centsFrom : List ℕ → ℤ
 centsFrom s = pick (isMinus s) (negℤ (pos (digitsValue (digitsOf s)))) (pos (digitsValue (digitsOf s)))
 
 -- rule 8.3: the fields after the `a`
-unfoldable pub addOf : List ℕ → List ℕ → List ℕ → List ℕ → List ℕ → Line
-addOf sender channel property cents day =
+unfoldable pub addOf : List ℕ → List ℕ → List ℕ → List ℕ → List ℕ → List ℕ → Line
+addOf sender channel property cents day unit =
     pick
     (allOf
     (isNumber 65535 sender ∷ isNumber 65535 channel ∷ isNumber 4294967295 property ∷ isCents cents ∷
-    isNumber 4294967295 day ∷ []))
+    isNumber 4294967295 day ∷ isNumber 65535 unit ∷ []))
     (reads (adds (digitsValue sender) (record {
       channel = digitsValue channel;
       property = digitsValue property;
       cents = centsFrom cents;
       day = digitsValue day;
+      unit = digitsValue unit;
     })))
     unreadable
 
--- rule 8.3: a line without a day is read as if it ended with the day `0`
-abbrev pub dayZero : List ℕ
-dayZero = 48 ∷ []
+-- rule 8.3: a line without a day, or without a unit, is read as if it had a `0` there
+abbrev pub fieldZero : List ℕ
+fieldZero = 48 ∷ []
 
 abbrev pub addLine : List (List ℕ) → Line
 addLine [] = unreadable
 addLine (d ∷ []) = unreadable
 addLine (d ∷ t ∷ []) = unreadable
 addLine (d ∷ t ∷ p ∷ []) = unreadable
-addLine (d ∷ t ∷ p ∷ c ∷ []) = addOf d t p c dayZero
-addLine (d ∷ t ∷ p ∷ c ∷ e ∷ []) = addOf d t p c e
-addLine (d ∷ t ∷ p ∷ c ∷ e ∷ f ∷ fs) = unreadable
+addLine (d ∷ t ∷ p ∷ c ∷ []) = addOf d t p c fieldZero fieldZero
+addLine (d ∷ t ∷ p ∷ c ∷ e ∷ []) = addOf d t p c e fieldZero
+addLine (d ∷ t ∷ p ∷ c ∷ e ∷ u ∷ []) = addOf d t p c e u
+addLine (d ∷ t ∷ p ∷ c ∷ e ∷ u ∷ f ∷ fs) = unreadable
 
 -- rule 8.3: the field after the `s`
 unfoldable pub stepOf : List ℕ → Line

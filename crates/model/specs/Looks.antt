@@ -7,14 +7,14 @@ use Prim.Native.Nat.{ℕ, zero, suc, _<_}
 use lib.Dec.{eqb, ltb}
 use lib.ListN.{length}
 use Rattle.model.specs.Basics.{allOf, isIn, firstBy, pick}
-use Rattle.model.specs.Tables.{Chord, Table, chordAt, channelAt}
+use Rattle.model.specs.Tables.{agrees, Chord, Table, chordAt, channelAt}
 use Rattle.model.specs.Boards.{Sent, Message, isPending, isClaimed, Board, channelOf, Job, messageAt}
 
--- rule 1.2: a message like e fits beside one like s, by their properties if the chord wants one property
+-- rule 1.2: a message like e fits beside one like s, by what the chord wants to be equal
 unfoldable pub alike : Chord → Sent → Sent → Bool
-alike r s e = not (r .equal) || eqb (e .property) (s .property)
+alike r s e = agrees (r .equal) (eqb (e .property) (s .property)) (eqb (e .unit) (s .unit))
 
--- rule 4.2: of the member's channel, and of the property of s if the chord wants one
+-- rule 4.2: of the member's channel, and like s
 abbrev pub fits : Chord → ℕ → Sent → Message → Bool
 fits r channel s x = eqb (x .sent .channel) channel && alike r s (x .sent)
 

@@ -47,9 +47,13 @@ abbrev pub runAs : List ℕ → List Call → List Said → Sample
 runAs s cs said = record { table = s; calls = cs; refusal = 0; said = said }
 
 -- rule 8.3: the call of a line `a`
+abbrev pub sendFor : ℕ → ℕ → ℕ → ℕ → ℕ → ℕ → Call
+sendFor i channel property cents day unit =
+    adds i (record { channel = channel; property = property; cents = pos cents; day = day; unit = unit })
+
+-- without a unit
 abbrev pub sendOn : ℕ → ℕ → ℕ → ℕ → ℕ → Call
-sendOn i channel property cents day =
-    adds i (record { channel = channel; property = property; cents = pos cents; day = day })
+sendOn i channel property cents day = sendFor i channel property cents day 0
 
 -- without a day
 abbrev pub send : ℕ → ℕ → ℕ → ℕ → Call
@@ -58,7 +62,7 @@ send i channel property cents = sendOn i channel property cents 0
 -- with cents below 0
 abbrev pub sendBack : ℕ → ℕ → ℕ → ℕ → Call
 sendBack i channel property cents =
-    adds i (record { channel = channel; property = property; cents = negℤ (pos cents); day = 0 })
+    adds i (record { channel = channel; property = property; cents = negℤ (pos cents); day = 0; unit = 0 })
 
 -- Tables
 
@@ -82,13 +86,17 @@ contendedTable =
     0x00 ∷ 0x00 ∷ 0x02 ∷ 0x00 ∷
     0x00 ∷ 0x00 ∷ []
 
--- T asynchronous channels, and one chord that names channel 0 n times: well formed but for what T or n may break
-abbrev pub repeating : ℕ → ℕ → List ℕ
-repeating T n =
+-- T asynchronous channels, and one chord that names channel 0 n times and has the last byte e: well formed but for what
+-- T, n or e may break
+abbrev pub wanting : ℕ → ℕ → ℕ → List ℕ
+wanting e T n =
     T ∷ 0 ∷ 1 ∷ 0 ∷ n ∷ 0 ∷ 12 ∷ 0 ∷ (12 + T) ∷ 0 ∷ (16 + T) ∷ 0 ∷ [] ++
     replicate T 0 ++
-    0 ∷ 0 ∷ n ∷ 0 ∷ [] ++
+    0 ∷ 0 ∷ n ∷ e ∷ [] ++
     replicate n 0
+
+abbrev pub repeating : ℕ → ℕ → List ℕ
+repeating T n = wanting 0 T n
 
 -- Schedules
 
@@ -180,6 +188,14 @@ secondMessage = send 0 0 7 0 ∷ replicate 6 (steps 0)
 abbrev pub threeDays : ℕ → ℕ → ℕ → List Call
 threeDays a b c = sendOn 0 0 7 0 a ∷ sendOn 1 0 7 0 b ∷ sendOn 2 0 7 0 c ∷ replicate 2 (steps 2)
 
+-- three senders' messages, of one channel; the third, of property 7 and unit 2, looks twice
+abbrev pub threeFlats : ℕ → ℕ → ℕ → ℕ → List Call
+threeFlats property unit property′ unit′ =
+    sendFor 0 0 property 0 0 unit ∷ sendFor 1 0 property′ 0 0 unit′ ∷ sendFor 2 0 7 0 0 2 ∷ replicate 2 (steps 2)
+
+abbrev pub saidFlats : Said → List Said
+saidFlats w = Item 0 ∷ Item 1 ∷ Item 2 ∷ Looked 2 ∷ w ∷ []
+
 abbrev pub saidOne : List Said
 saidOne = Item 0 ∷ Looked 0 ∷ Missed ∷ Ended ∷ []
 
@@ -197,6 +213,9 @@ samples =
     runAs chordlessTable (send 0 0 7 0 ∷ steps 0 ∷ []) (Item 0 ∷ Ended ∷ []) ∷
     -- rule 2.6: 5, a chord of nine members
     readAs (repeating 1 9) 5 ∷
+    -- rule 2.6: 5, a chord whose last byte is 3; one whose is 2 is accepted
+    readAs (wanting 3 1 2) 5 ∷
+    readAs (wanting 2 1 2) 0 ∷
     -- rules 2.2 and 2.4: the most channels, and the most members of a chord
     readAs (repeating 16 8) 0 ∷
     -- rules 4.2 and 4.3: in the run of P, a message of another property does not fit
@@ -210,6 +229,12 @@ samples =
     runAs (repeating 1 2) (threeDays 9 3 5) (Item 0 ∷ Item 1 ∷ Item 2 ∷ Looked 2 ∷ Looked 1 ∷ []) ∷
     runAs (repeating 1 2) (threeDays 3 9 1) (Item 0 ∷ Item 1 ∷ Item 2 ∷ Looked 2 ∷ Looked 0 ∷ []) ∷
     runAs (repeating 1 2) (threeDays 4 4 4) (Item 0 ∷ Item 1 ∷ Item 2 ∷ Looked 2 ∷ Looked 0 ∷ []) ∷
+    -- rules 1.2 and 4.2: the last byte 2 wants the property and the unit, 1 the property, and 0 neither
+    runAs (wanting 2 1 2) (threeFlats 7 1 8 2) (saidFlats Missed) ∷
+    runAs (wanting 2 1 2) (threeFlats 7 1 7 2) (saidFlats (Looked 1)) ∷
+    runAs (wanting 1 1 2) (threeFlats 7 1 7 2) (saidFlats (Looked 0)) ∷
+    runAs (wanting 1 1 2) (threeFlats 8 2 7 1) (saidFlats (Looked 1)) ∷
+    runAs (wanting 0 1 2) (threeFlats 8 1 7 2) (saidFlats (Looked 0)) ∷
     -- rules 4.2 and 4.3: a message takes one member, not two of its channel
     runAs (repeating 1 2) oneMessage saidOne ∷
     -- rule 4.6: with a second message both match

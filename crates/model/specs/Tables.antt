@@ -6,10 +6,20 @@ use lib.Dec.{eqb, ltb}
 use lib.ListN.{length, getD}
 use Rattle.model.specs.Basics.{isIn, firstBy}
 
--- rule 1.2: the channels that its members name, in order; equal: it wants one property of all its messages
+-- rule 1.2: what a chord wants to be equal of all its messages: nothing, the property, or the property and the unit
+pub data Equality : Type 0 where
+  any same-property same-unit : Equality
+
+-- rule 1.2: whether it has that, by whether the properties are equal and whether the units are
+abbrev pub agrees : Equality → Bool → Bool → Bool
+agrees any p u = true
+agrees same-property p u = p
+agrees same-unit p u = p && u
+
+-- rule 1.2: the channels that its members name, in order
 pub record Chord : Type 0 where
   pub channels : List ℕ
-  pub equal : Bool
+  pub equal : Equality
 
 -- rules 1.1 and 1.3. The kind of a channel is its byte: 0 asynchronous, 1 synchronous.
 pub record Table : Type 0 where
@@ -17,7 +27,7 @@ pub record Table : Type 0 where
   pub chords : List Chord
 
 abbrev pub noChord : Chord
-noChord = record { channels = []; equal = false }
+noChord = record { channels = []; equal = any }
 
 abbrev pub chordAt : Table → ℕ → Chord
 chordAt t r = getD (t .chords) r noChord

@@ -10,7 +10,7 @@ use lib.Seq.{drop-drop, length-take-le}
 use native.Mathlib.Omega.{arith}
 use Rattle.model.proofs.Tests.{both}
 use Rattle.model.proofs.Parts.{drop-next}
-use Rattle.model.proofs.Written.{flag-byte}
+use Rattle.model.proofs.Tests.{flag-byte}
 use Rattle.state.specs.declared.Sender as DD
 use Rattle.rows.specs.Numbers.{stateNumber, phaseNumbers, senderNumbers, sendersNumbers, boardNumbers}
 use Rattle.rows.specs.Numbers.{placeless, encodesPhase, encodesSender, encodesSenders, encodes}

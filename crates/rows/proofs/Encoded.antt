@@ -8,8 +8,7 @@ use lib.Dec.{eqb, leb}
 use lib.ListN.{length, length-append}
 use lib.Seq.{take-at, drop-at}
 use native.Mathlib.Omega.{arith}
-use Rattle.model.proofs.Tests.{and}
-use Rattle.model.proofs.Written.{flag-small, flag-read}
+use Rattle.model.proofs.Tests.{and, flag-small, flag-read}
 use Rattle.state.specs.declared.Phase as DP
 use Rattle.state.specs.declared.Phase.the-variants as P
 use Rattle.state.specs.declared.State as DS

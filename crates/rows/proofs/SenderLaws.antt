@@ -8,7 +8,7 @@ use lib.Dec.{leb}
 use lib.ListN.{length, getD, take, drop, set, length-drop}
 use lib.Seq.{drop-cons, getD-drop}
 use native.Mathlib.Omega.{arith}
-use Rattle.model.specs.Layout.{flag}
+use Rattle.model.specs.Basics.{flag}
 use Rattle.model.proofs.Tests.{both, all-four}
 use Rattle.model.proofs.Walks.{anew-step, anew-end}
 use Rattle.columns.specs.Columns.{listFrom}

@@ -6,7 +6,7 @@ use lib.ListN.{length, set}
 use lib.Seq.{sets, paste}
 use native.Mathlib.Numerals.{add-one}
 use native.Mathlib.Omega.{arith}
-use Rattle.model.specs.Layout.{flag}
+use Rattle.model.specs.Basics.{flag}
 use Rattle.model.proofs.Parts.{sets-paste}
 use Rattle.state.specs.declared.Sender as DD
 use Rattle.rows.specs.Numbers.{stateNumber, kind, place, second, senderNumbers}

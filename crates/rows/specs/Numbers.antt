@@ -5,8 +5,7 @@ use mathlib.Core.List.{List, [], _∷_, _++_}
 use Prim.Native.Nat.{ℕ, zero, suc}
 use lib.Dec.{eqb, leb}
 use lib.ListN.{length, getD, drop, take}
-use Rattle.model.specs.Basics.{allOf}
-use Rattle.model.specs.Layout.{flag}
+use Rattle.model.specs.Basics.{allOf, flag}
 use Rattle.state.specs.declared.Phase as DP
 use Rattle.state.specs.declared.Phase.the-variants as P
 use Rattle.state.specs.declared.State as DS

@@ -6,7 +6,7 @@ ghost use Prim.Native.Nat.{_+_, _<_, _≤_};
 ghost use lib.Dec.{eqb};
 ghost use lib.ListN.{length, getD, drop, replicate};
 ghost use lib.Seq.{paste};
-ghost use Rattle.model.specs.Layout.{flag};
+ghost use Rattle.model.specs.Basics.{flag};
 ghost use Rattle.state.specs.Views.{stepsIn, senderSteps, idleIs};
 ghost use Rattle.boards.specs.Boards.{zeroSender};
 ghost use Rattle.rows.specs.Decoded.{stateFrom, boardFrom};

@@ -10,11 +10,11 @@ use borrow.Author.Tests.{eq-eqb, ltb-true, ltb-false}
 use lib.Dec.{eqb, leb, ltb}
 use lib.ListN.{length, take, List·getD-eq-default}
 use lib.Seq.{length-take-le}
-use Rattle.model.specs.Basics.{isIn}
+use Rattle.model.specs.Basics.{isIn, flag}
 use Rattle.model.specs.Tables.{Table, noChord, chordAt, size, isSync, wakes}
 use Rattle.model.specs.Boards.{Board, Message, noMessage, channelOf}
 use Rattle.model.specs.Steps.{keepIf, toTell}
-use Rattle.model.specs.Layout.{tableRefusal, tableOf, flag}
+use Rattle.model.specs.Layout.{tableRefusal, tableOf}
 use Rattle.model.specs.Sound.{placeOk}
 use Rattle.model.proofs.Tests.{both, tested, and-spare, and-spare-last}
 use Rattle.model.proofs.AcceptedChords.{table-ok}

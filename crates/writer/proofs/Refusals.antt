@@ -14,9 +14,9 @@ use Rattle.model.specs.Tables.{Chord, Table}
 use Rattle.model.specs.Layout.{word, chordOk, chordsOk, membersOk, kindsOk, writtenChords, writtenMembers, tableBytes}
 use Rattle.model.specs.Layout.{tableRefusal, countsOk, offsetsOk, countT, countR, countM, chordsStart, membersStart}
 use Rattle.model.specs.Layout.{writeRefusal, written}
-use Rattle.model.proofs.Tests.{and, unless-none, all-four, refused-first}
+use Rattle.model.proofs.Tests.{and, unless-none, all-four, refused-first, flag-small}
 use Rattle.model.proofs.Lists.{every-each}
-use Rattle.model.proofs.Written.{flag-small, header, whole-written, kinds-written, chords-written, members-written}
+use Rattle.model.proofs.Written.{header, whole-written, kinds-written, chords-written, members-written}
 use Rattle.model.proofs.Written.{sum-written}
 use Rattle.codec.specs.declared.Table as DT
 use Rattle.codec.specs.Views.{tableIn}

@@ -6,9 +6,9 @@ use mathlib.Core.List.{List, [], _∷_, _++_}
 use Prim.Native.Nat.{ℕ, _+_, _*_, _≤_}
 use lib.Dec.{leb}
 use lib.ListN.{length, drop}
-use Rattle.model.specs.Basics.{every}
+use Rattle.model.specs.Basics.{every, flag}
 use Rattle.model.specs.Tables.{Chord, Table}
-use Rattle.model.specs.Layout.{writtenMembers, membersOk, two, flag}
+use Rattle.model.specs.Layout.{writtenMembers, membersOk, two}
 use Rattle.codec.specs.declared.Table as DT
 use Rattle.codec.specs.Views.{tableIn}
 

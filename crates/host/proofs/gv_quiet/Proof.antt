@@ -3,8 +3,8 @@ use mathlib.Core.Path.{sym, _∙_, ap}
 use mathlib.Core.List.{[], _∷_}
 use Prim.Native.Nat.{ℕ}
 use lib.IntN.{pos}
-use Rattle.model.specs.Layout.{flag}
-use Rattle.model.proofs.TableLaws.{byte-flag}
+use Rattle.model.specs.Basics.{flag}
+use Rattle.model.proofs.Tests.{byte-flag}
 use native.Mathlib.Omega.{arith}
 use Rattle.boards.specs.Calls.{Held}
 use Rattle.boards.specs.Layout.{lists}

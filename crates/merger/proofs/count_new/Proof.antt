@@ -4,10 +4,9 @@ use mathlib.Core.Path.{_≡_}
 use Prim.Native.Nat.{_≤_, _-_, _+_}
 use native.Mathlib.Omega.{arith}
 use lib.ListN.{getD, length, drop}
-use Rattle.model.proofs.TableLaws.{byte-flag}
 use Rattle.merging.specs.Merges.{isNew}
 use Rattle.merger.specs.Asks.{countNew}
-use Rattle.model.proofs.Written.{flag-le}
+use Rattle.model.proofs.Tests.{flag-le, byte-flag}
 use Rattle.merger.proofs.Walks.{count-at, count-end}
 use borrow.Author.Needs.{needs}
 use Rattle.merger.proofs.count_new.Statement.{statement}

@@ -6,9 +6,8 @@ use native.Mathlib.Numerals.{add-one}
 use native.Mathlib.Omega.{arith}
 use lib.ListN.{length, getD, drop, replicate}
 use lib.Seq.{sets}
-use Rattle.model.proofs.TableLaws.{byte-flag}
 use Rattle.merging.specs.Merges.{isNew, targets}
-use Rattle.model.proofs.Written.{flag-le}
+use Rattle.model.proofs.Tests.{flag-le, byte-flag}
 use Rattle.merger.proofs.Walks.{targets-at, targets-end}
 use borrow.Author.Needs.{needs}
 use Rattle.merger.proofs.targets.Statement.{statement}

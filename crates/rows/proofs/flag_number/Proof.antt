@@ -1,6 +1,6 @@
 -- `rows::flag_number` meets its contract: 1 for yes.
 use borrow.Author.Needs.{needs}
-use Rattle.model.proofs.TableLaws.{byte-flag}
+use Rattle.model.proofs.Tests.{byte-flag}
 use Rattle.rows.proofs.flag_number.Statement.{statement}
 use Rattle.rows.proofs.flag_number.Tie as tie
 

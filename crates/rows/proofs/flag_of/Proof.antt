@@ -1,5 +1,5 @@
 -- `rows::flag_of` meets its contract: 1 for yes.
-use Rattle.model.proofs.Written.{flag-byte}
+use Rattle.model.proofs.Tests.{flag-byte}
 use Rattle.rows.proofs.flag_of.Statement.{statement}
 use Rattle.rows.proofs.flag_of.Tie as tie
 

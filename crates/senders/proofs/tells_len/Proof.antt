@@ -5,10 +5,11 @@ use Prim.Native.Nat.{ℕ, _+_, _≤_, _-_}
 use native.Mathlib.Omega.{arith}
 use lib.ListN.{length, getD, take, drop}
 use Rattle.model.specs.Boards.{Board}
-use Rattle.model.specs.Layout.{tableOf, flag}
+use Rattle.model.specs.Basics.{flag}
+use Rattle.model.specs.Layout.{tableOf}
 use Rattle.model.specs.Steps.{toTell}
 use Rattle.model.proofs.Walks.{left-whole, left-step, left-none}
-use Rattle.model.proofs.Written.{flag-le}
+use Rattle.model.proofs.Tests.{flag-le}
 use Rattle.senders.specs.Seen.{Seen, isTold}
 use Rattle.senders.proofs.Places.{tell-length}
 use borrow.Author.Needs.{needs}

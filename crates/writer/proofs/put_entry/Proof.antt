@@ -3,7 +3,7 @@ use mathlib.Core.Path.{_≡_}
 use Prim.Native.Nat.{suc, _+_}
 use native.Mathlib.Omega.{arith}
 use lib.ListN.{length-set}
-use Rattle.model.proofs.TableLaws.{byte-flag}
+use Rattle.model.proofs.Tests.{byte-flag}
 use borrow.Author.Needs.{needs}
 use Rattle.writer.proofs.put_entry.Statement.{statement}
 use Rattle.writer.proofs.put_entry.Tie as tie
