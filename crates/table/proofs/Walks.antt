@@ -17,7 +17,7 @@ word-from s at = rw (getD-drop, getD-drop, add-zero at)
 
 pub chord-from : (s : List ℕ) (at next : ℕ) → chordOk next (drop at s)
     ≡ (eqb (getD s at 0 + 256 * getD s (at + 1) 0) next
-    && (leb 1 (getD s (at + 2) 0) && (leb (getD s (at + 2) 0) 8 && leb (getD s (at + 3) 0) 1)))
+    && (leb 1 (getD s (at + 2) 0) && (leb (getD s (at + 2) 0) 8 && leb (getD s (at + 3) 0) 2)))
 unfolding chordOk
 chord-from s at next = rw (word-from s at, getD-drop at s 2 0, getD-drop at s 3 0)
 

@@ -10,7 +10,16 @@ ghost use Rattle.model.specs.Tables.{size, chordAt};
 ghost use Rattle.model.specs.Layout.{word, countT, countR, kindBytes, chordBytes, memberBytes};
 ghost use Rattle.model.specs.Layout.{countsOk, offsetsOk, kindsOk, chordOk, chordsOk, membersSum, membersOk};
 ghost use Rattle.model.specs.Layout.{tableRefusal, tableOf, chordEntry, partStart, chordRefusal, chordPart};
+ghost use Rattle.model.specs.Layout.{equalityOf};
+ghost use Rattle.table.specs.Equalities.{equalityIn};
 ghost use Rattle.table.specs.Headers.{Counts, Header, entriesSum};
+
+// What a chord wants to be equal of all its messages: nothing, the property, or the property and the unit.
+pub enum Equality {
+    Any,
+    Property,
+    Unit,
+}
 
 // The number of two bytes, low byte first.
 fn joined(low: u8, high: u8) -> u16
@@ -49,7 +58,7 @@ fn chord_ok(s: &[u8], at: usize, next: u16) -> bool
     let first = joined(s[at], s[at + 1]);
     let count = s[at + 2];
     let equal = s[at + 3];
-    (first == next) & ((1 <= count) & ((count <= 8) & (equal <= 1)))
+    (first == next) & ((1 <= count) & ((count <= 8) & (equal <= 2)))
 }
 
 // A sum of member counts with one more.
@@ -235,12 +244,25 @@ pub fn chord_len(table: &[u8], chord: u8) -> u8
     entry_byte(table, chord, 2)
 }
 
-// Whether a chord wants equal properties.
-pub fn is_equal(table: &[u8], chord: u8) -> bool
-    requires { ⌜ (tableRefusal (now table) ≡ 0) × (chord < length (tableOf (now table) .chords)) ⌝ }
-    ensures { λ r. ⌜ r ≡ chordAt (tableOf (now (table .entry))) chord .equal ⌝ }
+// The equality that a chord's last byte stands for.
+fn equality_of(byte: u8) -> Equality
+    ensures { λ r. ⌜ equalityIn r ≡ equalityOf byte ⌝ }
 {
-    entry_byte(table, chord, 3) == 1
+    if byte == 0 {
+        return Equality::Any;
+    }
+    if byte == 1 {
+        return Equality::Property;
+    }
+    Equality::Unit
+}
+
+// What a chord wants to be equal.
+pub fn chord_equal(table: &[u8], chord: u8) -> Equality
+    requires { ⌜ (tableRefusal (now table) ≡ 0) × (chord < length (tableOf (now table) .chords)) ⌝ }
+    ensures { λ r. ⌜ equalityIn r ≡ chordAt (tableOf (now (table .entry))) chord .equal ⌝ }
+{
+    equality_of(entry_byte(table, chord, 3))
 }
 
 // A chord's channels, the part of the table that holds them.

@@ -12,7 +12,7 @@ use Rattle.table.proofs.chord_ok.Statement.{statement}
 use Rattle.table.proofs.chord_ok.Tie as tie
 
 by-bytes : (s : List ℕ) (at next first : ℕ) → first ≡ getD s at 0 + 256 * getD s (at + 1) 0
-    → (eqb first next && (leb 1 (getD s (at + 2) 0) && (leb (getD s (at + 2) 0) 8 && leb (getD s (at + 3) 0) 1)))
+    → (eqb first next && (leb 1 (getD s (at + 2) 0) && (leb (getD s (at + 2) 0) 8 && leb (getD s (at + 3) 0) 2)))
     ≡ chordOk next (drop at s)
 by-bytes s at next first e = rw e (sym (chord-from s at next))
 

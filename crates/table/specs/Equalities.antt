@@ -1,0 +1,9 @@
+-- What a chord wants to be equal, as the model's (rule 1.2).
+use Rattle.model.specs.Tables.{Equality, any, same-property, same-unit}
+use Rattle.table.specs.declared.Equality as DE
+use Rattle.table.specs.declared.Equality.the-variants as E
+
+abbrev pub equalityIn : DE.Equality → Equality
+equalityIn E.Any = any
+equalityIn E.Property = same-property
+equalityIn E.Unit = same-unit
