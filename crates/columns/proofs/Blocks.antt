@@ -1,4 +1,4 @@
--- Laws of a block that is passed over: none of it has the property, or none of it comes before the best so far.
+-- Laws of a block that is passed over: none of it is like what is wanted, or none of it comes before the best so far.
 use mathlib.Core.Path.{_≡_, refl}
 use mathlib.Core.Logic.{_≢_, inl, inr}
 use mathlib.Core.Bool.{Bool, true, false, _&&_, _||_}
@@ -9,8 +9,9 @@ use lib.Dec.{eqb, ltb}
 use lib.ListN.{getD}
 use borrow.Author.Tests.{ne-eqb, le-ltb, ltb-false}
 use Rattle.model.specs.Basics.{pick}
+use Rattle.table.specs.declared.Equality.the-variants as E
 use Rattle.columns.specs.declared.Want as DW
-use Rattle.columns.specs.Firsts.{firstFrom, found, ofProperty, ofDayBefore, taking}
+use Rattle.columns.specs.Firsts.{firstFrom, found, ofProperty, ofUnit, ofDayBefore, isLike, taking}
 use Rattle.columns.specs.Ranks.{dayIn, rankOf, better, leastFrom, RankBelow}
 use Rattle.columns.proofs.Firsts.{not-found, none-passes}
 use Rattle.columns.proofs.Ranks.{better-unless, better-later}
@@ -33,18 +34,32 @@ module _ (day : ℕ → ℕ) (n b : ℕ) (few : n ≤ 1024) (some : b ≢ 0) whe
       omega arith
 
 -- what a block leaves: each of its messages leaves the best as it is
-module _ (keys : List ℕ) (want : DW.Want) (best at : ℕ) where
+module _ (keys units : List ℕ) (want : DW.Want) (best at : ℕ) where
   abbrev Leaves : Type 0
   Leaves =
       (chosen : List ℕ) (k : ℕ) → at ≤ k → k < at + 64
-      → better (taking keys want chosen k) (rankOf (dayIn keys) k) best ≡ best
+      → better (taking keys units want chosen k) (rankOf (dayIn keys) k) best ≡ best
 
-  pub no-property : want .equal ≡ true
-      → found (firstFrom (ofProperty keys (want .property)) at (at + 64 - at)) ≡ false → Leaves
-  unfolding ofProperty
-  no-property q e chosen k h l =
+  abbrev NoneLike : Type 0
+  NoneLike = (k : ℕ) → at ≤ k → k < at + 64 → isLike keys units want k ≡ false
+
+  pub no-property : want .equal ≡ E.Property
+      → found (firstFrom (ofProperty keys (want .property)) at (at + 64 - at)) ≡ false → NoneLike
+  unfolding ofProperty isLike
+  no-property q e k h l =
       let z = none-passes _ at (at + 64 - at) (not-found _ e) k h (omega arith) in
-      better-unless _ (rankOf (dayIn keys) k) best (not-wanted keys want chosen k (rw (q, z)))
+      rw (q, z)
+
+  pub no-unit : want .equal ≡ E.Unit
+      → found (firstFrom (ofUnit keys units (want .property) (want .unit)) at (at + 64 - at)) ≡ false → NoneLike
+  unfolding ofUnit isLike
+  no-unit q e k h l =
+      let z = none-passes _ at (at + 64 - at) (not-found _ e) k h (omega arith) in
+      rw (q, z)
+
+  pub none-like : NoneLike → Leaves
+  none-like e chosen k h l =
+      better-unless _ (rankOf (dayIn keys) k) best (not-wanted keys units want chosen k (e k h l))
 
   pub none-before : RankBelow (dayIn keys) at best → at ≤ 1024 → best ≢ 0
       → found (firstFrom (ofDayBefore keys (getD keys (1024 + (best % 65536 - 1)) 0)) at (at + 64 - at)) ≡ false

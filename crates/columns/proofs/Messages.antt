@@ -24,12 +24,13 @@ unfolding messageIn
 nth-channel c n k h = ap (λ (x : Message). x .sent .channel) (nth-message c n k h)
 
 -- columns long enough for n messages are for fewer
-pub lent-less : {channels keys statuses : List ℕ} (k n : ℕ) → k ≤ n → Lent n channels keys statuses
-    → Lent k channels keys statuses
+pub lent-less : {channels keys units statuses : List ℕ} (k n : ℕ) → k ≤ n → Lent n channels keys units statuses
+    → Lent k channels keys units statuses
 lent-less k n h l = record {
   few = omega arith;
   channels-all = omega arith;
   keys-all = omega arith;
+  units-all = omega arith;
   statuses-all = omega arith;
 }
 

@@ -1,6 +1,6 @@
 -- Laws of messages walked by their columns: their tests, and the oldest that passes.
 use mathlib.Core.Path.{_≡_, refl, sym, ap, _∙_}
-use mathlib.Core.Bool.{Bool, true, false, _&&_, _||_, not, and-false}
+use mathlib.Core.Bool.{Bool, true, false, _&&_, not, and-false}
 use mathlib.Core.List.{List, []}
 use Prim.Native.Nat.{ℕ, _-_, _%_, _<_, _≤_}
 use native.Mathlib.Omega.{arith}
@@ -11,52 +11,46 @@ use Rattle.model.specs.Tables.{Chord}
 use Rattle.model.specs.Boards.{Sent, Message, noMessage, isClaimed}
 use Rattle.model.specs.Looks.{alike, fits, isFree, oldest, someClaimed, dayAt}
 use Rattle.columns.specs.declared.Want as DW
-use Rattle.columns.specs.Columns.{Columns, Unread, messageIn, messagesFrom, columnsBy, boardBy}
-use Rattle.columns.specs.Firsts.{ofKind, taking, eligible}
+use Rattle.columns.specs.Columns.{Columns, Others, messageIn, messagesFrom, columnsBy, boardBy}
+use Rattle.columns.specs.Firsts.{ofKind, isLike, taking, eligible, Wants}
 use Rattle.columns.specs.Ranks.{dayIn, leastFrom}
 use Rattle.columns.proofs.Ranks.{least-skip}
 use Rattle.columns.proofs.Oldests.{least-oldest, least-found}
 use Rattle.columns.proofs.Messages.{pending-is, claimed-is, nth-message}
 
--- equal property numbers, where the chord wants them
-pub alike-is : (c : Chord) (s x : Sent) → alike c s x ≡ (not (c .equal) || eqb (x .property) (s .property))
-unfolding alike
-alike-is c s x = refl
-
 -- a message is to be taken by two tests
-module _ (keys : List ℕ) (want : DW.Want) (chosen : List ℕ) (k : ℕ) where
-  pub not-wanted : (not (want .equal) || eqb (getD keys k 0) (want .property)) ≡ false
-      → taking keys want chosen k ≡ false
+module _ (keys units : List ℕ) (want : DW.Want) (chosen : List ℕ) (k : ℕ) where
+  pub not-wanted : isLike keys units want k ≡ false → taking keys units want chosen k ≡ false
   unfolding taking
   not-wanted e = rw e
 
-  pub wanted-by : (u : Bool) → (not (want .equal) || eqb (getD keys k 0) (want .property)) ≡ true → u ≡ isIn k chosen
-      → taking keys want chosen k ≡ not u
+  pub wanted-by : (u : Bool) → isLike keys units want k ≡ true → u ≡ isIn k chosen
+      → taking keys units want chosen k ≡ not u
   unfolding taking
   wanted-by u e f = rw (e, f)
 
-module _ (channels keys statuses : List ℕ) (want : DW.Want) (status : ℕ) (chosen : List ℕ) where
+module _ (channels keys units statuses : List ℕ) (want : DW.Want) (status : ℕ) (chosen : List ℕ) where
   -- of another channel or status it is not eligible
   pub other-kind : (k : ℕ) → ofKind channels statuses (want .channel) status k ≡ false
-      → eligible channels keys statuses want status chosen k ≡ false
+      → eligible channels keys units statuses want status chosen k ≡ false
   unfolding eligible
   other-kind k e = rw e
 
   -- of both it is eligible where it is to be taken
-  pub kind-taking : (k : ℕ) → (ofKind channels statuses (want .channel) status k && taking keys want chosen k)
-      ≡ eligible channels keys statuses want status chosen k
+  pub kind-taking : (k : ℕ) → (ofKind channels statuses (want .channel) status k && taking keys units want chosen k)
+      ≡ eligible channels keys units statuses want status chosen k
   unfolding eligible
   kind-taking k = refl
 
   pub kind-is : (k : ℕ) → ofKind channels statuses (want .channel) status k ≡ true
-      → eligible channels keys statuses want status chosen k ≡ taking keys want chosen k
+      → eligible channels keys units statuses want status chosen k ≡ taking keys units want chosen k
   unfolding eligible
   kind-is k e = rw e
 
   -- messages of other channels or statuses are passed over
   pub kind-skip : (b i j n : ℕ) → i ≤ j → j ≤ n
       → ((k : ℕ) → i ≤ k → k < j → ofKind channels statuses (want .channel) status k ≡ false)
-      → let q = eligible channels keys statuses want status chosen in
+      → let q = eligible channels keys units statuses want status chosen in
       leastFrom (dayIn keys) q b i (n - i) ≡ leastFrom (dayIn keys) q b j (n - j)
   kind-skip b i j n h l e = least-skip (dayIn keys) _ b i j n h l (λ k m o. other-kind k (e k m o))
 
@@ -65,18 +59,22 @@ day-from : (m : Columns) (n k : ℕ) → k < n
 unfolding messageIn
 day-from m n k h = sym (ap (λ (x : Message). x .sent .day) (nth-message m n k h))
 
-module _ (channels keys statuses : List ℕ) (o : Unread) (n : ℕ) (want : DW.Want) (c : Chord) (s : Sent)
-    (e : c .equal ≡ want .equal) (p : s .property ≡ want .property) (l : n ≤ 1024) where
+module _ (channels keys statuses : List ℕ) (o : Others) (n : ℕ) (want : DW.Want) (c : Chord) (s : Sent)
+    (units : List ℕ) (e : o .units ≡ units) (q : Wants want c s) (l : n ≤ 1024) where
   abbrev m : Columns
   m = columnsBy channels keys statuses o
 
+  like-is : (k : ℕ) → alike c s (messageIn m k .sent) ≡ isLike keys units want k
+  unfolding messageIn alike isLike
+  like-is k = rw (q .equal, q .property, q .unit, e)
+
   free-is : (chosen : List ℕ) (k : ℕ)
-      → isFree c (want .channel) s chosen k (messageIn m k) ≡ eligible channels keys statuses want 0 chosen k
+      → isFree c (want .channel) s chosen k (messageIn m k) ≡ eligible channels keys units statuses want 0 chosen k
   unfolding messageIn eligible ofKind taking
   free-is chosen k =
-      rw (alike-is, e, p, pending-is (getD statuses k 0))
-      (go (eqb (getD channels k 0) (want .channel)) (not (want .equal) || eqb (getD keys k 0) (want .property))
-      (eqb (getD statuses k 0) 0) (not (isIn k chosen)))
+      rw (like-is k, pending-is (getD statuses k 0))
+      (go (eqb (getD channels k 0) (want .channel)) (isLike keys units want k) (eqb (getD statuses k 0) 0)
+      (not (isIn k chosen)))
     where
       go : (a b d f : Bool) → ((a && b) && (d && f)) ≡ ((a && d) && (b && f))
       go false b d f = refl
@@ -85,21 +83,20 @@ module _ (channels keys statuses : List ℕ) (o : Unread) (n : ℕ) (want : DW.W
 
   -- of the least rank of the pending ones the number
   pub oldest-is : (chosen : List ℕ) (r : ℕ)
-      → r ≡ leastFrom (dayIn keys) (eligible channels keys statuses want 0 chosen) 0 0 n
+      → r ≡ leastFrom (dayIn keys) (eligible channels keys units statuses want 0 chosen) 0 0 n
       → r % 65536
       ≡ oldest (dayAt (boardBy channels keys statuses n o)) (isFree c (want .channel) s chosen) 0 (messagesFrom m 0 n)
-  oldest-is chosen r q =
-      ap (λ x. x % 65536) q
+  oldest-is chosen r f =
+      ap (λ x. x % 65536) f
       ∙ least-oldest (dayIn keys) _ (messageIn m) (isFree c (want .channel) s chosen) (free-is chosen)
       (dayAt (boardBy channels keys statuses n o)) n (omega arith) (day-from m n)
 
   claiming : (k : ℕ) → (fits c (want .channel) s (messageIn m k) && isClaimed (messageIn m k .status))
-      ≡ eligible channels keys statuses want 1 [] k
+      ≡ eligible channels keys units statuses want 1 [] k
   unfolding messageIn eligible ofKind taking
   claiming k =
-      rw (alike-is, e, p, claimed-is (getD statuses k 0))
-      (go (eqb (getD channels k 0) (want .channel)) (not (want .equal) || eqb (getD keys k 0) (want .property))
-      (eqb (getD statuses k 0) 1))
+      rw (like-is k, claimed-is (getD statuses k 0))
+      (go (eqb (getD channels k 0) (want .channel)) (isLike keys units want k) (eqb (getD statuses k 0) 1))
     where
       go : (a b d : Bool) → ((a && b) && d) ≡ ((a && d) && (b && true))
       go false b d = refl
@@ -107,10 +104,10 @@ module _ (channels keys statuses : List ℕ) (o : Unread) (n : ℕ) (want : DW.W
       go true b true = refl
 
   -- there is a least rank of the claimed ones
-  pub some-claimed-is : (r : ℕ) → r ≡ leastFrom (dayIn keys) (eligible channels keys statuses want 1 []) 0 0 n
+  pub some-claimed-is : (r : ℕ) → r ≡ leastFrom (dayIn keys) (eligible channels keys units statuses want 1 []) 0 0 n
       → not (eqb r 0) ≡ someClaimed c (want .channel) s (messagesFrom m 0 n)
   unfolding someClaimed
-  some-claimed-is r q =
-      ap (λ x. not (eqb x 0)) q
+  some-claimed-is r f =
+      ap (λ x. not (eqb x 0)) f
       ∙ least-found (dayIn keys) _ (messageIn m) (λ x. fits c (want .channel) s x && isClaimed (x .status)) claiming n
       (omega arith)

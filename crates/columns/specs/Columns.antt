@@ -14,6 +14,7 @@ pub record Columns : Type 0 where
   pub statuses : List ℕ
   pub matched : List ℕ
   pub wakers : List ℕ
+  pub units : List ℕ
 
 -- where the days begin
 abbrev pub daysAt : ℕ
@@ -33,6 +34,7 @@ messageIn c n = record {
     property = getD (c .keys) n 0;
     cents = getD (c .cents) n (pos 0);
     day = getD (c .keys) (daysAt + n) 0;
+    unit = getD (c .units) n 0;
   };
   status = statusOf (getD (c .statuses) n 0);
   match = getD (c .matched) n 0;
@@ -47,31 +49,33 @@ listFrom f i (suc n) = f i ∷ listFrom f (suc i) n
 abbrev pub messagesFrom : Columns → ℕ → ℕ → List Message
 messagesFrom c i n = listFrom (messageIn c) i n
 
-abbrev pub columnsOf : List ℕ → List ℕ → List ℤ → List ℕ → List ℕ → List ℕ → Columns
-columnsOf channels keys cents statuses matched wakers = record {
+abbrev pub columnsOf : List ℕ → List ℕ → List ℤ → List ℕ → List ℕ → List ℕ → List ℕ → Columns
+columnsOf channels keys cents statuses matched wakers units = record {
   channels = channels;
   keys = keys;
   cents = cents;
   statuses = statuses;
   matched = matched;
   wakers = wakers;
+  units = units;
 }
 
--- what a look does not read: three columns and the rest of the board
-pub record Unread : Type 0 where
+-- what a board has beside the channels, keys and statuses of its messages: four columns, and the rest of the board
+pub record Others : Type 0 where
   pub cents : List ℤ
   pub matched : List ℕ
   pub wakers : List ℕ
+  pub units : List ℕ
   pub matches : List Match
   pub senders : List Sender
   pub backoffs : List ℕ
 
-abbrev pub columnsBy : List ℕ → List ℕ → List ℕ → Unread → Columns
+abbrev pub columnsBy : List ℕ → List ℕ → List ℕ → Others → Columns
 columnsBy channels keys statuses o =
-    columnsOf channels keys (o .cents) statuses (o .matched) (o .wakers)
+    columnsOf channels keys (o .cents) statuses (o .matched) (o .wakers) (o .units)
 
--- a board of n messages, by the columns that a look reads and what it does not read
-abbrev pub boardBy : List ℕ → List ℕ → List ℕ → ℕ → Unread → Board
+-- a board of n messages, by those columns and the others
+abbrev pub boardBy : List ℕ → List ℕ → List ℕ → ℕ → Others → Board
 boardBy channels keys statuses n o = record {
   messages = messagesFrom (columnsBy channels keys statuses o) 0 n;
   matches = o .matches;
@@ -79,11 +83,12 @@ boardBy channels keys statuses n o = record {
   backoffs = o .backoffs;
 }
 
--- columns of 1,024 records, n of which are messages
-pub record Lent (n : ℕ) (channels keys statuses : List ℕ) : Type 0 where
+-- the columns that a look reads, of 1,024 records, n of which are messages
+pub record Lent (n : ℕ) (channels keys units statuses : List ℕ) : Type 0 where
   pub few : n ≤ 1024
   pub channels-all : 1024 ≤ length channels
   pub keys-all : daysAt + 1024 ≤ length keys
+  pub units-all : 1024 ≤ length units
   pub statuses-all : 1024 ≤ length statuses
 
 -- the messages below number start are consumed, so that no look takes one of them, nor finds one claimed

@@ -1,10 +1,14 @@
 -- The first number that passes a test, and the tests that a look makes of a message's number (rules 4.2 and 4.3).
-use mathlib.Core.Bool.{Bool, true, false, _&&_, _||_, not}
+use mathlib.Core.Path.{_≡_}
+use mathlib.Core.Bool.{Bool, true, false, _&&_, not}
 use mathlib.Core.List.{List}
 use Prim.Native.Nat.{ℕ, zero, suc, _+_}
 use lib.Dec.{eqb, ltb}
 use lib.ListN.{getD}
 use Rattle.model.specs.Basics.{isIn, pick}
+use Rattle.model.specs.Tables.{agrees, Chord}
+use Rattle.model.specs.Boards.{Sent}
+use Rattle.table.specs.Equalities.{equalityIn}
 use Rattle.columns.specs.Columns.{daysAt}
 use Rattle.columns.specs.declared.Want as DW
 
@@ -26,16 +30,30 @@ ofKind channels statuses wanted status k = eqb (getD channels k 0) wanted && eqb
 unfoldable pub ofProperty : List ℕ → ℕ → ℕ → Bool
 ofProperty keys property k = eqb (getD keys k 0) property
 
+-- message k has the property and the unit
+unfoldable pub ofUnit : List ℕ → List ℕ → ℕ → ℕ → ℕ → Bool
+ofUnit keys units property unit k = eqb (getD keys k 0) property && eqb (getD units k 0) unit
+
 -- message k is of a day before that day
 unfoldable pub ofDayBefore : List ℕ → ℕ → ℕ → Bool
 ofDayBefore keys day k = ltb (getD keys (daysAt + k) 0) day
 
--- message k has the property number where equal ones are wanted, and is not chosen
-unfoldable pub taking : List ℕ → DW.Want → List ℕ → ℕ → Bool
-taking keys want chosen k =
-    (not (want .equal) || eqb (getD keys k 0) (want .property)) && not (isIn k chosen)
+-- message k is like what is wanted: it has what is to be equal
+unfoldable pub isLike : List ℕ → List ℕ → DW.Want → ℕ → Bool
+isLike keys units want k =
+    agrees (equalityIn (want .equal)) (eqb (getD keys k 0) (want .property)) (eqb (getD units k 0) (want .unit))
+
+-- message k is like what is wanted, and is not chosen
+unfoldable pub taking : List ℕ → List ℕ → DW.Want → List ℕ → ℕ → Bool
+taking keys units want chosen k = isLike keys units want k && not (isIn k chosen)
 
 -- message k is of the channel and of the status, and is to be taken
-unfoldable pub eligible : List ℕ → List ℕ → List ℕ → DW.Want → ℕ → List ℕ → ℕ → Bool
-eligible channels keys statuses want status chosen k =
-    ofKind channels statuses (want .channel) status k && taking keys want chosen k
+unfoldable pub eligible : List ℕ → List ℕ → List ℕ → List ℕ → DW.Want → ℕ → List ℕ → ℕ → Bool
+eligible channels keys units statuses want status chosen k =
+    ofKind channels statuses (want .channel) status k && taking keys units want chosen k
+
+-- rule 4.2: what chord c wants of a message beside one like s
+pub record Wants (want : DW.Want) (c : Chord) (s : Sent) : Type 0 where
+  pub equal : c .equal ≡ equalityIn (want .equal)
+  pub property : s .property ≡ want .property
+  pub unit : s .unit ≡ want .unit

@@ -9,15 +9,17 @@ ghost use mathlib.Core.Bool.{false};
 ghost use Rattle.model.specs.Tables.{Chord};
 ghost use Rattle.model.specs.Boards.{Sent};
 ghost use Rattle.model.specs.Looks.{isFree, oldest, someClaimed, dayAt};
-ghost use Rattle.columns.specs.Columns.{Lent, Passed, Unread, boardBy};
-ghost use Rattle.columns.specs.Firsts.{eligible};
+ghost use Rattle.columns.specs.Columns.{Lent, Passed, Others, boardBy};
+ghost use Rattle.columns.specs.Firsts.{eligible, Wants};
 ghost use Rattle.columns.specs.Ranks.{dayIn, isFirst, leastFrom, RankBelow};
+use table::Equality;
 
-// What a member of a chord wants of a message: the channel, and the property number where equal ones are wanted.
+// What a member of a chord wants of a message: the channel, and the property and the unit where they are to be equal.
 pub struct Want {
     pub channel: u8,
-    pub equal: bool,
+    pub equal: Equality,
     pub property: u32,
+    pub unit: u16,
 }
 
 // Where the days begin among the keys.
@@ -28,6 +30,7 @@ pub const DAYS: usize = 1024;
 fn in_block(
     channels: &[u8],
     keys: &[u32],
+    units: &[u16],
     statuses: &[u8],
     from: u16,
     to: u16,
@@ -37,17 +40,18 @@ fn in_block(
     chosen: &[u16],
 ) -> u64
     requires { ⌜ (from ≤ to) × (to ≤ from + 64) × (from + 64 ≤ 1024) × (isFirst best ≡ false) ⌝ }
-    requires { ⌜ Lent to (now channels) (now keys) (now statuses) × RankBelow (dayIn (now keys)) from best ⌝ }
+    requires { ⌜ Lent to (now channels) (now keys) (now units) (now statuses) × RankBelow (dayIn (now keys)) from best ⌝ }
     ensures { λ r. ⌜ r ≡ leastFrom (dayIn (now (keys .entry))) (eligible (now (channels .entry)) (now (keys .entry))
-        (now (statuses .entry)) want status (now (chosen .entry))) best from (to - from) ⌝ }
+        (now (units .entry)) (now (statuses .entry)) want status (now (chosen .entry))) best from (to - from) ⌝ }
 {
     let at = from as usize;
-    if !skip::is_worth(keys, at, want, best) {
+    if !skip::is_worth(keys, units, at, want, best) {
         return best;
     }
     let w = gather::word_at(channels, statuses, at, want.channel, status);
     weigh::least_of(
         keys,
+        units,
         gather::low_bits(w, to - from),
         from,
         want,
@@ -60,6 +64,7 @@ fn in_block(
 fn by_blocks(
     channels: &[u8],
     keys: &[u32],
+    units: &[u16],
     statuses: &[u8],
     from: u16,
     n: u16,
@@ -67,9 +72,9 @@ fn by_blocks(
     status: u8,
     chosen: &[u16],
 ) -> u64
-    requires { ⌜ (from ≤ n) × (from % 64 ≡ 0) × Lent n (now channels) (now keys) (now statuses) ⌝ }
+    requires { ⌜ (from ≤ n) × (from % 64 ≡ 0) × Lent n (now channels) (now keys) (now units) (now statuses) ⌝ }
     ensures { λ r. ⌜ r ≡ leastFrom (dayIn (now (keys .entry))) (eligible (now (channels .entry)) (now (keys .entry))
-        (now (statuses .entry)) want status (now (chosen .entry))) 0 from (n - from) ⌝ }
+        (now (units .entry)) (now (statuses .entry)) want status (now (chosen .entry))) 0 from (n - from) ⌝ }
 {
     let mut b: u64 = 0;
     let mut at = from;
@@ -79,7 +84,7 @@ fn by_blocks(
             return b;
         }
         let to = skip::block_end(k, n);
-        b = in_block(channels, keys, statuses, k, to, want, status, b, chosen);
+        b = in_block(channels, keys, units, statuses, k, to, want, status, b, chosen);
         if (b != 0) & (b < 65536) {
             return b;
         }
@@ -92,6 +97,7 @@ fn by_blocks(
 fn least(
     channels: &[u8],
     keys: &[u32],
+    units: &[u16],
     statuses: &[u8],
     start: u16,
     n: u16,
@@ -99,16 +105,16 @@ fn least(
     status: u8,
     chosen: &[u16],
 ) -> u64
-    requires { ⌜ Lent n (now channels) (now keys) (now statuses) ⌝ }
+    requires { ⌜ Lent n (now channels) (now keys) (now units) (now statuses) ⌝ }
     requires { ⌜ Passed start n (now statuses) × (status < 3) ⌝ }
     ensures { λ r. ⌜ r ≡ leastFrom (dayIn (now (keys .entry))) (eligible (now (channels .entry)) (now (keys .entry))
-        (now (statuses .entry)) want status (now (chosen .entry))) 0 0 n ⌝ }
+        (now (units .entry)) (now (statuses .entry)) want status (now (chosen .entry))) 0 0 n ⌝ }
 {
     if n - start <= 12 {
-        return weigh::least_in(channels, keys, statuses, start, n, want, status, chosen);
+        return weigh::least_in(channels, keys, units, statuses, start, n, want, status, chosen);
     }
     let from = start - start % 64;
-    by_blocks(channels, keys, statuses, from, n, want, status, chosen)
+    by_blocks(channels, keys, units, statuses, from, n, want, status, chosen)
 }
 
 // The oldest of the first n messages that a look takes for a member, pending and not chosen yet: its number plus 1, 0
@@ -116,21 +122,21 @@ fn least(
 pub fn oldest(
     channels: &[u8],
     keys: &[u32],
+    units: &[u16],
     statuses: &[u8],
     start: u16,
     n: u16,
     want: Want,
     chosen: &[u16],
 ) -> u16
-    requires { ⌜ Lent n (now channels) (now keys) (now statuses) ⌝ }
+    requires { ⌜ Lent n (now channels) (now keys) (now units) (now statuses) ⌝ }
     requires { ⌜ Passed start n (now statuses) ⌝ }
-    ensures { λ r. ⌜ (r ≤ n) × ((o : Unread) (c : Chord) (s : Sent) → c .equal ≡ want .equal
-        → s .property ≡ want .property
+    ensures { λ r. ⌜ (r ≤ n) × ((o : Others) (c : Chord) (s : Sent) → o .units ≡ now (units .entry) → Wants want c s
         → r ≡ oldest (dayAt (boardBy (now (channels .entry)) (now (keys .entry)) (now (statuses .entry)) n o))
         (isFree c (want .channel) s (now (chosen .entry))) 0
         (boardBy (now (channels .entry)) (now (keys .entry)) (now (statuses .entry)) n o .messages)) ⌝ }
 {
-    let b = least(channels, keys, statuses, start, n, want, 0, chosen);
+    let b = least(channels, keys, units, statuses, start, n, want, 0, chosen);
     (b % 65536) as u16
 }
 
@@ -138,18 +144,19 @@ pub fn oldest(
 pub fn some_claimed(
     channels: &[u8],
     keys: &[u32],
+    units: &[u16],
     statuses: &[u8],
     start: u16,
     n: u16,
     want: Want,
 ) -> bool
-    requires { ⌜ Lent n (now channels) (now keys) (now statuses) ⌝ }
+    requires { ⌜ Lent n (now channels) (now keys) (now units) (now statuses) ⌝ }
     requires { ⌜ Passed start n (now statuses) ⌝ }
-    ensures { λ r. ⌜ ((o : Unread) (c : Chord) (s : Sent) → c .equal ≡ want .equal → s .property ≡ want .property
+    ensures { λ r. ⌜ ((o : Others) (c : Chord) (s : Sent) → o .units ≡ now (units .entry) → Wants want c s
         → r ≡ someClaimed c (want .channel) s
         (boardBy (now (channels .entry)) (now (keys .entry)) (now (statuses .entry)) n o .messages)) ⌝ }
 {
     let chosen = [0u16; 1];
-    let b = least(channels, keys, statuses, start, n, want, 1, &chosen[..0]);
+    let b = least(channels, keys, units, statuses, start, n, want, 1, &chosen[..0]);
     b != 0
 }

@@ -6,10 +6,11 @@ ghost use mathlib.Core.Bool.{true, false};
 ghost use mathlib.Core.List.{List};
 ghost use lib.ListN.{length};
 ghost use Rattle.columns.specs.Columns.{daysAt};
-ghost use Rattle.columns.specs.Firsts.{firstFrom, found, ofKind, ofProperty, ofDayBefore, taking};
+ghost use Rattle.columns.specs.Firsts.{firstFrom, found, ofKind, ofProperty, ofUnit, ofDayBefore, isLike, taking};
 ghost use Rattle.columns.specs.Ranks.{dayIn, rankOf, better, RankBelow};
 use crate::DAYS;
 use crate::Want;
+use table::Equality;
 
 // One of the messages of the numbers `from` up to `to` is of the channel and of the status.
 fn any_in(channels: &[u8], statuses: &[u8], from: usize, to: usize, wanted: u8, status: u8) -> bool
@@ -79,6 +80,42 @@ fn any_property(keys: &[u32], from: usize, to: usize, property: u32) -> bool
     any
 }
 
+// One of them has the property and the unit.
+fn any_unit(
+    keys: &[u32],
+    units: &[u16],
+    from: usize,
+    to: usize,
+    property: u32,
+    unit: u16,
+) -> bool
+    requires { ⌜ (from ≤ to) × (to ≤ length (now keys)) × (to ≤ length (now units)) ⌝ }
+    ensures { λ r. ⌜ r ≡ found (firstFrom (ofUnit (now (keys .entry)) (now (units .entry)) property unit) from
+        (to - from)) ⌝ }
+{
+    let mut any = false;
+    let mut i = from;
+    while i < to {
+        any = any | ((keys[i] == property) & (units[i] == unit));
+        i += 1;
+    }
+    any
+}
+
+// Whether one of the 64 messages from number `at` on is like what is wanted.
+fn any_like(keys: &[u32], units: &[u16], at: usize, want: Want) -> bool
+    requires { ⌜ (at + 64 ≤ length (now keys)) × (at + 64 ≤ length (now units)) ⌝ }
+    ensures { λ r. ⌜ (r ≡ false → (k : ℕ) → at ≤ k → k < at + 64
+        → isLike (now (keys .entry)) (now (units .entry)) want k ≡ false) ⌝ }
+{
+    let equal = want.equal;
+    match equal {
+        Equality::Any => true,
+        Equality::Property => any_property(keys, at, at + 64, want.property),
+        Equality::Unit => any_unit(keys, units, at, at + 64, want.property, want.unit),
+    }
+}
+
 // One of them is of a day before that day.
 fn any_before(keys: &[u32], from: usize, to: usize, day: u32) -> bool
     requires { ⌜ (from ≤ to) × (daysAt + to ≤ length (now keys)) ⌝ }
@@ -93,12 +130,12 @@ fn any_before(keys: &[u32], from: usize, to: usize, day: u32) -> bool
     any
 }
 
-// Whether one of the 64 messages from number `at` on may have the property and come before the best so far.
-pub fn is_worth(keys: &[u32], at: usize, want: Want, best: u64) -> bool
-    requires { ⌜ (daysAt + (at + 64) ≤ length (now keys)) × (at + 64 ≤ 1024) ⌝ }
+// Whether one of the 64 messages from number `at` on is like what is wanted, and one comes before the best so far.
+pub fn is_worth(keys: &[u32], units: &[u16], at: usize, want: Want, best: u64) -> bool
+    requires { ⌜ (daysAt + (at + 64) ≤ length (now keys)) × (at + 64 ≤ length (now units)) × (at + 64 ≤ 1024) ⌝ }
     requires { ⌜ RankBelow (dayIn (now keys)) at best ⌝ }
     ensures { λ r. ⌜ (r ≡ false → (chosen : List ℕ) (k : ℕ) → at ≤ k → k < at + 64
-        → better (taking (now (keys .entry)) want chosen k) (rankOf (dayIn (now (keys .entry))) k) best ≡ best) ⌝ }
+        → better (taking (now (keys .entry)) (now (units .entry)) want chosen k) (rankOf (dayIn (now (keys .entry))) k) best ≡ best) ⌝ }
 {
     if best != 0 {
         let number = (best % 65536) as usize;
@@ -106,8 +143,5 @@ pub fn is_worth(keys: &[u32], at: usize, want: Want, best: u64) -> bool
             return false;
         }
     }
-    if !want.equal {
-        return true;
-    }
-    any_property(keys, at, at + 64, want.property)
+    any_like(keys, units, at, want)
 }

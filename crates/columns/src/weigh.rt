@@ -5,11 +5,12 @@ ghost use mathlib.Core.Bool.{false};
 ghost use lib.ListN.{length};
 ghost use Rattle.model.specs.Basics.{isIn};
 ghost use Rattle.columns.specs.Columns.{Lent, daysAt};
-ghost use Rattle.columns.specs.Firsts.{taking, eligible};
+ghost use Rattle.columns.specs.Firsts.{isLike, taking, eligible};
 ghost use Rattle.columns.specs.Ranks.{dayIn, rankOf, better, isFirst, leastFrom};
 ghost use Rattle.columns.specs.Words.{leastBit};
 use crate::DAYS;
 use crate::Want;
+use table::Equality;
 
 // The numbers hold x.
 fn is_in(x: u16, s: &[u16]) -> bool
@@ -35,14 +36,34 @@ fn rank(keys: &[u32], n: u16) -> u64
     (day as u64) * 65536 + ((n as u64) + 1)
 }
 
-// The best rank so far, or that of message n where it is to be taken and comes before it; 0 is none.
-fn weighed(keys: &[u32], n: u16, want: Want, best: u64, chosen: &[u16]) -> u64
-    requires { ⌜ daysAt + n < length (now keys) ⌝ }
-    ensures { λ r. ⌜ r ≡ better (taking (now (keys .entry)) want (now (chosen .entry)) n)
-        (rankOf (dayIn (now (keys .entry))) n) best ⌝ }
+// Whether message n is like what is wanted.
+fn is_like(keys: &[u32], units: &[u16], n: u16, want: Want) -> bool
+    requires { ⌜ (n < length (now keys)) × (n < length (now units)) ⌝ }
+    ensures { λ r. ⌜ r ≡ isLike (now (keys .entry)) (now (units .entry)) want n ⌝ }
 {
     let k = n as usize;
-    if !(!want.equal | (keys[k] == want.property)) {
+    let equal = want.equal;
+    match equal {
+        Equality::Any => true,
+        Equality::Property => keys[k] == want.property,
+        Equality::Unit => (keys[k] == want.property) & (units[k] == want.unit),
+    }
+}
+
+// The best rank so far, or that of message n where it is to be taken and comes before it; 0 is none.
+fn weighed(
+    keys: &[u32],
+    units: &[u16],
+    n: u16,
+    want: Want,
+    best: u64,
+    chosen: &[u16],
+) -> u64
+    requires { ⌜ (daysAt + n < length (now keys)) × (n < length (now units)) ⌝ }
+    ensures { λ r. ⌜ r ≡ better (taking (now (keys .entry)) (now (units .entry)) want (now (chosen .entry)) n)
+        (rankOf (dayIn (now (keys .entry))) n) best ⌝ }
+{
+    if !is_like(keys, units, n, want) {
         return best;
     }
     let r = rank(keys, n);
@@ -59,6 +80,7 @@ fn weighed(keys: &[u32], n: u16, want: Want, best: u64, chosen: &[u16]) -> u64
 fn judged(
     channels: &[u8],
     keys: &[u32],
+    units: &[u16],
     statuses: &[u8],
     n: u16,
     want: Want,
@@ -66,15 +88,16 @@ fn judged(
     best: u64,
     chosen: &[u16],
 ) -> u64
-    requires { ⌜ (n < length (now channels)) × (n < length (now statuses)) × (daysAt + n < length (now keys)) ⌝ }
-    ensures { λ r. ⌜ r ≡ better (eligible (now (channels .entry)) (now (keys .entry)) (now (statuses .entry)) want
-        status (now (chosen .entry)) n) (rankOf (dayIn (now (keys .entry))) n) best ⌝ }
+    requires { ⌜ (n < length (now channels)) × (n < length (now statuses)) ⌝ }
+    requires { ⌜ (daysAt + n < length (now keys)) × (n < length (now units)) ⌝ }
+    ensures { λ r. ⌜ r ≡ better (eligible (now (channels .entry)) (now (keys .entry)) (now (units .entry))
+        (now (statuses .entry)) want status (now (chosen .entry)) n) (rankOf (dayIn (now (keys .entry))) n) best ⌝ }
 {
     let k = n as usize;
     if !((channels[k] == want.channel) & (statuses[k] == status)) {
         return best;
     }
-    weighed(keys, n, want, best, chosen)
+    weighed(keys, units, n, want, best, chosen)
 }
 
 // The least rank of the eligible messages of the numbers `from` up to `n`, one by one; none after one of day 0 comes
@@ -82,6 +105,7 @@ fn judged(
 pub fn least_in(
     channels: &[u8],
     keys: &[u32],
+    units: &[u16],
     statuses: &[u8],
     from: u16,
     n: u16,
@@ -89,14 +113,14 @@ pub fn least_in(
     status: u8,
     chosen: &[u16],
 ) -> u64
-    requires { ⌜ (from ≤ n) × Lent n (now channels) (now keys) (now statuses) ⌝ }
+    requires { ⌜ (from ≤ n) × Lent n (now channels) (now keys) (now units) (now statuses) ⌝ }
     ensures { λ r. ⌜ r ≡ leastFrom (dayIn (now (keys .entry))) (eligible (now (channels .entry)) (now (keys .entry))
-        (now (statuses .entry)) want status (now (chosen .entry))) 0 from (n - from) ⌝ }
+        (now (units .entry)) (now (statuses .entry)) want status (now (chosen .entry))) 0 from (n - from) ⌝ }
 {
     let mut b: u64 = 0;
     let mut i = from;
     while i < n {
-        b = judged(channels, keys, statuses, i, want, status, b, chosen);
+        b = judged(channels, keys, units, statuses, i, want, status, b, chosen);
         if (b != 0) & (b < 65536) {
             return b;
         }
@@ -106,16 +130,25 @@ pub fn least_in(
 }
 
 // The best rank so far, or the least of the messages of a word, by its bits.
-pub fn least_of(keys: &[u32], word: u64, at: u16, want: Want, best: u64, chosen: &[u16]) -> u64
-    requires { ⌜ (at + 64 ≤ 1024) × (daysAt + (at + 64) ≤ length (now keys)) × (isFirst best ≡ false) ⌝ }
-    ensures { λ r. ⌜ r ≡ leastBit (dayIn (now (keys .entry))) (taking (now (keys .entry)) want (now (chosen .entry)))
-        word best at 64 ⌝ }
+pub fn least_of(
+    keys: &[u32],
+    units: &[u16],
+    word: u64,
+    at: u16,
+    want: Want,
+    best: u64,
+    chosen: &[u16],
+) -> u64
+    requires { ⌜ (at + 64 ≤ 1024) × (daysAt + (at + 64) ≤ length (now keys)) × (at + 64 ≤ length (now units)) ⌝ }
+    requires { ⌜ isFirst best ≡ false ⌝ }
+    ensures { λ r. ⌜ r ≡ leastBit (dayIn (now (keys .entry)))
+        (taking (now (keys .entry)) (now (units .entry)) want (now (chosen .entry))) word best at 64 ⌝ }
 {
     let mut b = best;
     let mut w = word;
     while w != 0 {
         let t = u64::trailing_zeros(w);
-        b = weighed(keys, at + (t as u16), want, b, chosen);
+        b = weighed(keys, units, at + (t as u16), want, b, chosen);
         if (b != 0) & (b < 65536) {
             return b;
         }

@@ -10,7 +10,7 @@ ghost use Rattle.model.specs.Tables.{size, isSync};
 ghost use Rattle.model.specs.Boards.{Message, noMessage, messageAt, channelOf, isConsumed};
 ghost use Rattle.model.specs.Layout.{tableRefusal, tableOf};
 ghost use Rattle.model.specs.Steps as MS;
-ghost use Rattle.columns.specs.Columns.{Unread, boardBy};
+ghost use Rattle.columns.specs.Columns.{Others, boardBy};
 ghost use Rattle.state.specs.declared.Phase.the-variants as P;
 ghost use Rattle.state.specs.Views.{chosenBy, jobIn, senderIn, effectIn};
 ghost use Rattle.consumes.specs.Holds.{Channels, ChoiceLent, Left, withMatch};
@@ -150,7 +150,7 @@ pub fn consume_step(
     requires { ⌜ (d .job .phase ≡ P.Consume k m) × (k < size (tableOf (now table)) (d .job .chord))
         × ChoiceLent (tableOf (now table)) (d .job .chosen) (now channels)
         (size (tableOf (now table)) (d .job .chord)) n ⌝ }
-    ensures { λ r. ⌜ ((pr st : List ℕ) (o : Unread)
+    ensures { λ r. ⌜ ((pr st : List ℕ) (o : Others)
         → isSync (tableOf (now (table .entry))) (channelOf (boardBy (now (channels .entry)) pr st n o) (d .own - 1))
         ≡ sync → channelOf (boardBy (now (channels .entry)) pr st n o) (d .waker - 1) ≡ waker
         → isConsumed (messageAt (boardBy (now (channels .entry)) pr st n o) (d .waker - 1) .status) ≡ consumed
@@ -215,7 +215,7 @@ pub fn tell_step(
         (size (tableOf (now table)) (d .job .chord)) n
         × Left (tableOf (now table)) (now channels) n (d .job .subject)
         (take (size (tableOf (now table)) (d .job .chord)) (d .job .chosen)) k ⌝ }
-    ensures { λ r. ⌜ ((pr st : List ℕ) (o : Unread)
+    ensures { λ r. ⌜ ((pr st : List ℕ) (o : Others)
         → isSync (tableOf (now (table .entry))) (channelOf (boardBy (now (channels .entry)) pr st n o) (d .own - 1))
         ≡ sync → channelOf (boardBy (now (channels .entry)) pr st n o) (d .waker - 1) ≡ waker
         → isConsumed (messageAt (boardBy (now (channels .entry)) pr st n o) (d .waker - 1) .status) ≡ consumed

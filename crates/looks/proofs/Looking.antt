@@ -13,7 +13,7 @@ use Rattle.model.specs.Boards.{Board, Message, Job, Sender, noMessage, messageA
 use Rattle.model.specs.Jobs.{nextChord, withChosen}
 use Rattle.model.specs.Looks.{isFree, oldest, dayAt, someClaimed, choice}
 use Rattle.model.specs.Steps.{lookedBy, look-step}
-use Rattle.columns.specs.Columns.{Columns, Unread, columnsBy, boardBy, messageIn, messagesFrom}
+use Rattle.columns.specs.Columns.{Columns, Others, columnsBy, boardBy, messageIn, messagesFrom}
 use Rattle.columns.proofs.Messages.{nth-message, nth-channel}
 use Rattle.state.specs.declared.Phase.the-variants as P
 use Rattle.state.specs.declared.Said.the-variants as W
@@ -29,7 +29,7 @@ unfolding messageIn
 nth-property c n k h = ap (λ (x : Message). x .sent .property) (nth-message c n k h)
 
 -- the subject in its own place, whatever its day, and the oldest that is free in another
-module _ (t : Table) (ch pr st : List ℕ) (n : ℕ) (o : Unread) (w : Job) (k first subject chord : ℕ) (h : subject < n)
+module _ (t : Table) (ch pr st : List ℕ) (n : ℕ) (o : Others) (w : Job) (k first subject chord : ℕ) (h : subject < n)
     (e : first ≡ firstBy (eqb (getD ch subject 0)) (chordAt t chord .channels)) (ws : w .subject ≡ subject)
     (wc : w .chord ≡ chord) where
   abbrev c : Columns

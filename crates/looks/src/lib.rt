@@ -11,7 +11,7 @@ ghost use Rattle.model.specs.Jobs as MJ;
 ghost use Rattle.model.specs.Layout.{tableRefusal, tableOf};
 ghost use Rattle.model.specs.Looks as ML;
 ghost use Rattle.model.specs.Steps as MS;
-ghost use Rattle.columns.specs.Columns.{Unread, daysAt, boardBy, Lent, Passed};
+ghost use Rattle.columns.specs.Columns.{Others, daysAt, boardBy, Lent, Passed};
 ghost use Rattle.state.specs.declared.Phase.the-variants as P;
 ghost use Rattle.state.specs.Views.{phaseIn, chosenBy, jobIn, senderIn, effectIn};
 use columns::Want;
@@ -59,7 +59,7 @@ fn choice(
     requires { ⌜ (k < MT.size (tableOf (now table)) chord) × (subject < n) ⌝ }
     requires { ⌜ Lent n (now channels) (now keys) (now statuses) ⌝ }
     requires { ⌜ Passed start n (now statuses) ⌝ }
-    ensures { λ r. ⌜ ((o : Unread) (w : MB.Job) → w .subject ≡ subject → w .chord ≡ chord
+    ensures { λ r. ⌜ ((o : Others) (w : MB.Job) → w .subject ≡ subject → w .chord ≡ chord
         → w .chosen ≡ now (chosen .entry) → r ≡ ML.choice (tableOf (now (table .entry)))
         (boardBy (now (channels .entry)) (now (keys .entry)) (now (statuses .entry)) n o) w k) ⌝ }
 {
@@ -87,7 +87,7 @@ fn missed(
     requires { ⌜ (k < MT.size (tableOf (now table)) (d .job .chord)) × (d .job .subject < n) ⌝ }
     requires { ⌜ Lent n (now channels) (now keys) (now statuses) ⌝ }
     requires { ⌜ Passed start n (now statuses) ⌝ }
-    ensures { λ r. ⌜ ((o : Unread) → effectIn (tableOf (now (table .entry))) r
+    ensures { λ r. ⌜ ((o : Others) → effectIn (tableOf (now (table .entry))) r
         ≡ MS.lookedBy (tableOf (now (table .entry)))
         (boardBy (now (channels .entry)) (now (keys .entry)) (now (statuses .entry)) n o)
         (senderIn (tableOf (now (table .entry))) d) (jobIn (tableOf (now (table .entry))) (d .job)) k 0) ⌝ }
@@ -173,7 +173,7 @@ pub fn look_step(
     requires { ⌜ (d .job .phase ≡ P.Look k) × (k < MT.size (tableOf (now table)) (d .job .chord)) ⌝ }
     requires { ⌜ (d .job .subject < n) × Lent n (now channels) (now keys) (now statuses) ⌝ }
     requires { ⌜ Passed start n (now statuses) ⌝ }
-    ensures { λ r. ⌜ ((o : Unread) → effectIn (tableOf (now (table .entry))) r
+    ensures { λ r. ⌜ ((o : Others) → effectIn (tableOf (now (table .entry))) r
         ≡ MS.look-step (tableOf (now (table .entry)))
         (boardBy (now (channels .entry)) (now (keys .entry)) (now (statuses .entry)) n o)
         (senderIn (tableOf (now (table .entry))) d) (jobIn (tableOf (now (table .entry))) (d .job)) k) ⌝ }

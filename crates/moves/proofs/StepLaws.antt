@@ -20,7 +20,7 @@ use Rattle.model.proofs.SoundKept.{step-in-range}
 use Rattle.model.proofs.Words.{OutcomeSpeaks, step-speaks}
 use Rattle.model.proofs.Numbers.{no-number}
 use Rattle.model.proofs.TableLaws.{size-few}
-use Rattle.columns.specs.Columns.{Columns, Unread, Lent, messagesFrom, boardBy}
+use Rattle.columns.specs.Columns.{Columns, Others, Lent, messagesFrom, boardBy}
 use Rattle.columns.specs.MatchColumns.{MatchColumns, matchesFrom, matchIn}
 use Rattle.columns.proofs.ListFrom.{length-from}
 use Rattle.columns.proofs.Messages.{length-messages, nth-channel}
@@ -44,9 +44,9 @@ module _ {ch pr st ch′ pr′ st′ : List ℕ} (a : ch ≡ ch′) (b : pr ≡ 
 
   module _ {ma wa ma′ wa′ : List ℕ} (e : ma ≡ ma′) (f : wa ≡ wa′) (t : Table) (n : ℕ) (d : Sender) {k : ℕ} {x : Effect}
     where
-      pub effect-by : ((o : Unread) → length (o .matches) ≡ k → o .backoffs ≡ builtinBackoffs → o .matched ≡ ma
+      pub effect-by : ((o : Others) → length (o .matches) ≡ k → o .backoffs ≡ builtinBackoffs → o .matched ≡ ma
           → o .wakers ≡ wa → stateStep t (boardBy ch pr st n o) d (d .state) ≡ does x)
-          → (o : Unread) → length (o .matches) ≡ k → o .backoffs ≡ builtinBackoffs → o .matched ≡ ma′
+          → (o : Others) → length (o .matches) ≡ k → o .backoffs ≡ builtinBackoffs → o .matched ≡ ma′
           → o .wakers ≡ wa′ → stateStep t (boardBy ch′ pr′ st′ n o) d (d .state) ≡ does x
       effect-by p = rw (← a, ← b, ← c, ← e, ← f) p
 
@@ -105,7 +105,7 @@ module _ (s : List ℕ) (b : HeldBoard) (c : Columns) (m : MatchColumns) (e : bo
   standing = boardIn t b c m
 
   -- what a step of the board does not read
-  abbrev pub others : Unread
+  abbrev pub others : Others
   others = record {
     cents = c .cents;
     matched = c .matched;

@@ -7,7 +7,7 @@ use lib.Dec.{eqb, ltb, leb}
 use lib.ListN.{getD}
 use Rattle.model.specs.Tables.{Table, isSync}
 use Rattle.model.specs.Boards.{Message, noMessage, messageAt, channelOf, isPending, isConsumed, isOpen}
-use Rattle.columns.specs.Columns.{Columns, Unread, columnsBy, boardBy, statusOf, messageIn, messagesFrom}
+use Rattle.columns.specs.Columns.{Columns, Others, columnsBy, boardBy, statusOf, messageIn, messagesFrom}
 use Rattle.columns.proofs.Messages.{nth-message, nth-channel, pending-is, consumed-is, open-is}
 use Rattle.state.specs.declared.Sender as DD
 use Rattle.steps.specs.Ready.{Saw}
@@ -25,7 +25,7 @@ module _ (c : Columns) (n k : ℕ) (h : k < n) where
   unfolding messageIn
   nth-waker = ap (λ (x : Message). x .waker) (nth-message c n k h)
 
-module _ (channels keys statuses : List ℕ) (o : Unread) (n k : ℕ) (h : k < n) where
+module _ (channels keys statuses : List ℕ) (o : Others) (n k : ℕ) (h : k < n) where
   pub channel-read : channelOf (boardBy channels keys statuses n o) k ≡ getD channels k 0
   channel-read = nth-channel (columnsBy channels keys statuses o) n k h
 
@@ -50,7 +50,7 @@ module _ (channels keys statuses : List ℕ) (o : Unread) (n k : ℕ) (h : k < n
   consumed-read = ap isConsumed status-read ∙ consumed-is (getD statuses k 0)
 
 -- the own message's and the waker's part
-pub saw-is : (t : Table) (channels keys statuses : List ℕ) (o : Unread) (n : ℕ) (d : DD.Sender)
+pub saw-is : (t : Table) (channels keys statuses : List ℕ) (o : Others) (n : ℕ) (d : DD.Sender)
     (own waker : ℕ) (sync : Bool) → own ≡ d .own - 1 → waker ≡ d .waker - 1 → d .own - 1 < n → d .waker - 1 < n
     → sync ≡ isSync t (getD channels own 0)
     → Saw t channels statuses n d

@@ -11,7 +11,7 @@ use Rattle.model.specs.Boards.{Board, messageAt, isPending, tell}
 use Rattle.model.specs.Effects.{Effect}
 use Rattle.model.specs.Steps.{toTell, job-step}
 use Rattle.model.proofs.SoundFacts.{StateFacts, JobFacts, PlaceOk, AllChosen}
-use Rattle.columns.specs.Columns.{Unread, columnsBy, boardBy}
+use Rattle.columns.specs.Columns.{Others, columnsBy, boardBy}
 use Rattle.columns.proofs.Messages.{length-messages, nth-channel}
 use Rattle.state.specs.declared.Phase as DP
 use Rattle.state.specs.declared.State as DS
@@ -102,7 +102,7 @@ module _ (t : Table) (channels keys statuses : List ℕ) (n count : ℕ) (d : DD
             (take y (d .job .chosen)))) all (p .1);
       }
 
-      pub pending-chosen : (o : Unread) (k : ℕ) → k < size t (d .job .chord)
+      pub pending-chosen : (o : Others) (k : ℕ) → k < size t (d .job .chord)
           → isPending
           (messageAt (boardBy channels keys statuses n o) (getD (jobIn t (d .job) .chosen) k 0) .status)
           ≡ eqb (getD statuses (getD (d .job .chosen) k 0) 0) 0

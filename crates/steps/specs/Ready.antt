@@ -6,7 +6,7 @@ use lib.ListN.{length, getD}
 use Rattle.model.specs.Tables.{Table, isSync}
 use Rattle.model.specs.Boards.{messageAt, channelOf, isConsumed}
 use Rattle.model.proofs.SoundFacts.{SenderFacts}
-use Rattle.columns.specs.Columns.{Unread, boardBy, Lent}
+use Rattle.columns.specs.Columns.{Others, boardBy, Lent}
 use Rattle.state.specs.declared.Sender as DD
 use Rattle.state.specs.Views.{senderIn}
 use Rattle.steps.specs.declared.Seen as DV
@@ -14,7 +14,7 @@ use Rattle.steps.specs.declared.Seen as DV
 -- the sender's facts on a board of n messages and count matches, by the columns; of the rest of the board only the
 -- number of matches is used
 pub record Ready (t : Table) (channels keys statuses : List ℕ) (n count : ℕ) (d : DD.Sender) : Type 0 where
-  pub others : Unread
+  pub others : Others
   pub counted : length (others .matches) ≡ count
   pub few : count ≤ 1024
   pub lent : Lent n channels keys statuses
@@ -23,7 +23,7 @@ pub record Ready (t : Table) (channels keys statuses : List ℕ) (n count : ℕ)
 
 -- what the end of a job reads, on every board with these columns
 pub record Saw (t : Table) (channels statuses : List ℕ) (n : ℕ) (d : DD.Sender) (v : DV.Seen)
-    (keys : List ℕ) (o : Unread) : Type 0 where
+    (keys : List ℕ) (o : Others) : Type 0 where
   pub sync-is : isSync t (channelOf (boardBy channels keys statuses n o) (d .own - 1)) ≡ v .sync
   pub channel-is : channelOf (boardBy channels keys statuses n o) (d .waker - 1) ≡ v .channel
   pub consumed-is : isConsumed (messageAt (boardBy channels keys statuses n o) (d .waker - 1) .status)

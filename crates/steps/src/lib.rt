@@ -9,7 +9,7 @@ ghost use Rattle.model.specs.Boards.{builtinBackoffs};
 ghost use Rattle.model.specs.Effects.{does};
 ghost use Rattle.model.specs.Layout.{tableRefusal, tableOf};
 ghost use Rattle.model.specs.Steps as MS;
-ghost use Rattle.columns.specs.Columns.{Unread, boardBy, Passed};
+ghost use Rattle.columns.specs.Columns.{Others, boardBy, Passed};
 ghost use Rattle.state.specs.declared.State.the-variants as S;
 ghost use Rattle.state.specs.Views.{phaseIn, jobIn, senderIn, effectIn, senderSteps};
 ghost use Rattle.steps.specs.Ready.{Ready, Saw};
@@ -33,7 +33,7 @@ fn sees(table: &[u8], d: Sender, n: u16, channels: &[u8], statuses: &[u8]) -> Se
     requires { ⌜ (tableRefusal (now table) ≡ 0) × (1 ≤ n) × (d .own ≤ n) × (d .waker ≤ n) ⌝ }
     requires { ⌜ (n ≤ length (now channels)) × (n ≤ length (now statuses)) ⌝ }
     requires { ⌜ ((i : ℕ) → i < n → getD (now channels) i 0 < length (tableOf (now table) .kinds)) ⌝ }
-    ensures { λ r. ⌜ ((keys : List ℕ) (o : Unread) → Saw (tableOf (now (table .entry)))
+    ensures { λ r. ⌜ ((keys : List ℕ) (o : Others) → Saw (tableOf (now (table .entry)))
         (now (channels .entry)) (now (statuses .entry)) n d r keys o) ⌝ }
 {
     let own = state::less(d.own) as usize;
@@ -70,7 +70,7 @@ fn job_step(
     requires { ⌜ (tableRefusal (now table) ≡ 0) × (d .state ≡ S.Working) ⌝ }
     requires { ⌜ Ready (tableOf (now table)) (now channels) (now keys) (now statuses) n count d ⌝ }
     requires { ⌜ Passed start n (now statuses) ⌝ }
-    ensures { λ r. ⌜ ((o : Unread) → length (o .matches) ≡ count → o .backoffs ≡ builtinBackoffs
+    ensures { λ r. ⌜ ((o : Others) → length (o .matches) ≡ count → o .backoffs ≡ builtinBackoffs
         → effectIn (tableOf (now (table .entry))) r ≡ MS.job-step (tableOf (now (table .entry)))
         (boardBy (now (channels .entry)) (now (keys .entry)) (now (statuses .entry)) n o)
         (senderIn (tableOf (now (table .entry))) d) (jobIn (tableOf (now (table .entry))) (d .job))
@@ -122,7 +122,7 @@ fn blocked_step(
     requires { ⌜ (tableRefusal (now table) ≡ 0) × (1 ≤ d .own) × (d .own ≤ n) ⌝ }
     requires { ⌜ (n ≤ length (now channels)) × (n ≤ length (now statuses))
         × (n ≤ length (now matched)) × (n ≤ length (now wakers)) ⌝ }
-    ensures { λ r. ⌜ ((keys : List ℕ) (o : Unread) → o .matched ≡ now (matched .entry)
+    ensures { λ r. ⌜ ((keys : List ℕ) (o : Others) → o .matched ≡ now (matched .entry)
         → o .wakers ≡ now (wakers .entry) → effectIn (tableOf (now (table .entry))) r
         ≡ MS.resume-step (tableOf (now (table .entry)))
         (boardBy (now (channels .entry)) keys (now (statuses .entry)) n o)
@@ -156,7 +156,7 @@ pub fn effect_of(
     requires { ⌜ Ready (tableOf (now table)) (now channels) (now keys) (now statuses) n count d ⌝ }
     requires { ⌜ (n ≤ length (now matched)) × (n ≤ length (now wakers)) ⌝ }
     requires { ⌜ Passed start n (now statuses) ⌝ }
-    ensures { λ r. ⌜ ((o : Unread) → length (o .matches) ≡ count → o .backoffs ≡ builtinBackoffs
+    ensures { λ r. ⌜ ((o : Others) → length (o .matches) ≡ count → o .backoffs ≡ builtinBackoffs
         → o .matched ≡ now (matched .entry) → o .wakers ≡ now (wakers .entry)
         → MS.stateStep (tableOf (now (table .entry)))
         (boardBy (now (channels .entry)) (now (keys .entry)) (now (statuses .entry)) n o)

@@ -15,16 +15,16 @@ use Rattle.columns.proofs.by_blocks.Statement.{statement}
 use Rattle.columns.proofs.by_blocks.Tie as tie
 
 abbrev Inv-loop : tie.InvT-loop
-Inv-loop channels keys statuses from n want status chosen b₀ at₀ b at =
+Inv-loop channels keys units statuses from n want status chosen b₀ at₀ b at =
     (at ≤ n) × (at < n → at % 64 ≡ 0) × (isFirst b ≡ false) × RankBelow (dayIn keys) at b
-    × (leastFrom (dayIn keys) (eligible channels keys statuses want status chosen) 0 from (n - from)
-    ≡ leastFrom (dayIn keys) (eligible channels keys statuses want status chosen) b at (n - at))
+    × (leastFrom (dayIn keys) (eligible channels keys units statuses want status chosen) 0 from (n - from)
+    ≡ leastFrom (dayIn keys) (eligible channels keys units statuses want status chosen) b at (n - at))
 
 abbrev μ-loop : tie.MeasureT-loop
-μ-loop channels keys statuses from n want status chosen b₀ at₀ b at = n - at
+μ-loop channels keys units statuses from n want status chosen b₀ at₀ b at = n - at
 
 abbrev start : tie.At-loop Inv-loop μ-loop → tie.Start Inv-loop μ-loop
-start p = p .before .before .before .before .before
+start p = p .before .before .before .before .before .before
 
 abbrev loop : tie.After-next-block Inv-loop μ-loop → tie.At-loop Inv-loop μ-loop
 loop c = c .before .before
@@ -33,14 +33,14 @@ loop c = c .before .before
 passed : (c : tie.After-next-block Inv-loop μ-loop) (j : ℕ) → let p = loop c in
     let a = start p .args in
     p .loop .at ≤ j → j ≤ a .n → j ≤ c .next-block .result
-    → let q = eligible (a .channels .now) (a .keys .now) (a .statuses .now) (a .want) (a .status) (a .chosen .now) in
+    → let q = eligible (a .channels .now) (a .keys .now) (a .units .now) (a .statuses .now) (a .want) (a .status) (a .chosen .now) in
     leastFrom (dayIn (a .keys .now)) q 0 (a .from) (a .n - a .from)
     ≡ leastFrom (dayIn (a .keys .now)) q (p .loop .b) j (a .n - j)
 passed c j h l m =
     let p = loop c in
     let a = start p .args in
     p .loop .inv .4
-    ∙ kind-skip (a .channels .now) (a .keys .now) (a .statuses .now) (a .want) (a .status) (a .chosen .now)
+    ∙ kind-skip (a .channels .now) (a .keys .now) (a .units .now) (a .statuses .now) (a .want) (a .status) (a .chosen .now)
     (p .loop .b) (p .loop .at) j (a .n) h l (λ k x y. c .next-block .ensures .0 .3 k x (omega arith))
 
 -- the best so far is a message's before the block
@@ -53,7 +53,7 @@ below c =
 
 loop-holds : tie.Need-loop-holds Inv-loop μ-loop
 loop-holds c =
-    let s = c .before .before .before .before in
+    let s = c .before .before .before .before .before in
     (s .pre .0, λ l. s .pre .1, refl, inl refl, refl)
 
 next-block-requires : tie.Need-next-block-requires Inv-loop μ-loop

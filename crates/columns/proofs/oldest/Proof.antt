@@ -9,12 +9,12 @@ use Rattle.columns.proofs.oldest.Tie as tie
 
 returns : tie.Need-returns
 returns c =
-    let s = c .before .before .before .before .before in
+    let s = c .before .before .before .before .before .before in
     let a = s .args in
     let r = c .least in (
       rw (r .ensures) (least-number (dayIn (a .keys .now)) _ (a .n) (omega (arith, s .pre .0 .few))),
-      λ o k x e f. oldest-is (a .channels .now) (a .keys .now) (a .statuses .now) o (a .n) (a .want) k x e f
-          (s .pre .0 .few) (a .chosen .now) (r .result) (r .ensures),
+      λ o k x e f. oldest-is (a .channels .now) (a .keys .now) (a .statuses .now) o (a .n) (a .want) k x
+          (a .units .now) e f (s .pre .0 .few) (a .chosen .now) (r .result) (r .ensures),
     )
 
 pub oldest-spec : {M : Type 1} → statement M

@@ -6,11 +6,11 @@ use Rattle.columns.proofs.some_claimed.Tie as tie
 
 returns : tie.Need-returns
 returns c =
-    let s = c .before .before .before .before .before in
+    let s = c .before .before .before .before .before .before in
     let a = s .args in
     let r = c .least in
-    λ o k x e f. some-claimed-is (a .channels .now) (a .keys .now) (a .statuses .now) o (a .n) (a .want) k x e f
-    (s .pre .0 .few) (r .result) (r .ensures)
+    λ o k x e f. some-claimed-is (a .channels .now) (a .keys .now) (a .statuses .now) o (a .n) (a .want) k x
+    (a .units .now) e f (s .pre .0 .few) (r .result) (r .ensures)
 
 pub some-claimed-spec : {M : Type 1} → statement M
 some-claimed-spec =

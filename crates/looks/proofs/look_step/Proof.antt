@@ -8,7 +8,7 @@ use Rattle.model.specs.Layout.{tableOf}
 use Rattle.model.specs.Tables.{size}
 use Rattle.model.specs.Steps.{lookedBy, look-step}
 use Rattle.model.proofs.AcceptedChords.{table-ok}
-use Rattle.columns.specs.Columns.{Unread, boardBy}
+use Rattle.columns.specs.Columns.{Others, boardBy}
 use Rattle.state.specs.Views.{jobIn, senderIn}
 use Rattle.looks.proofs.Looking.{chosen-first, looks-by}
 use borrow.Author.Needs.{needs}
@@ -28,7 +28,7 @@ abbrev start : tie.After-choice → tie.Start
 start c = c .before .before .before .before .before .before .before .before
 
 -- what was taken is the model's choice, so the look is by it
-looked : (c : tie.After-choice) (o : Unread) (x : ℕ) → x ≡ c .choice .result
+looked : (c : tie.After-choice) (o : Others) (x : ℕ) → x ≡ c .choice .result
     → let a = start c .args in
     let t = tableOf (a .table .now) in
     let b = boardBy (a .channels .now) (a .keys .now) (a .statuses .now) (a .n) o in

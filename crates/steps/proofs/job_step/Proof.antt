@@ -11,7 +11,7 @@ use Rattle.model.specs.Steps.{job-step}
 use Rattle.model.proofs.AcceptedChords.{table-ok}
 use Rattle.model.proofs.Chords.{wakes-first}
 use Rattle.model.proofs.SoundFacts.{PlaceOk}
-use Rattle.columns.specs.Columns.{Unread, boardBy}
+use Rattle.columns.specs.Columns.{Others, boardBy}
 use Rattle.state.specs.declared.Phase as DP
 use Rattle.state.specs.declared.Phase.the-variants as P
 use Rattle.state.specs.Views.{phaseIn, chosenBy, jobIn, senderIn}
@@ -34,7 +34,7 @@ tab s = tableOf (s .args .table .now)
 abbrev members : tie.Start → ℕ
 members s = size (tab s) (s .args .d .job .chord)
 
-abbrev board : tie.Start → Unread → Board
+abbrev board : tie.Start → Others → Board
 board s o = boardBy (s .args .channels .now) (s .args .keys .now) (s .args .statuses .now) (s .args .n) o
 
 -- the board of the sender's facts
@@ -70,14 +70,14 @@ sees-asks s =
     )
 
 -- the step of the phase is the step of the job
-step-is : (s : tie.Start) (o : Unread) (p : DP.Phase) {x : Effect} → s .args .d .job .phase ≡ p
+step-is : (s : tie.Start) (o : Others) (p : DP.Phase) {x : Effect} → s .args .d .job .phase ≡ p
     → x ≡ job-step (tab s) (board s o) (senderIn (tab s) (s .args .d)) (jobIn (tab s) (s .args .d .job)) (phaseIn p)
     → x ≡ job-step (tab s) (board s o) (senderIn (tab s) (s .args .d)) (jobIn (tab s) (s .args .d .job))
     (phaseIn (s .args .d .job .phase))
 step-is s o p e q = L.step-is (tab s) (board s o) (s .args .d) p _ e q
 
 -- the subject's channel
-channel-is : (s : tie.Start) (o : Unread)
+channel-is : (s : tie.Start) (o : Others)
     → channelOf (board s o) (s .args .d .job .subject) ≡ getD (s .args .channels .now) (s .args .d .job .subject) 0
 channel-is s o = R.channel-read _ _ _ o _ _ (subject-in s)
 

@@ -11,13 +11,13 @@ use Rattle.columns.proofs.weigh.least_in.Statement.{statement}
 use Rattle.columns.proofs.weigh.least_in.Tie as tie
 
 abbrev Inv-loop : tie.InvT-loop
-Inv-loop channels keys statuses from n want status chosen b₀ i₀ b i =
+Inv-loop channels keys units statuses from n want status chosen b₀ i₀ b i =
     (i ≤ n) × (isFirst b ≡ false)
-    × (leastFrom (dayIn keys) (eligible channels keys statuses want status chosen) 0 from (n - from)
-    ≡ leastFrom (dayIn keys) (eligible channels keys statuses want status chosen) b i (n - i))
+    × (leastFrom (dayIn keys) (eligible channels keys units statuses want status chosen) 0 from (n - from)
+    ≡ leastFrom (dayIn keys) (eligible channels keys units statuses want status chosen) b i (n - i))
 
 abbrev μ-loop : tie.MeasureT-loop
-μ-loop channels keys statuses from n want status chosen b₀ i₀ b i = n - i
+μ-loop channels keys units statuses from n want status chosen b₀ i₀ b i = n - i
 
 loop-holds : tie.Need-loop-holds Inv-loop μ-loop
 loop-holds c = (search needs, refl, refl)
@@ -26,8 +26,8 @@ returns : tie.Need-returns Inv-loop μ-loop
 returns c =
     let j = c .before .judged in
     let p = c .before .before .before in
-    let a = p .before .before .before .before .before .args in
-    let q = eligible (a .channels .now) (a .keys .now) (a .statuses .now) (a .want) (a .status) (a .chosen .now) in
+    let a = p .before .before .before .before .before .before .args in
+    let q = eligible (a .channels .now) (a .keys .now) (a .units .now) (a .statuses .now) (a .want) (a .status) (a .chosen .now) in
     sym (p .loop .inv .2
     ∙ least-first (dayIn (a .keys .now)) q (p .loop .b) (p .loop .i) (a .n) (j .result) (omega arith) (j .ensures)
     (p .loop .inv .1) (c .if1 .taken))
@@ -36,8 +36,8 @@ loop-again : tie.Need-loop-again Inv-loop μ-loop
 loop-again c =
     let j = c .before .judged in
     let p = c .before .before .before in
-    let a = p .before .before .before .before .before .args in
-    let q = eligible (a .channels .now) (a .keys .now) (a .statuses .now) (a .want) (a .status) (a .chosen .now) in (
+    let a = p .before .before .before .before .before .before .args in
+    let q = eligible (a .channels .now) (a .keys .now) (a .units .now) (a .statuses .now) (a .want) (a .status) (a .chosen .now) in (
       search needs,
       c .if1 .left,
       p .loop .inv .2
@@ -48,7 +48,7 @@ loop-again c =
 returns-2 : tie.Need-returns-2 Inv-loop μ-loop
 returns-2 c =
     let p = c .before in
-    let a = p .before .before .before .before .before .args in
+    let a = p .before .before .before .before .before .before .args in
     sym (p .loop .inv .2 ∙ least-end (dayIn (a .keys .now)) _ (p .loop .b) (p .loop .i) (a .n) (omega arith))
 
 pub least-in-spec : {M : Type 1} → statement M

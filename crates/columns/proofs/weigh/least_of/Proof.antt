@@ -16,13 +16,13 @@ use Rattle.columns.proofs.weigh.least_of.Statement.{statement}
 use Rattle.columns.proofs.weigh.least_of.Tie as tie
 
 abbrev Inv-loop : tie.InvT-loop
-Inv-loop keys word at want best chosen b₀ w₀ b w =
+Inv-loop keys units word at want best chosen b₀ w₀ b w =
     (w < 2 ^ 64) × (isFirst b ≡ false)
-    × (leastBit (dayIn keys) (taking keys want chosen) word best at 64
-    ≡ leastBit (dayIn keys) (taking keys want chosen) w b at 64)
+    × (leastBit (dayIn keys) (taking keys units want chosen) word best at 64
+    ≡ leastBit (dayIn keys) (taking keys units want chosen) w b at 64)
 
 abbrev μ-loop : tie.MeasureT-loop
-μ-loop keys word at want best chosen b₀ w₀ b w = w
+μ-loop keys units word at want best chosen b₀ w₀ b w = w
 
 -- the lowest bit
 low : (p : tie.At-loop Inv-loop μ-loop) → p .loop .w ≢ 0 → let t = trailingZeros 64 (p .loop .w) in
@@ -31,18 +31,18 @@ low p h = lowest-bit (p .loop .w) h (p .loop .inv .0)
 
 -- the message of the lowest bit, weighed
 turn : (c : tie.After-weighed Inv-loop μ-loop) → let p = c .before .before in
-    let a = p .before .before .before .args in
+    let a = p .before .before .before .before .args in
     let t = trailingZeros 64 (p .loop .w) in
-    Turn (dayIn (a .keys .now)) (taking (a .keys .now) (a .want) (a .chosen .now)) (a .at + t) (p .loop .b)
+    Turn (dayIn (a .keys .now)) (taking (a .keys .now) (a .units .now) (a .want) (a .chosen .now)) (a .at + t) (p .loop .b)
     (c .weighed .result) 64 (p .loop .w) (a .at) t
 turn c =
     let p = c .before .before in
-    let a = p .before .before .before .args in
-    bit-turn (dayIn (a .keys .now)) (taking (a .keys .now) (a .want) (a .chosen .now)) 64 (p .loop .w) (a .at) _
+    let a = p .before .before .before .before .args in
+    bit-turn (dayIn (a .keys .now)) (taking (a .keys .now) (a .units .now) (a .want) (a .chosen .now)) 64 (p .loop .w) (a .at) _
     (p .loop .b) (c .weighed .result) (sym (c .weighed .ensures)) (c .before .loop-test .taken) (p .loop .inv .0) refl
 
 loop-holds : tie.Need-loop-holds Inv-loop μ-loop
-loop-holds c = (search needs, c .before .before .pre .2, refl)
+loop-holds c = (search needs, c .before .before .before .pre .1, refl)
 
 cast-weighed : tie.Need-cast-weighed Inv-loop μ-loop
 cast-weighed c = let l = low (c .before) (c .loop-test .taken) in search needs
@@ -57,7 +57,7 @@ returns : tie.Need-returns Inv-loop μ-loop
 returns c =
     let v = c .before in
     let p = v .before .before in
-    let a = p .before .before .before .args in
+    let a = p .before .before .before .before .args in
     let k = better-low (dayIn (a .keys .now)) _ (a .at + trailingZeros 64 (p .loop .w)) (p .loop .b)
     (v .weighed .result) (v .weighed .ensures) (p .loop .inv .1) (c .if1 .taken) in
     sym (p .loop .inv .2 ∙ turn v .0 ∙ turn v .1 (c .if1 .taken) (omega arith))
