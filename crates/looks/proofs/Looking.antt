@@ -28,26 +28,30 @@ pub nth-property : (c : Columns) (n k : ℕ) → k < n
 unfolding messageIn
 nth-property c n k h = ap (λ (x : Message). x .sent .property) (nth-message c n k h)
 
+pub nth-unit : (c : Columns) (n k : ℕ) → k < n
+    → getD (messagesFrom c 0 n) k noMessage .sent .unit ≡ getD (c .units) k 0
+unfolding messageIn
+nth-unit c n k h = ap (λ (x : Message). x .sent .unit) (nth-message c n k h)
+
 -- the subject in its own place, whatever its day, and the oldest that is free in another
-module _ (t : Table) (ch pr st : List ℕ) (n : ℕ) (o : Others) (w : Job) (k first subject chord : ℕ) (h : subject < n)
-    (e : first ≡ firstBy (eqb (getD ch subject 0)) (chordAt t chord .channels)) (ws : w .subject ≡ subject)
-    (wc : w .chord ≡ chord) where
+module _ (t : Table) (ch pr st : List ℕ) (n : ℕ) (o : Others) (w : Job) (k first : ℕ) (h : w .subject < n)
+    (e : first ≡ firstBy (eqb (getD ch (w .subject) 0)) (chordAt t (w .chord) .channels)) where
   abbrev c : Columns
   c = columnsBy ch pr st o
 
-  pub choice-own : first ≡ k → subject + 1 ≡ choice t (boardBy ch pr st n o) w k
+  pub choice-own : first ≡ k → w .subject + 1 ≡ choice t (boardBy ch pr st n o) w k
   unfolding choice
-  choice-own q = rw (ws, wc, nth-channel c n subject h, ← e, eq-eqb first k q) (add-one subject)
+  choice-own q = rw (nth-channel c n (w .subject) h, ← e, eq-eqb first k q) (add-one (w .subject))
 
   pub choice-other : (wanted x : ℕ) (chosen : List ℕ) → w .chosen ≡ chosen → (first ≡ k → ⊥)
-      → wanted ≡ channelAt t chord k
+      → wanted ≡ channelAt t (w .chord) k
       → x ≡ oldest (dayAt (boardBy ch pr st n o))
-      (isFree (chordAt t chord) wanted (getD (messagesFrom c 0 n) subject noMessage .sent) chosen) 0
+      (isFree (chordAt t (w .chord)) wanted (getD (messagesFrom c 0 n) (w .subject) noMessage .sent) chosen) 0
       (messagesFrom c 0 n)
       → x ≡ choice t (boardBy ch pr st n o) w k
   unfolding choice
   choice-other wanted x chosen wk q l g =
-      g ∙ rw (ws, wc, wk, nth-channel c n subject h, ← e, ne-eqb first k q, l)
+      g ∙ rw (wk, nth-channel c n (w .subject) h, ← e, ne-eqb first k q, l)
 
 -- before the look for member k the first k are chosen
 pub chosen-first : (t : Table) (j : DJ.Job) (k : ℕ) → j .phase ≡ P.Look k → jobIn t j .chosen ≡ take k (j .chosen)

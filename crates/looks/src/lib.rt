@@ -12,6 +12,7 @@ ghost use Rattle.model.specs.Layout.{tableRefusal, tableOf};
 ghost use Rattle.model.specs.Looks as ML;
 ghost use Rattle.model.specs.Steps as MS;
 ghost use Rattle.columns.specs.Columns.{Others, daysAt, boardBy, Lent, Passed};
+ghost use Rattle.columns.specs.Firsts.{Wants};
 ghost use Rattle.state.specs.declared.Phase.the-variants as P;
 ghost use Rattle.state.specs.Views.{phaseIn, chosenBy, jobIn, senderIn, effectIn};
 use columns::Want;
@@ -23,21 +24,25 @@ use state::Said;
 use state::Sender;
 
 // What the k-th member of the chord wants of a message beside the subject.
-fn want_of(table: &[u8], chord: u8, k: u8, keys: &[u32], subject: u16) -> Want
+fn want_of(table: &[u8], chord: u8, k: u8, keys: &[u32], units: &[u16], subject: u16) -> Want
     requires { ⌜ (tableRefusal (now table) ≡ 0) × (chord < length (tableOf (now table) .chords)) ⌝ }
-    requires { ⌜ (k < MT.size (tableOf (now table)) chord) × (daysAt + subject < length (now keys)) ⌝ }
+    requires { ⌜ (k < MT.size (tableOf (now table)) chord) × (daysAt + subject < length (now keys))
+        × (subject < length (now units)) ⌝ }
     ensures { λ r. ⌜ (r .channel ≡ MT.channelAt (tableOf (now (table .entry))) chord k)
-        × (r .equal ≡ MT.chordAt (tableOf (now (table .entry))) chord .equal)
-        × (r .property ≡ getD (now (keys .entry)) subject 0) ⌝ }
+        × ((s : MB.Sent) → s .property ≡ getD (now (keys .entry)) subject 0
+        → s .unit ≡ getD (now (units .entry)) subject 0
+        → Wants r (MT.chordAt (tableOf (now (table .entry))) chord) s) ⌝ }
 {
     let at = subject as usize;
     let property = keys[at];
+    let unit = units[at];
     let channel = chords::channel_at(table, chord, k);
-    let equal = table::is_equal(table, chord);
+    let equal = table::chord_equal(table, chord);
     Want {
         channel: channel,
         equal: equal,
         property: property,
+        unit: unit,
     }
 }
 
@@ -45,31 +50,40 @@ fn want_of(table: &[u8], chord: u8, k: u8, keys: &[u32], subject: u16) -> Want
 // number plus 1, 0 for none.
 fn choice(
     table: &[u8],
-    chord: u8,
+    j: Job,
     k: u8,
-    subject: u16,
     start: u16,
     n: u16,
     channels: &[u8],
     keys: &[u32],
+    units: &[u16],
     statuses: &[u8],
-    chosen: &[u16],
 ) -> u16
-    requires { ⌜ (tableRefusal (now table) ≡ 0) × (chord < length (tableOf (now table) .chords)) ⌝ }
-    requires { ⌜ (k < MT.size (tableOf (now table)) chord) × (subject < n) ⌝ }
-    requires { ⌜ Lent n (now channels) (now keys) (now statuses) ⌝ }
+    requires { ⌜ (tableRefusal (now table) ≡ 0) × (j .chord < length (tableOf (now table) .chords)) ⌝ }
+    requires { ⌜ (j .phase ≡ P.Look k) × (k < MT.size (tableOf (now table)) (j .chord)) × (j .subject < n) ⌝ }
+    requires { ⌜ Lent n (now channels) (now keys) (now units) (now statuses) ⌝ }
     requires { ⌜ Passed start n (now statuses) ⌝ }
-    ensures { λ r. ⌜ ((o : Others) (w : MB.Job) → w .subject ≡ subject → w .chord ≡ chord
-        → w .chosen ≡ now (chosen .entry) → r ≡ ML.choice (tableOf (now (table .entry)))
-        (boardBy (now (channels .entry)) (now (keys .entry)) (now (statuses .entry)) n o) w k) ⌝ }
+    ensures { λ r. ⌜ ((o : Others) → o .units ≡ now (units .entry) → r ≡ ML.choice (tableOf (now (table .entry)))
+        (boardBy (now (channels .entry)) (now (keys .entry)) (now (statuses .entry)) n o)
+        (jobIn (tableOf (now (table .entry))) j) k) ⌝ }
 {
-    let at = subject as usize;
+    let at = j.subject as usize;
     let channel = channels[at];
-    if chords::first_of(table, chord, channel) == k {
-        return subject + 1;
+    if chords::first_of(table, j.chord, channel) == k {
+        return j.subject + 1;
     }
-    let want = want_of(table, chord, k, keys, subject);
-    columns::oldest(channels, keys, statuses, start, n, want, chosen)
+    let want = want_of(table, j.chord, k, keys, units, j.subject);
+    let chosen = j.chosen;
+    columns::oldest(
+        channels,
+        keys,
+        units,
+        statuses,
+        start,
+        n,
+        want,
+        &chosen[..k as usize],
+    )
 }
 
 // A look that takes none: the next chord, and the job is to be tried again if a claimed message would fit.
@@ -81,13 +95,14 @@ fn missed(
     n: u16,
     channels: &[u8],
     keys: &[u32],
+    units: &[u16],
     statuses: &[u8],
 ) -> Effect
     requires { ⌜ (tableRefusal (now table) ≡ 0) × (d .job .chord < length (tableOf (now table) .chords)) ⌝ }
     requires { ⌜ (k < MT.size (tableOf (now table)) (d .job .chord)) × (d .job .subject < n) ⌝ }
-    requires { ⌜ Lent n (now channels) (now keys) (now statuses) ⌝ }
+    requires { ⌜ Lent n (now channels) (now keys) (now units) (now statuses) ⌝ }
     requires { ⌜ Passed start n (now statuses) ⌝ }
-    ensures { λ r. ⌜ ((o : Others) → effectIn (tableOf (now (table .entry))) r
+    ensures { λ r. ⌜ ((o : Others) → o .units ≡ now (units .entry) → effectIn (tableOf (now (table .entry))) r
         ≡ MS.lookedBy (tableOf (now (table .entry)))
         (boardBy (now (channels .entry)) (now (keys .entry)) (now (statuses .entry)) n o)
         (senderIn (tableOf (now (table .entry))) d) (jobIn (tableOf (now (table .entry))) (d .job)) k 0) ⌝ }
@@ -95,8 +110,8 @@ fn missed(
     let j = d.job;
     let at = j.subject as usize;
     let channel = channels[at];
-    let want = want_of(table, j.chord, k, keys, j.subject);
-    let claimed = columns::some_claimed(channels, keys, statuses, start, n, want);
+    let want = want_of(table, j.chord, k, keys, units, j.subject);
+    let claimed = columns::some_claimed(channels, keys, units, statuses, start, n, want);
     let next = state::next_chord(table, j, channel, j.retry | claimed);
     state::works(d, next, Said::Missed, Change::None)
 }
@@ -167,33 +182,22 @@ pub fn look_step(
     n: u16,
     channels: &[u8],
     keys: &[u32],
+    units: &[u16],
     statuses: &[u8],
 ) -> Effect
     requires { ⌜ (tableRefusal (now table) ≡ 0) × (d .job .chord < length (tableOf (now table) .chords)) ⌝ }
     requires { ⌜ (d .job .phase ≡ P.Look k) × (k < MT.size (tableOf (now table)) (d .job .chord)) ⌝ }
-    requires { ⌜ (d .job .subject < n) × Lent n (now channels) (now keys) (now statuses) ⌝ }
+    requires { ⌜ (d .job .subject < n) × Lent n (now channels) (now keys) (now units) (now statuses) ⌝ }
     requires { ⌜ Passed start n (now statuses) ⌝ }
-    ensures { λ r. ⌜ ((o : Others) → effectIn (tableOf (now (table .entry))) r
+    ensures { λ r. ⌜ ((o : Others) → o .units ≡ now (units .entry) → effectIn (tableOf (now (table .entry))) r
         ≡ MS.look-step (tableOf (now (table .entry)))
         (boardBy (now (channels .entry)) (now (keys .entry)) (now (statuses .entry)) n o)
         (senderIn (tableOf (now (table .entry))) d) (jobIn (tableOf (now (table .entry))) (d .job)) k) ⌝ }
 {
     let j = d.job;
-    let chosen = j.chosen;
-    let taken = choice(
-        table,
-        j.chord,
-        k,
-        j.subject,
-        start,
-        n,
-        channels,
-        keys,
-        statuses,
-        &chosen[..k as usize],
-    );
+    let taken = choice(table, j, k, start, n, channels, keys, units, statuses);
     if taken == 0 {
-        return missed(table, d, k, start, n, channels, keys, statuses);
+        return missed(table, d, k, start, n, channels, keys, units, statuses);
     }
     let size = table::chord_len(table, j.chord);
     found(d, size, k, taken - 1)
