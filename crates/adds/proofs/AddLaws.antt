@@ -36,20 +36,21 @@ module _ (t : Table) (b : HeldBoard) (i : ℕ) (x : Sent) (d : DD.Sender) (c : C
       ap (λ (k : ℕ). getD is k noMessage .sent .channel) (sym (length-messages c 0 n))
       ∙ ap (λ (y : Message). y .sent .channel) (getD-append-seam (messagesFrom c 0 n) (newMessage x) [] noMessage)
 
-  pub added-is : (ch ks : List ℕ) (ce : List ℤ) (st ma wa : List ℕ)
+  pub added-is : (ch ks : List ℕ) (ce : List ℤ) (st ma wa us : List ℕ)
       → ((ms : List Message) → getD ms n noMessage .sent .channel ≡ x .channel → senderIn t d ≡ newSender t ms n)
       → ch ≡ set (c .channels) n (x .channel) → ks ≡ keyed (c .keys) n (x .property) (x .day)
       → ce ≡ set (c .cents) n (x .cents) → st ≡ set (c .statuses) n 0 → ma ≡ set (c .matched) n 0
-      → wa ≡ set (c .wakers) n 0
-      → boardIn t (withMessage b i d) (columnsOf ch ks ce st ma wa) m ≡ added t (boardIn t b c m) i x
+      → wa ≡ set (c .wakers) n 0 → us ≡ set (c .units) n (x .unit)
+      → boardIn t (withMessage b i d) (columnsOf ch ks ce st ma wa us) m ≡ added t (boardIn t b c m) i x
   unfolding added
-  added-is ch ks ce st ma wa f e1 e2 e3 e4 e5 e6 = rw (
+  added-is ch ks ce st ma wa us f e1 e2 e3 e4 e5 e6 e7 = rw (
     e1,
     e2,
     e3,
     e4,
     e5,
     e6,
+    e7,
     add-one n,
     message-added c n x room,
     set-sender t (b .senders) i d,

@@ -19,6 +19,7 @@ pub record Room (c : Columns) (n : ℕ) : Type 0 where
   pub statuses : n < length (c .statuses)
   pub matched : n < length (c .matched)
   pub wakers : n < length (c .wakers)
+  pub units : n < length (c .units)
 
 -- the keys with those of message n: its property and its day
 abbrev pub keyed : List ℕ → ℕ → ℕ → ℕ → List ℕ
@@ -54,6 +55,7 @@ written c n x = record {
   statuses = set (c .statuses) n 0;
   matched = set (c .matched) n 0;
   wakers = set (c .wakers) n 0;
+  units = set (c .units) n (x .unit);
 }
 
 module _ (c : Columns) (n : ℕ) (x : Sent) where
@@ -67,6 +69,7 @@ module _ (c : Columns) (n : ℕ) (x : Sent) where
     getD-set-other (c .statuses) n j 0 0 (λ z. omega arith),
     getD-set-other (c .matched) n j 0 0 (λ z. omega arith),
     getD-set-other (c .wakers) n j 0 0 (λ z. omega arith),
+    getD-set-other (c .units) n j (x .unit) 0 (λ z. omega arith),
   )
 
   at-end : Room c n → messageIn (written c n x) n ≡ newMessage x
@@ -79,6 +82,7 @@ module _ (c : Columns) (n : ℕ) (x : Sent) where
     getD-set-same (c .statuses) n 0 0 (h .statuses),
     getD-set-same (c .matched) n 0 0 (h .matched),
     getD-set-same (c .wakers) n 0 0 (h .wakers),
+    getD-set-same (c .units) n (x .unit) 0 (h .units),
   )
 
   pub message-added : Room c n

@@ -5,7 +5,7 @@ use Prim.Native.Nat.{ℕ, _+_, _-_, _<_, _≤_}
 use native.Mathlib.Omega.{arith}
 use lib.ListN.{length, take, drop, getD, set, length-append, length-drop}
 use lib.Seq.{length-take-le, take-set-lt, take-set-le, drop-set-add, drop-set-lt}
-use lib.Seq.{take-at, drop-at, take-append-le, drop-append-le, take-take}
+use lib.Seq.{take-at, drop-at, drop-drop, take-append-le, drop-append-le, take-take}
 use Rattle.model.proofs.Parts.{part-len, part-at, take-drop}
 use Rattle.boards.specs.Parts.{part, splice}
 
@@ -50,6 +50,22 @@ module _ {A : Type 0} (at n : ℕ) (ys s : List A) (h : at + n ≤ length s) (e 
       let q = length-drop at s in
       let r = length-drop n (drop at s) in
       rw (length-append (take at s) (ys ++ drop n (drop at s)), length-append ys (drop n (drop at s))) (omega arith)
+
+  -- a part that begins after it
+  pub splice-above : (a m : ℕ) → at + n ≤ a → part a m (splice at n ys s) ≡ part a m s
+  unfolding part splice
+  splice-above a m l =
+      let z : a ≡ at + n + (a - (at + n)) = omega arith in
+      let rest = drop n (drop at s) in
+      rw (
+        z,
+        ← drop-drop (a - (at + n)) (at + n) (take at s ++ (ys ++ rest)),
+        ← drop-drop n at (take at s ++ (ys ++ rest)),
+        drop-at (take at s) (ys ++ rest) at before-at,
+        drop-at ys rest n e,
+        drop-drop n at s,
+        drop-drop (a - (at + n)) (at + n) s,
+      )
 
   -- a part that ends before it
   pub splice-below : (a m : ℕ) → a + m ≤ at → part a m (splice at n ys s) ≡ part a m s

@@ -21,16 +21,18 @@ abbrev pub held : HeldBoard → Columns → MatchColumns → Held
 held b c m = record { board = b; columns = c; matches = m }
 
 -- the same by its columns, in the order of the calls' parameters
-abbrev pub heldBy : HeldBoard → List ℕ → List ℕ → List ℤ → List ℕ → List ℕ → List ℕ → List ℕ → List ℕ → Held
-heldBy b channels keys cents statuses matched wakers chords messages =
-    held b (columnsOf channels keys cents statuses matched wakers) (matchesOf chords messages)
+abbrev pub heldBy : HeldBoard → List ℕ → List ℕ → List ℤ → List ℕ → List ℕ → List ℕ → List ℕ → List ℕ → List ℕ
+    → Held
+heldBy b channels keys cents statuses matched wakers units chords messages =
+    held b (columnsOf channels keys cents statuses matched wakers units) (matchesOf chords messages)
 
 -- what an add hands over
-abbrev pub sent : ℕ → ℕ → ℤ → ℕ → MB.Sent
-sent channel property cents day = record { channel = channel; property = property; cents = cents; day = day }
+abbrev pub sent : ℕ → ℕ → ℤ → ℕ → ℕ → MB.Sent
+sent channel property cents day unit =
+    record { channel = channel; property = property; cents = cents; day = day; unit = unit }
 
 abbrev pub sentIn : DS.Sent → MB.Sent
-sentIn x = sent (x .channel) (x .property) (x .cents) (x .day)
+sentIn x = sent (x .channel) (x .property) (x .cents) (x .day) (x .unit)
 
 abbrev pub callIn : DC.Call → MP.Call
 callIn (C.Add i x) = MP.adds i (sentIn x)

@@ -26,15 +26,19 @@ chordsAt = 2048
 abbrev pub bytesLen : ℕ
 bytesLen = 3072
 
--- links: 0 the matches that messages note, 1,024 their wakers, 2,048 the matches' messages, eight each
+-- links: 0 the matches that messages note, 1,024 their wakers, 2,048 the matches' messages, eight each, 10,240 the
+-- messages' units
 abbrev pub wakersAt : ℕ
 wakersAt = 1024
 
 abbrev pub membersAt : ℕ
 membersAt = 2048
 
+abbrev pub unitsAt : ℕ
+unitsAt = 10240
+
 abbrev pub linksLen : ℕ
-linksLen = 10240
+linksLen = 11264
 
 -- keys: 0 properties, 1,024 days
 abbrev pub keysLen : ℕ
@@ -77,6 +81,9 @@ module _ (links : List ℕ) where
   abbrev pub membersIn : List ℕ
   membersIn = part membersAt 8192 links
 
+  abbrev pub unitsIn : List ℕ
+  unitsIn = part unitsAt 1024 links
+
 module _ (keys : List ℕ) where
   abbrev pub propertiesIn : List ℕ
   propertiesIn = part 0 1024 keys
@@ -87,7 +94,7 @@ module _ (keys : List ℕ) where
 abbrev pub columnsIn : Lists → Columns
 columnsIn l =
     columnsOf (channelsIn (l .bytes)) (l .keys) (l .cents) (statusesIn (l .bytes)) (matchedIn (l .links))
-    (wakersIn (l .links))
+    (wakersIn (l .links)) (unitsIn (l .links))
 
 abbrev pub matchesIn : Lists → MatchColumns
 matchesIn l = matchesOf (chordsIn (l .bytes)) (membersIn (l .links))

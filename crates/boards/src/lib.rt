@@ -3,13 +3,14 @@ ghost use mathlib.Core.Path.{_≡_};
 ghost use lib.ListN.{length};
 ghost use Rattle.boards.specs.Layout.{bytesLen, linksLen};
 ghost use Rattle.boards.specs.Layout.{channelsIn, statusesIn, chordsIn, matchedIn, wakersIn, membersIn};
+ghost use Rattle.boards.specs.Layout.{unitsIn};
 
 // Lengths, and the places of columns that are not the first of their list.
 pub const BOARD_LEN: usize = 674;
 
 pub const BYTES_LEN: usize = 3072;
 
-pub const LINKS_LEN: usize = 10240;
+pub const LINKS_LEN: usize = 11264;
 
 pub const KEYS_LEN: usize = 2048;
 
@@ -23,12 +24,15 @@ pub const WAKERS: usize = 1024;
 
 pub const MEMBERS: usize = 2048;
 
+pub const UNITS: usize = 10240;
+
 // A message as it is added.
 pub struct Sent {
     pub channel: u16,
     pub property: u32,
     pub cents: i64,
     pub day: u32,
+    pub unit: u16,
 }
 
 // An add by a sender, or a step of a sender.
@@ -82,5 +86,13 @@ pub fn members(links: &[u16]) -> &[u16]
     requires { ⌜ length (now links) ≡ linksLen ⌝ }
     ensures { λ r. ⌜ (now r ≡ membersIn (now (links .entry))) × (length (now r) ≡ 8192) ⌝ }
 {
-    &links[MEMBERS..LINKS_LEN]
+    &links[MEMBERS..UNITS]
+}
+
+// The messages' units.
+pub fn units(links: &[u16]) -> &[u16]
+    requires { ⌜ length (now links) ≡ linksLen ⌝ }
+    ensures { λ r. ⌜ (now r ≡ unitsIn (now (links .entry))) × (length (now r) ≡ 1024) ⌝ }
+{
+    &links[UNITS..LINKS_LEN]
 }
