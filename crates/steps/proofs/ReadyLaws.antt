@@ -29,8 +29,8 @@ pub step-is : (t : Table) (b : Board) (d : DD.Sender) (p : DP.Phase) (x : Effect
 step-is t b d p x e q =
     q ∙ ap (λ (y : DP.Phase). job-step t b (senderIn t d) (jobIn t (d .job)) (phaseIn y)) (sym e)
 
-module _ (t : Table) (channels keys statuses : List ℕ) (n count : ℕ) (d : DD.Sender)
-    (r : Ready t channels keys statuses n count d) where
+module _ (t : Table) (channels keys units statuses : List ℕ) (n count : ℕ) (d : DD.Sender)
+    (r : Ready t channels keys units statuses n count d) where
   pub channels-in : n ≤ length channels
   channels-in = omega (arith, r .lent .few, r .lent .channels-all)
 

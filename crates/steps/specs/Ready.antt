@@ -13,11 +13,11 @@ use Rattle.steps.specs.declared.Seen as DV
 
 -- the sender's facts on a board of n messages and count matches, by the columns; of the rest of the board only the
 -- number of matches is used
-pub record Ready (t : Table) (channels keys statuses : List ℕ) (n count : ℕ) (d : DD.Sender) : Type 0 where
+pub record Ready (t : Table) (channels keys units statuses : List ℕ) (n count : ℕ) (d : DD.Sender) : Type 0 where
   pub others : Others
   pub counted : length (others .matches) ≡ count
   pub few : count ≤ 1024
-  pub lent : Lent n channels keys statuses
+  pub lent : Lent n channels keys units statuses
   pub known : (i : ℕ) → i < n → getD channels i 0 < length (t .kinds)
   pub facts : SenderFacts t (boardBy channels keys statuses n others) (senderIn t d)
 

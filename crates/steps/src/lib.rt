@@ -12,6 +12,7 @@ ghost use Rattle.model.specs.Steps as MS;
 ghost use Rattle.columns.specs.Columns.{Others, boardBy, Passed};
 ghost use Rattle.state.specs.declared.State.the-variants as S;
 ghost use Rattle.state.specs.Views.{phaseIn, jobIn, senderIn, effectIn, senderSteps};
+ghost use Rattle.boards.specs.Layout.{linksLen, matchedIn, wakersIn, unitsIn};
 ghost use Rattle.steps.specs.Ready.{Ready, Saw};
 use state::Change;
 use state::Effect;
@@ -65,13 +66,14 @@ fn job_step(
     count: u16,
     channels: &[u8],
     keys: &[u32],
+    units: &[u16],
     statuses: &[u8],
 ) -> Effect
     requires { ⌜ (tableRefusal (now table) ≡ 0) × (d .state ≡ S.Working) ⌝ }
-    requires { ⌜ Ready (tableOf (now table)) (now channels) (now keys) (now statuses) n count d ⌝ }
+    requires { ⌜ Ready (tableOf (now table)) (now channels) (now keys) (now units) (now statuses) n count d ⌝ }
     requires { ⌜ Passed start n (now statuses) ⌝ }
     ensures { λ r. ⌜ ((o : Others) → length (o .matches) ≡ count → o .backoffs ≡ builtinBackoffs
-        → effectIn (tableOf (now (table .entry))) r ≡ MS.job-step (tableOf (now (table .entry)))
+        → o .units ≡ now (units .entry) → effectIn (tableOf (now (table .entry))) r ≡ MS.job-step (tableOf (now (table .entry)))
         (boardBy (now (channels .entry)) (now (keys .entry)) (now (statuses .entry)) n o)
         (senderIn (tableOf (now (table .entry))) d) (jobIn (tableOf (now (table .entry))) (d .job))
         (phaseIn (d .job .phase))) ⌝ }
@@ -82,7 +84,7 @@ fn job_step(
     let opened = statuses[at] < 2;
     let phase = j.phase;
     match phase {
-        Phase::Look(k) => looks::look_step(table, d, k, start, n, channels, keys, statuses),
+        Phase::Look(k) => looks::look_step(table, d, k, start, n, channels, keys, units, statuses),
         Phase::Claim(k) => {
             claims::claim_step(table, d, k, channel, count, is_pending(d, k, statuses))
         }
@@ -149,16 +151,14 @@ pub fn effect_of(
     channels: &[u8],
     keys: &[u32],
     statuses: &[u8],
-    matched: &[u16],
-    wakers: &[u16],
+    links: &[u16],
 ) -> Effect
-    requires { ⌜ (tableRefusal (now table) ≡ 0) × (senderSteps d ≡ true) ⌝ }
-    requires { ⌜ Ready (tableOf (now table)) (now channels) (now keys) (now statuses) n count d ⌝ }
-    requires { ⌜ (n ≤ length (now matched)) × (n ≤ length (now wakers)) ⌝ }
+    requires { ⌜ (tableRefusal (now table) ≡ 0) × (senderSteps d ≡ true) × (length (now links) ≡ linksLen) ⌝ }
+    requires { ⌜ Ready (tableOf (now table)) (now channels) (now keys) (unitsIn (now links)) (now statuses) n count d ⌝ }
     requires { ⌜ Passed start n (now statuses) ⌝ }
     ensures { λ r. ⌜ ((o : Others) → length (o .matches) ≡ count → o .backoffs ≡ builtinBackoffs
-        → o .matched ≡ now (matched .entry) → o .wakers ≡ now (wakers .entry)
-        → MS.stateStep (tableOf (now (table .entry)))
+        → o .matched ≡ matchedIn (now (links .entry)) → o .wakers ≡ wakersIn (now (links .entry))
+        → o .units ≡ unitsIn (now (links .entry)) → MS.stateStep (tableOf (now (table .entry)))
         (boardBy (now (channels .entry)) (now (keys .entry)) (now (statuses .entry)) n o)
         (senderIn (tableOf (now (table .entry))) d) (senderIn (tableOf (now (table .entry))) d .state)
         ≡ does (effectIn (tableOf (now (table .entry))) r)) ⌝ }
@@ -170,7 +170,13 @@ pub fn effect_of(
             change: Change::None,
             sender: d,
         },
-        State::Working => job_step(table, d, start, n, count, channels, keys, statuses),
-        State::Blocked => blocked_step(table, d, n, channels, statuses, matched, wakers),
+        State::Working => {
+            let units = boards::units(links);
+            job_step(table, d, start, n, count, channels, keys, units, statuses)
+        }
+        State::Blocked => {
+            let matched = boards::matched(links);
+            blocked_step(table, d, n, channels, statuses, matched, boards::wakers(links))
+        }
     }
 }

@@ -22,10 +22,10 @@ use Rattle.steps.proofs.job_step.Statement.{statement}
 use Rattle.steps.proofs.job_step.Tie as tie
 
 -- the start of the function, from the read of the subject's channel and from the match on the phase
-abbrev entry : tie.After-shared-slice-known5 → tie.Start
-entry c = c .before .before .before .before .before .before .before
+abbrev entry : tie.After-shared-slice-known6 → tie.Start
+entry c = c .before .before .before .before .before .before .before .before
 
-abbrev start : tie.After-shared-slice-known6 → tie.Start
+abbrev start : tie.After-shared-slice-known7 → tie.Start
 start c = entry (c .before)
 
 abbrev tab : tie.Start → Table
@@ -42,11 +42,11 @@ abbrev ready : tie.Start → Board
 ready s = board s (s .pre .1 .0 .others)
 
 subject-in : (s : tie.Start) → s .args .d .job .subject < s .args .n
-subject-in s = L.subject-in _ _ _ _ _ _ _ (s .pre .1 .0) (s .pre .0 .1)
+subject-in s = L.subject-in _ _ _ _ _ _ _ _ (s .pre .1 .0) (s .pre .0 .1)
 
 place : (s : tie.Start) (p : DP.Phase) → s .args .d .job .phase ≡ p
     → PlaceOk (tab s) (ready s) (jobIn (tab s) (s .args .d .job)) (phaseIn p)
-place s p e = L.place _ _ _ _ _ _ _ (s .pre .1 .0) (s .pre .0 .1) p e
+place s p e = L.place _ _ _ _ _ _ _ _ (s .pre .1 .0) (s .pre .0 .1) p e
 
 -- a message is chosen for each member
 all : (s : tie.Start) (p : DP.Phase) → s .args .d .job .phase ≡ p → chosenBy p (members s) ≡ members s
@@ -65,8 +65,8 @@ sees-asks : (s : tie.Start)
 sees-asks s =
     let r = s .pre .1 .0 in
     let h = subject-in s in (
-      (s .pre .0 .0, omega arith, L.own-in _ _ _ _ _ _ _ r, L.waker-in _ _ _ _ _ _ _ r),
-      ((L.channels-in _ _ _ _ _ _ _ r, L.statuses-in _ _ _ _ _ _ _ r), r .known),
+      (s .pre .0 .0, omega arith, L.own-in _ _ _ _ _ _ _ _ r, L.waker-in _ _ _ _ _ _ _ _ r),
+      ((L.channels-in _ _ _ _ _ _ _ _ r, L.statuses-in _ _ _ _ _ _ _ _ r), r .known),
     )
 
 -- the step of the phase is the step of the job
@@ -85,13 +85,13 @@ shared-slice-read-channel : tie.Need-shared-slice-read-channel
 shared-slice-read-channel c =
     let s = entry c in
     let h = subject-in s in
-    omega (arith, L.channels-in _ _ _ _ _ _ _ (s .pre .1 .0))
+    omega (arith, L.channels-in _ _ _ _ _ _ _ _ (s .pre .1 .0))
 
 shared-slice-read-opened : tie.Need-shared-slice-read-opened
 shared-slice-read-opened c =
     let s = start c in
     let h = subject-in s in
-    omega (arith, L.statuses-in _ _ _ _ _ _ _ (s .pre .1 .0))
+    omega (arith, L.statuses-in _ _ _ _ _ _ _ _ (s .pre .1 .0))
 
 look-step-requires : tie.Need-look-step-requires
 look-step-requires c κs =
@@ -106,8 +106,8 @@ returns c =
     let q = c .before .before in
     let s = start (q .before .before) in
     let g = q .phase .given in
-    λ o em eb. step-is s o (P.Look (g .0 .0)) (g .1)
-    (c .look-step .ensures o)
+    λ o em eb eu. step-is s o (P.Look (g .0 .0)) (g .1)
+    (c .look-step .ensures o eu)
 
 is-pending-requires : tie.Need-is-pending-requires
 is-pending-requires c κs =
@@ -116,9 +116,9 @@ is-pending-requires c κs =
     let g = q .phase2 .given in
     let p = place s (P.Claim (g .0 .0)) (g .1) in
     let l = few s (p .0 .chord-in) in
-    let h = L.chosen-in _ _ _ _ _ _ _ (s .pre .1 .0) (s .pre .0 .1) (all s (P.Claim (g .0 .0)) (g .1) refl) (p .0)
+    let h = L.chosen-in _ _ _ _ _ _ _ _ (s .pre .1 .0) (s .pre .0 .1) (all s (P.Claim (g .0 .0)) (g .1) refl) (p .0)
     (g .0 .0) (p .1) in
-    (omega (arith, p .1), omega (arith, L.statuses-in _ _ _ _ _ _ _ (s .pre .1 .0)))
+    (omega (arith, p .1), omega (arith, L.statuses-in _ _ _ _ _ _ _ _ (s .pre .1 .0)))
 
 claim-step-requires : tie.Need-claim-step-requires
 claim-step-requires c κs =
@@ -133,9 +133,9 @@ returns-2 c =
     let q = c .before .before .before in
     let s = start (q .before .before) in
     let g = q .phase2 .given in
-    λ o em eb. step-is s o (P.Claim (g .0 .0)) (g .1)
+    λ o em eb eu. step-is s o (P.Claim (g .0 .0)) (g .1)
     (c .claim-step .ensures (board s o) (channel-is s o)
-    (L.pending-chosen _ _ _ _ _ _ _ (s .pre .1 .0) (s .pre .0 .1) (all s (P.Claim (g .0 .0)) (g .1) refl)
+    (L.pending-chosen _ _ _ _ _ _ _ _ (s .pre .1 .0) (s .pre .0 .1) (all s (P.Claim (g .0 .0)) (g .1) refl)
     (place s (P.Claim (g .0 .0)) (g .1) .0) o (g .0 .0) (place s (P.Claim (g .0 .0)) (g .1) .1)
     ∙ sym (c .before .is-pending .ensures)) em)
 
@@ -152,7 +152,7 @@ returns-3 c =
     let q = c .before .before in
     let s = start (q .before .before) in
     let g = q .phase3 .given in
-    λ o em eb. step-is s o (P.Revert (g .0 .0) (g .0 .1 .0)) (g .1)
+    λ o em eb eu. step-is s o (P.Revert (g .0 .0) (g .0 .1 .0)) (g .1)
     (c .revert-step .ensures (board s o) (channel-is s o))
 
 sees-requires : tie.Need-sees-requires
@@ -168,7 +168,7 @@ consume-step-requires c κs =
       (
         g .1,
         p .1,
-        L.held _ _ _ _ _ _ _ (s .pre .1 .0) (s .pre .0 .1)
+        L.held _ _ _ _ _ _ _ _ (s .pre .1 .0) (s .pre .0 .1)
             (all s (P.Consume (g .0 .0) (g .0 .1 .0)) (g .1) refl) (p .0),
       ),
     )
@@ -180,7 +180,7 @@ returns-4 c =
     let s = start (q .before .before) in
     let g = q .phase4 .given in
     let saw = v .sees .ensures (s .args .keys .now) in
-    λ o em eb. step-is s o (P.Consume (g .0 .0) (g .0 .1 .0)) (g .1)
+    λ o em eb eu. step-is s o (P.Consume (g .0 .0) (g .0 .1 .0)) (g .1)
     (c .consume-step .ensures (s .args .keys .now) (s .args .statuses .now) o
     (saw o .sync-is) (saw o .channel-is) (saw o .consumed-is))
 
@@ -197,8 +197,8 @@ tell-step-requires c κs =
       (s .pre .0 .0, p .0 .chord-in),
       (
         g .1,
-        L.held _ _ _ _ _ _ _ (s .pre .1 .0) (s .pre .0 .1) a (p .0),
-        L.left _ _ _ _ _ _ _ (s .pre .1 .0) (s .pre .0 .1) a (p .0) (g .0 .0) p,
+        L.held _ _ _ _ _ _ _ _ (s .pre .1 .0) (s .pre .0 .1) a (p .0),
+        L.left _ _ _ _ _ _ _ _ (s .pre .1 .0) (s .pre .0 .1) a (p .0) (g .0 .0) p,
       ),
     )
 
@@ -209,7 +209,7 @@ returns-5 c =
     let s = start (q .before .before) in
     let g = q .phase5 .given in
     let saw = v .sees2 .ensures (s .args .keys .now) in
-    λ o em eb. step-is s o (P.Tell (g .0 .0)) (g .1)
+    λ o em eb eu. step-is s o (P.Tell (g .0 .0)) (g .1)
     (c .tell-step .ensures (s .args .keys .now) (s .args .statuses .now) o
     (saw o .sync-is) (saw o .channel-is) (saw o .consumed-is))
 
@@ -226,7 +226,7 @@ returns-6 c =
     let q = c .before in
     let s = start (q .before .before) in
     let g = q .enum-told .given in
-    λ o em eb. step-is s o P.Wake (g .1)
+    λ o em eb eu. step-is s o P.Wake (g .1)
     (c .wake-step .ensures (board s o))
 
 free-step-requires : tie.Need-free-step-requires
@@ -243,7 +243,7 @@ returns-7 c =
     let q = c .before .before in
     let s = start (q .before .before) in
     let g = q .phase6 .given in
-    λ o em eb. step-is s o (P.Free (g .0 .0)) (g .1)
+    λ o em eb eu. step-is s o (P.Free (g .0 .0)) (g .1)
     (c .free-step .ensures (board s o))
 
 sees-requires-3 : tie.Need-sees-requires-3
@@ -265,7 +265,7 @@ returns-8 c =
     let s = start (q .before .before) in
     let g = q .enum-told2 .given in
     let saw = v .sees3 .ensures (s .args .keys .now) in
-    λ o em eb. step-is s o P.Signal (g .1)
+    λ o em eb eu. step-is s o P.Signal (g .1)
     (c .signal-step .ensures (board s o)
     (saw o .sync-is) (saw o .channel-is) (saw o .consumed-is))
 
@@ -279,7 +279,7 @@ returns-9 c =
     let s = start (q .before .before) in
     let g = q .enum-told3 .given in
     let saw = v .sees4 .ensures (s .args .keys .now) in
-    λ o em eb. step-is s o P.PassEnd (g .1)
+    λ o em eb eu. step-is s o P.PassEnd (g .1)
     (c .pass-end-step .ensures (board s o) eb (channel-is s o)
     (R.open-read _ _ _ o _ _ (subject-in s))
     (saw o .sync-is) (saw o .channel-is) (saw o .consumed-is))
@@ -289,7 +289,7 @@ returns-10 c =
     let q = c .before .before in
     let s = start (q .before .before) in
     let g = q .phase7 .given in
-    λ o em eb. step-is s o (P.Backoff (g .0 .0)) (g .1)
+    λ o em eb eu. step-is s o (P.Backoff (g .0 .0)) (g .1)
     (c .backoff-step .ensures (board s o) (channel-is s o))
 
 pub job-step-spec : {M : Type 1} → statement M
