@@ -42,10 +42,10 @@ pub match-by : {ch ch′ me me′ : List ℕ} (t : Table) (k : ℕ) {C : MB.Boar
 match-by t k e f p = rw (← e, ← f) p
 
 -- a message's columns likewise
-pub message-by : {ch ch′ pr pr′ st st′ ma ma′ wa wa′ : List ℕ} (k : List ℤ) (n : ℕ) {r : MB.Message} → ch ≡ ch′
-    → pr ≡ pr′ → st ≡ st′ → ma ≡ ma′ → wa ≡ wa′ → r ≡ messageIn (columnsOf ch pr k st ma wa) n
-    → r ≡ messageIn (columnsOf ch′ pr′ k st′ ma′ wa′) n
-message-by k n a b c d e p = rw (← a, ← b, ← c, ← d, ← e) p
+pub message-by : {ch ch′ pr pr′ st st′ ma ma′ wa wa′ us us′ : List ℕ} (k : List ℤ) (n : ℕ) {r : MB.Message} → ch ≡ ch′
+    → pr ≡ pr′ → st ≡ st′ → ma ≡ ma′ → wa ≡ wa′ → us ≡ us′ → r ≡ messageIn (columnsOf ch pr k st ma wa us) n
+    → r ≡ messageIn (columnsOf ch′ pr′ k st′ ma′ wa′ us′) n
+message-by k n a b c d e f p = rw (← a, ← b, ← c, ← d, ← e, ← f) p
 
 module _ (s : List ℕ) (l : Lists) (z : refusalOf s (heldIn l) ≡ 0) where
   pub passed : Accepted s l

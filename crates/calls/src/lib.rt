@@ -9,7 +9,7 @@ ghost use Rattle.columns.specs.Columns.{Columns, columnsOf, messageIn};
 ghost use Rattle.columns.specs.MatchColumns.{MatchColumns};
 ghost use Rattle.boards.specs.Boards.{boardIn};
 ghost use Rattle.boards.specs.Layout.{boardLen, bytesLen, linksLen, keysLen, centsLen, lists, channelsIn};
-ghost use Rattle.boards.specs.Layout.{statusesIn, matchedIn, wakersIn};
+ghost use Rattle.boards.specs.Layout.{statusesIn, matchedIn, wakersIn, unitsIn};
 ghost use Rattle.rows.specs.Decoded.{boardFrom};
 ghost use Rattle.refusals.specs.Held.{heldIn};
 ghost use Rattle.refusals.specs.Calls.{refusalOf};
@@ -75,7 +75,7 @@ fn one_call(
     numbers: &[u32],
     amounts: &[i64],
 ) -> Said
-    requires { ⌜ (length (now calls) ≡ 3) × (length (now numbers) ≡ 2) × (length (now amounts) ≡ 1) ⌝ }
+    requires { ⌜ (length (now calls) ≡ 4) × (length (now numbers) ≡ 2) × (length (now amounts) ≡ 1) ⌝ }
     ensures { λ r. ⌜ Calls (now (table .entry))
         (lists (now (board .entry)) (now (bytes .entry)) (now (links .entry)) (now (keys .entry)) (now (cents .entry)))
         (callAt (callRows (now (calls .entry)) (now (numbers .entry)) (now (amounts .entry))) 0) (saidIn r)
@@ -124,7 +124,7 @@ pub fn add(
         links,
         keys,
         cents,
-        &[1, i, x.channel],
+        &[1, i, x.channel, x.unit],
         &[x.property, x.day],
         &[amount],
     )
@@ -152,7 +152,7 @@ pub fn step(
         links,
         keys,
         cents,
-        &[0, i, 0],
+        &[0, i, 0, 0],
         &[0, 0],
         &[0],
     )
@@ -303,6 +303,7 @@ fn no_message() -> MessageRead
         property: 0,
         cents: 0,
         day: 0,
+        unit: 0,
         status: 0,
         matched: 0,
         waker: 0,
@@ -315,7 +316,7 @@ fn message_in(bytes: &[u8], links: &[u16], keys: &[u32], cents: &[i64], n: u16) 
     requires { ⌜ (length (now keys) ≡ keysLen) × (length (now cents) ≡ centsLen) ⌝ }
     ensures { λ r. ⌜ messageOf r ≡ messageIn (columnsOf (channelsIn (now (bytes .entry)))
         (now (keys .entry)) (now (cents .entry)) (statusesIn (now (bytes .entry)))
-        (matchedIn (now (links .entry))) (wakersIn (now (links .entry)))) n ⌝ }
+        (matchedIn (now (links .entry))) (wakersIn (now (links .entry))) (unitsIn (now (links .entry)))) n ⌝ }
     ensures { λ r. ⌜ r .status ≡ getD (statusesIn (now (bytes .entry))) n 0 ⌝ }
 {
     reads::message_read(
@@ -326,6 +327,7 @@ fn message_in(bytes: &[u8], links: &[u16], keys: &[u32], cents: &[i64], n: u16) 
         boards::statuses(bytes),
         boards::matched(links),
         boards::wakers(links),
+        boards::units(links),
     )
 }
 

@@ -56,6 +56,7 @@ pub record Wrote (c c′ : Columns) (n : ℕ) (x : Sent) : Type 0 where
   pub statuses : c′ .statuses ≡ set (c .statuses) n 0
   pub matched : c′ .matched ≡ set (c .matched) n 0
   pub wakers : c′ .wakers ≡ set (c .wakers) n 0
+  pub units : c′ .units ≡ set (c .units) n (x .unit)
 
 module _ (s : List ℕ) (h : Held) (i : ℕ) (x : Sent) (z : refusalOf s h ≡ 0) where
   pub add-refused : (f : ℕ) → f ≡ addRefusal (tableOf s) (boardOf s h) i x → f ≢ 0
@@ -86,6 +87,7 @@ module _ (s : List ℕ) (h : Held) (i : ℕ) (x : Sent) (z : refusalOf s h ≡ 0
           statuses-len = long (o .statuses) _ n 0 (w .statuses) (l .statuses-len);
           matched-len = long (o .matched) _ n 0 (w .matched) (l .matched-len);
           wakers-len = long (o .wakers) _ n 0 (w .wakers) (l .wakers-len);
+          units-len = long (o .units) _ n (x .unit) (w .units) (l .units-len);
           chords-len = l .chords-len;
           messages-len = l .messages-len;
         }
@@ -103,6 +105,7 @@ module _ (s : List ℕ) (h : Held) (i : ℕ) (x : Sent) (z : refusalOf s h ≡ 0
       statuses = past (o .statuses) _ n 0 (w .statuses) (b′ .messages) q;
       matched = past (o .matched) _ n 0 (w .matched) (b′ .messages) q;
       wakers = past (o .wakers) _ n 0 (w .wakers) (b′ .messages) q;
+      units = past (o .units) _ n (x .unit) (w .units) (b′ .messages) q;
       chords = refl;
       messages = refl;
       recorded = refl;

@@ -122,8 +122,7 @@ fn step_move(
         boards::channels(bytes),
         keys,
         boards::statuses(bytes),
-        boards::matched(links),
-        boards::wakers(links),
+        links,
     );
     let said = e.said;
     let sender = e.sender;
@@ -137,6 +136,7 @@ fn step_move(
             property: 0,
             cents: 0,
             day: 0,
+            unit: 0,
         },
         change: change,
     }

@@ -43,6 +43,7 @@ beyond-then h g i p q =
       statuses = q .statuses ∙ same-on _ n _ _ l (p .statuses);
       matched = q .matched ∙ same-on _ n _ _ l (p .matched);
       wakers = q .wakers ∙ same-on _ n _ _ l (p .wakers);
+      units = q .units ∙ same-on _ n _ _ l (p .units);
       chords = q .chords ∙ same-on _ (i .board .matches) _ _ m (p .chords);
       messages = q .messages
           ∙ same-on (8 * g .board .matches) (8 * i .board .matches) _ _ (omega (arith, m)) (p .messages);

@@ -15,8 +15,8 @@ use Rattle.columns.specs.Columns.{listFrom}
 use Rattle.boards.specs.Calls.{Held}
 use Rattle.refusals.specs.Calls.{boardOf, refusalOf, Beyond, callerOf, rowAt, Same-row, Plays}
 
--- the lent calls, a row each: of `calls` the kind, the sender and the channel, of `numbers` the property
--- and the day
+-- the lent calls, a row each: of `calls` the kind, the sender, the channel and the unit, of `numbers` the property and
+-- the day
 pub record CallRows : Type 0 where
   pub calls : List ℕ
   pub numbers : List ℕ
@@ -31,13 +31,14 @@ callsLen c = length (c .amounts)
 -- kind 0 is a step, any other an add
 unfoldable pub callAt : CallRows → ℕ → Call
 callAt c k =
-    pick (eqb (getD (c .calls) (3 * k) 0) 0) (steps (getD (c .calls) (3 * k + 1) 0))
-    (adds (getD (c .calls) (3 * k + 1) 0)
+    pick (eqb (getD (c .calls) (4 * k) 0) 0) (steps (getD (c .calls) (4 * k + 1) 0))
+    (adds (getD (c .calls) (4 * k + 1) 0)
     (record {
-      channel = getD (c .calls) (3 * k + 2) 0;
+      channel = getD (c .calls) (4 * k + 2) 0;
       property = getD (c .numbers) (2 * k) 0;
       cents = getD (c .amounts) k (pos 0);
       day = getD (c .numbers) (2 * k + 1) 0;
+      unit = getD (c .calls) (4 * k + 3) 0;
     }))
 
 abbrev pub callsOf : CallRows → List Call
@@ -49,7 +50,7 @@ Silent c n j = (k : ℕ) → k < n → j ≢ callerOf (callAt c k)
 
 -- the three lists have as many rows
 unfoldable pub rowsFit : CallRows → Bool
-rowsFit c = allOf (eqb (length (c .calls)) (3 * callsLen c) ∷ eqb (length (c .numbers)) (2 * callsLen c) ∷ [])
+rowsFit c = allOf (eqb (length (c .calls)) (4 * callsLen c) ∷ eqb (length (c .numbers)) (2 * callsLen c) ∷ [])
 
 -- an answer as one number: the word, and beside it the value or the refusal's number, of which one is 0
 unfoldable pub answerNumber : Said → ℕ
@@ -67,7 +68,7 @@ replayNumber s h c room = refusalAfter (refusalOf s h) c room
 
 -- the rows fit, and there is room for the answers
 pub record Fit (c : CallRows) (room : ℕ) : Type 0 where
-  pub calls-len : length (c .calls) ≡ 3 * callsLen c
+  pub calls-len : length (c .calls) ≡ 4 * callsLen c
   pub numbers-len : length (c .numbers) ≡ 2 * callsLen c
   pub answers-all : callsLen c ≤ room
 

@@ -74,11 +74,11 @@ pub fn play(
 
 // The call at a row.
 fn call_at(calls: &[u16], numbers: &[u32], amounts: &[i64], k: usize) -> Call
-    requires { ⌜ (3 * k + 3 ≤ length (now calls)) × (2 * k + 2 ≤ length (now numbers)) × (k < length (now amounts)) ⌝ }
+    requires { ⌜ (4 * k + 4 ≤ length (now calls)) × (2 * k + 2 ≤ length (now numbers)) × (k < length (now amounts)) ⌝ }
     ensures { λ r. ⌜ callIn r
         ≡ callAt (callRows (now (calls .entry)) (now (numbers .entry)) (now (amounts .entry))) k ⌝ }
 {
-    let at = 3 * k;
+    let at = 4 * k;
     let i = calls[at + 1];
     if calls[at] == 0 {
         return Call::Step(i);
@@ -88,6 +88,7 @@ fn call_at(calls: &[u16], numbers: &[u32], amounts: &[i64], k: usize) -> Call
         property: numbers[2 * k],
         cents: amounts[k],
         day: numbers[2 * k + 1],
+        unit: calls[at + 3],
     };
     Call::Add(i, x)
 }
@@ -141,5 +142,5 @@ pub fn rows_fit(calls: &[u16], numbers: &[u32], amounts: &[i64]) -> bool
     ensures { λ r. ⌜ r ≡ rowsFit (callRows (now (calls .entry)) (now (numbers .entry)) (now (amounts .entry))) ⌝ }
 {
     let n = amounts.len();
-    (calls.len() == 3 * n) & (numbers.len() == 2 * n)
+    (calls.len() == 4 * n) & (numbers.len() == 2 * n)
 }

@@ -46,6 +46,7 @@ lengths-ok c m l =
       l .statuses-len,
       l .matched-len,
       l .wakers-len,
+      l .units-len,
       l .chords-len,
       l .messages-len,
     )
@@ -74,6 +75,7 @@ module _ (s : List ℕ) (h : Held) where
     statuses = refl;
     matched = refl;
     wakers = refl;
+    units = refl;
     chords = refl;
     messages = refl;
     recorded = refl;

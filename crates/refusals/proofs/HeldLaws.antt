@@ -28,6 +28,7 @@ columns-sized l n = record {
   statuses-len = length-part 1024 1024 (l .bytes) (omega (arith, n .bytes-len));
   matched-len = length-part 0 1024 (l .links) (omega (arith, n .links-len));
   wakers-len = length-part 1024 1024 (l .links) (omega (arith, n .links-len));
+  units-len = length-part 10240 1024 (l .links) (omega (arith, n .links-len));
   chords-len = length-part 2048 1024 (l .bytes) (omega (arith, n .bytes-len));
   messages-len = length-part 2048 8192 (l .links) (omega (arith, n .links-len));
 }

@@ -50,6 +50,7 @@ held-once s l m a b e =
     (from-part _ _ 0 1024 (ap (λ (h : Held). h .columns .matched) same)
     (from-part _ _ 1024 1024 (ap (λ (h : Held). h .columns .wakers) same)
     (from-part _ _ 2048 8192 (ap (λ (h : Held). h .matches .messages) same)
-    (past-ends (l .links) (m .links) 10240 (omega (arith, x .links-len)) (omega (arith, y .links-len))))))
+    (from-part _ _ 10240 1024 (ap (λ (h : Held). h .columns .units) same)
+    (past-ends (l .links) (m .links) 11264 (omega (arith, x .links-len)) (omega (arith, y .links-len)))))))
     (ap (λ (h : Held). h .columns .keys) same)
     (ap (λ (h : Held). h .columns .cents) same)

@@ -29,7 +29,8 @@ module _ (c : Columns) (m : MatchColumns) where
       let e4 = both {t = eqb (length (c .statuses)) 1024} (e3 .1) in
       let e5 = both {t = eqb (length (c .matched)) 1024} (e4 .1) in
       let e6 = both {t = eqb (length (c .wakers)) 1024} (e5 .1) in
-      let e7 = both {t = eqb (length (m .chords)) 1024} (e6 .1) in
+      let e7 = both {t = eqb (length (c .units)) 1024} (e6 .1) in
+      let e8 = both {t = eqb (length (m .chords)) 1024} (e7 .1) in
       record {
         channels-len = eqb-true _ _ (e1 .0);
         keys-len = eqb-true _ _ (e2 .0);
@@ -37,8 +38,9 @@ module _ (c : Columns) (m : MatchColumns) where
         statuses-len = eqb-true _ _ (e4 .0);
         matched-len = eqb-true _ _ (e5 .0);
         wakers-len = eqb-true _ _ (e6 .0);
-        chords-len = eqb-true _ _ (e7 .0);
-        messages-len = eqb-true _ _ (e7 .1);
+        units-len = eqb-true _ _ (e7 .0);
+        chords-len = eqb-true _ _ (e8 .0);
+        messages-len = eqb-true _ _ (e8 .1);
       }
 
 module _ (s : List ℕ) (b : HeldBoard) (c : Columns) (m : MatchColumns) (e : boardRefusal s b c m ≡ 0) where

@@ -47,6 +47,7 @@ pub record Beyond (h h′ : Held) : Type 0 where
   pub statuses : SameFrom (h′ .board .messages) (h′ .columns .statuses) (h .columns .statuses)
   pub matched : SameFrom (h′ .board .messages) (h′ .columns .matched) (h .columns .matched)
   pub wakers : SameFrom (h′ .board .messages) (h′ .columns .wakers) (h .columns .wakers)
+  pub units : SameFrom (h′ .board .messages) (h′ .columns .units) (h .columns .units)
   pub chords : SameFrom (h′ .board .matches) (h′ .matches .chords) (h .matches .chords)
   pub messages : SameFrom (8 * h′ .board .matches) (h′ .matches .messages) (h .matches .messages)
   pub recorded : SameTo (8 * h .board .matches) (h′ .matches .messages) (h .matches .messages)

@@ -23,6 +23,7 @@ lentOk c m =
     eqb (length (c .statuses)) 1024 ∷
     eqb (length (c .matched)) 1024 ∷
     eqb (length (c .wakers)) 1024 ∷
+    eqb (length (c .units)) 1024 ∷
     eqb (length (m .chords)) 1024 ∷
     eqb (length (m .messages)) 8192 ∷ [])
 
@@ -45,5 +46,6 @@ pub record Lengths (c : Columns) (m : MatchColumns) : Type 0 where
   pub statuses-len : length (c .statuses) ≡ 1024
   pub matched-len : length (c .matched) ≡ 1024
   pub wakers-len : length (c .wakers) ≡ 1024
+  pub units-len : length (c .units) ≡ 1024
   pub chords-len : length (m .chords) ≡ 1024
   pub messages-len : length (m .messages) ≡ 8192

@@ -11,7 +11,7 @@ use Rattle.columns.specs.MatchColumns.{MatchColumns}
 use Rattle.boards.specs.Boards.{HeldBoard}
 use Rattle.boards.specs.declared.Sent as DS
 use Rattle.boards.specs.Calls.{held}
-use Rattle.boards.specs.Layout.{Lists, lists, columnsIn, matchesIn, statusesAt, wakersAt, Sized}
+use Rattle.boards.specs.Layout.{Lists, lists, columnsIn, matchesIn, statusesAt, wakersAt, unitsAt, Sized}
 use Rattle.boards.proofs.PartLaws.{set-here, set-before, set-after}
 use Rattle.rows.specs.Decoded.{boardFrom}
 use Rattle.refusals.specs.Held.{heldOf}
@@ -28,7 +28,7 @@ module _ (n : ℕ) (x : DS.Sent) where
   addedBytes u b = putIf u (putIf u b n (x .channel)) (statusesAt + n) 0
 
   abbrev pub addedLinks : Bool → List ℕ → List ℕ
-  addedLinks u w = putIf u (putIf u w n 0) (wakersAt + n) 0
+  addedLinks u w = putIf u (putIf u (putIf u w n 0) (wakersAt + n) 0) (unitsAt + n) (x .unit)
 
   abbrev pub addedKeys : Bool → List ℕ → List ℕ
   addedKeys u ks = putIf u (putIf u ks n (x .property)) (daysAt + n) (x .day)
@@ -44,7 +44,7 @@ module _ (n : ℕ) (x : DS.Sent) where
   columnsWith u c =
       columnsOf (putIf u (c .channels) n (x .channel)) (addedKeys u (c .keys))
       (putIf u (c .cents) n (x .cents)) (putIf u (c .statuses) n 0) (putIf u (c .matched) n 0)
-      (putIf u (c .wakers) n 0)
+      (putIf u (c .wakers) n 0) (putIf u (c .units) n (x .unit))
 
   pub added-columns : (u : Bool) (l : Lists) → (u ≡ true → n < 1024)
       → columnsIn (added u l) ≡ columnsWith u (columnsIn l)
@@ -57,10 +57,15 @@ module _ (n : ℕ) (x : DS.Sent) where
         set-here 0 1024 b n n (x .channel) (omega arith) h,
         set-here 1024 1024 (set b n (x .channel)) (1024 + n) n 0 refl h,
         set-before 1024 1024 b n (x .channel) h,
+        set-after 0 1024 (set (set w n 0) (1024 + n) 0) (10240 + n) (x .unit) (omega arith),
         set-after 0 1024 (set w n 0) (1024 + n) 0 (omega arith),
         set-here 0 1024 w n n 0 (omega arith) h,
+        set-after 1024 1024 (set (set w n 0) (1024 + n) 0) (10240 + n) (x .unit) (omega arith),
         set-here 1024 1024 (set w n 0) (1024 + n) n 0 refl h,
         set-before 1024 1024 w n 0 h,
+        set-here 10240 1024 (set (set w n 0) (1024 + n) 0) (10240 + n) n (x .unit) refl h,
+        set-before 10240 1024 (set w n 0) (1024 + n) 0 (omega arith),
+        set-before 10240 1024 w n 0 (omega arith),
       )
   added-columns false l room = refl
 
@@ -72,6 +77,7 @@ module _ (n : ℕ) (x : DS.Sent) where
       rw (
         set-before 2048 1024 (set b n (x .channel)) (1024 + n) 0 (omega arith),
         set-before 2048 1024 b n (x .channel) (omega arith),
+        set-after 2048 8192 (set (set w n 0) (1024 + n) 0) (10240 + n) (x .unit) (omega arith),
         set-before 2048 8192 (set w n 0) (1024 + n) 0 (omega arith),
         set-before 2048 8192 w n 0 (omega arith),
       )
@@ -81,7 +87,8 @@ module _ (n : ℕ) (x : DS.Sent) where
   added-sized u l s = record {
     bytes-len = length-put u (putIf u (l .bytes) n (x .channel)) (1024 + n) 0
         ∙ length-put u (l .bytes) n (x .channel) ∙ s .bytes-len;
-    links-len = length-put u (putIf u (l .links) n 0) (1024 + n) 0 ∙ length-put u (l .links) n 0 ∙ s .links-len;
+    links-len = length-put u (putIf u (putIf u (l .links) n 0) (1024 + n) 0) (10240 + n) (x .unit)
+        ∙ length-put u (putIf u (l .links) n 0) (1024 + n) 0 ∙ length-put u (l .links) n 0 ∙ s .links-len;
     keys-len = length-put u (putIf u (l .keys) n (x .property)) (daysAt + n) (x .day)
         ∙ length-put u (l .keys) n (x .property) ∙ s .keys-len;
     cents-len = length-put u (l .cents) n (x .cents) ∙ s .cents-len;

@@ -26,7 +26,7 @@ module _ (b : HeldBoard) (e : DE.Effect) where
   abbrev pub columnsAfter : Columns → Columns
   columnsAfter c =
       columnsOf (c .channels) (c .keys) (c .cents) (statusesBy (e .change) (c .statuses))
-      (matchedBy (e .change) (c .matched)) (wakersBy (e .change) (c .wakers))
+      (matchedBy (e .change) (c .matched)) (wakersBy (e .change) (c .wakers)) (c .units)
 
   abbrev pub matchColumnsAfter : MatchColumns → MatchColumns
   matchColumnsAfter m =

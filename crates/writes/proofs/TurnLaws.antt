@@ -16,7 +16,7 @@ use Rattle.boards.specs.Parts.{splice}
 use Rattle.boards.specs.Layout.{Lists, lists, chordsIn, membersIn, bytesLen, linksLen}
 use Rattle.boards.specs.Layout.{statusesAt, wakersAt, chordsAt, membersAt}
 use Rattle.boards.proofs.PartLaws.{set-here, set-before, set-after, getD-part, length-part}
-use Rattle.boards.proofs.PartLaws.{splice-here, splice-below, length-splice}
+use Rattle.boards.proofs.PartLaws.{splice-here, splice-below, splice-above, length-splice}
 use Rattle.writes.specs.Writes.{statusBy, matchBy, wakerBy}
 use Rattle.writes.specs.Written.{Written}
 
@@ -43,6 +43,8 @@ module _ (n : ℕ) (u : DU.Turn) (k : ℕ) (j : DJ.Job) (board b w keys : List �
           set-before 1024 1024 w n m h,
           getD-part 0 1024 w n n 0 (omega arith) h,
           getD-part 1024 1024 w (1024 + n) n 0 refl h,
+          set-before 10240 1024 (set w n m) (1024 + n) x (omega arith),
+          set-before 10240 1024 w n m (omega arith),
         );
         matches = rw (
           set-before 2048 1024 b (1024 + n) (statusBy u) (omega arith),
@@ -83,6 +85,7 @@ module _ (n k : ℕ) (j : DJ.Job) (board b w b′ w′ keys : List ℕ) (cents :
           splice-below 2048 1024 cs b′ x cs-len 1024 1024 (omega arith),
           splice-below 2048 8192 ns w′ y ns-len 0 1024 (omega arith),
           splice-below 2048 8192 ns w′ y ns-len 1024 1024 (omega arith),
+          splice-above 2048 8192 ns w′ y ns-len 10240 1024 (omega arith),
         ) (t .columns);
         matches = rw (
           splice-here 2048 1024 cs b′ x cs-len,

@@ -50,6 +50,7 @@ module _ (c : Columns) (k : ℕ) (u : DU.Turn) where
     statuses = set (c .statuses) k (statusBy u);
     matched = set (c .matched) k (matchBy u (getD (c .matched) k 0));
     wakers = set (c .wakers) k (wakerBy u (getD (c .wakers) k 0));
+    units = c .units;
   }
 
   other : (i : ℕ) → i ≢ k → messageIn turnedColumns i ≡ messageIn c i

@@ -49,7 +49,8 @@ movedHeld h i m =
     (putIf (m .adds) (h .columns .cents) n (m .sent .cents))
     (statusesBy (m .change) (putIf (m .adds) (h .columns .statuses) n 0))
     (matchedBy (m .change) (putIf (m .adds) (h .columns .matched) n 0))
-    (wakersBy (m .change) (putIf (m .adds) (h .columns .wakers) n 0)))
+    (wakersBy (m .change) (putIf (m .adds) (h .columns .wakers) n 0))
+    (putIf (m .adds) (h .columns .units) n (m .sent .unit)))
     (matchesOf (chordsBy (m .change) k (m .sender .job .chord) (h .matches .chords))
     (matchMessagesBy (m .change) k (m .sender .job .chosen) (h .matches .messages)))
 

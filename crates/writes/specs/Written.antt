@@ -13,7 +13,7 @@ use Rattle.writes.specs.Writes.{statusesBy, matchedBy, wakersBy, chordsB
 abbrev pub columnsAfter : DG.Change → Columns → Columns
 columnsAfter g c =
     columnsOf (c .channels) (c .keys) (c .cents) (statusesBy g (c .statuses)) (matchedBy g (c .matched))
-    (wakersBy g (c .wakers))
+    (wakersBy g (c .wakers)) (c .units)
 
 abbrev pub matchesWith : DG.Change → ℕ → DJ.Job → MatchColumns → MatchColumns
 matchesWith g k j m = matchesOf (chordsBy g k (j .chord) (m .chords)) (matchMessagesBy g k (j .chosen) (m .messages))

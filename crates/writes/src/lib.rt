@@ -10,7 +10,7 @@ ghost use lib.Seq.{paste};
 ghost use Rattle.columns.specs.Columns.{daysAt, Passed};
 ghost use Rattle.boards.specs.Parts.{splice};
 ghost use Rattle.boards.specs.Layout.{bytesLen, linksLen, keysLen, centsLen, statusesAt, wakersAt};
-ghost use Rattle.boards.specs.Layout.{chordsAt, membersAt, statusesIn, chordsIn, membersIn, lists, Sized};
+ghost use Rattle.boards.specs.Layout.{chordsAt, membersAt, unitsAt, statusesIn, chordsIn, membersIn, lists, Sized};
 ghost use Rattle.rows.specs.Numbers.{encodes};
 ghost use Rattle.rows.specs.Decoded.{boardFrom};
 ghost use Rattle.refusals.specs.Held.{heldOf};
@@ -48,7 +48,7 @@ fn put_message(
     requires { ⌜ (n < 1024) × (x .channel ≤ 255) × (length (now bytes) ≡ bytesLen) × (length (now links) ≡ linksLen)
         × (length (now keys) ≡ keysLen) × (length (now cents) ≡ centsLen) ⌝ }
     ensures { λ _. ⌜ (now (bytes .exit) ≡ set (set (now (bytes .entry)) n (x .channel)) (statusesAt + n) 0)
-        × (now (links .exit) ≡ set (set (now (links .entry)) n 0) (wakersAt + n) 0)
+        × (now (links .exit) ≡ set (set (set (now (links .entry)) n 0) (wakersAt + n) 0) (unitsAt + n) (x .unit))
         × (now (keys .exit) ≡ set (set (now (keys .entry)) n (x .property)) (daysAt + n) (x .day))
         × (now (cents .exit) ≡ set (now (cents .entry)) n (x .cents)) ⌝ }
 {
@@ -57,6 +57,7 @@ fn put_message(
     bytes[boards::STATUSES + k] = 0;
     links[k] = 0;
     links[boards::WAKERS + k] = 0;
+    links[boards::UNITS + k] = x.unit;
     keys[k] = x.property;
     keys[columns::DAYS + k] = x.day;
     let amount = x.cents;
@@ -77,7 +78,8 @@ fn put_added(
         × (length (now cents) ≡ centsLen) ⌝ }
     ensures { λ _. ⌜ (now (bytes .exit)
         ≡ putIf (m .adds) (putIf (m .adds) (now (bytes .entry)) n (m .sent .channel)) (statusesAt + n) 0)
-        × (now (links .exit) ≡ putIf (m .adds) (putIf (m .adds) (now (links .entry)) n 0) (wakersAt + n) 0)
+        × (now (links .exit) ≡ putIf (m .adds) (putIf (m .adds) (putIf (m .adds) (now (links .entry)) n 0) (wakersAt + n) 0)
+        (unitsAt + n) (m .sent .unit))
         × (now (keys .exit)
         ≡ putIf (m .adds) (putIf (m .adds) (now (keys .entry)) n (m .sent .property)) (daysAt + n) (m .sent .day))
         × (now (cents .exit) ≡ putIf (m .adds) (now (cents .entry)) n (m .sent .cents)) ⌝ }
@@ -166,7 +168,7 @@ fn record_match(k: u16, chord: u8, chosen: [u16; 8], bytes: &mut [u8], links: &m
 {
     put_match(
         &mut bytes[boards::CHORDS..boards::BYTES_LEN],
-        &mut links[boards::MEMBERS..boards::LINKS_LEN],
+        &mut links[boards::MEMBERS..boards::UNITS],
         k,
         chord,
         chosen,

@@ -16,7 +16,7 @@ use Rattle.model.specs.Sound.{noneShared}
 use Rattle.model.specs.Tables.{Table}
 use Rattle.columns.specs.Columns.{columnsOf}
 use Rattle.state.specs.Views.{senderIn}
-use Rattle.boards.specs.Layout.{Lists, lists, columnsIn, matchesIn}
+use Rattle.boards.specs.Layout.{Lists, lists, columnsIn, matchesIn, unitsIn}
 use Rattle.soundness.specs.Tests.{messagesOk}
 use Rattle.senders.specs.Seen.{Seen}
 use Rattle.rows.specs.Decoded.{boardFrom}
@@ -52,9 +52,9 @@ module _ (s : tie.Start) (keys : List ℕ) where
       && noneShared (map (senderIn (table s)) (sendersIn (numbers s)))))))
   in-order = numbers-sound (table s) (numbers s) (columnsIn lent) (matchesIn lent) (s .pre .0 .1)
 
-same-columns : {ch ch′ st st′ ma ma′ wa wa′ : List ℕ} (p : List ℕ) (k : List ℤ) → ch ≡ ch′ → st ≡ st′ → ma ≡ ma′
-    → wa ≡ wa′ → columnsOf ch p k st ma wa ≡ columnsOf ch′ p k st′ ma′ wa′
-same-columns p k e f g h = rw (e, f, g, h)
+same-columns : {ch ch′ st st′ ma ma′ wa wa′ : List ℕ} (p us : List ℕ) (k : List ℤ) → ch ≡ ch′ → st ≡ st′ → ma ≡ ma′
+    → wa ≡ wa′ → columnsOf ch p k st ma wa us ≡ columnsOf ch′ p k st′ ma′ wa′ us
+same-columns p us k e f g h = rw (e, f, g, h)
 
 -- where the function starts, and where the counts are tested
 abbrev start : tie.Else1 → tie.Start
@@ -84,9 +84,10 @@ messages-say c keys =
     let w = c .before in
     let m = w .before in
     let u = m .before in
-    let e = same-columns keys (s .args .cents .now) (u .before .channels .ensures .0)
+    let us = unitsIn (s .args .links .now) in
+    let e = same-columns keys us (s .args .cents .now) (u .before .channels .ensures .0)
     (u .statuses .ensures .0) (m .matched .ensures .0) (w .wakers .ensures .0) in
-    sym (c .messages-ok .ensures keys (board s keys) (v .count) (v .matches-count)
+    sym (c .messages-ok .ensures keys us (board s keys) (v .count) (v .matches-count)
     ∙ ap (λ x. messagesOk (table s) (board s keys) x (getD (numbers s) 0 0)) e)
 
 matches-say : (c : tie.After-matches-ok) (keys : List ℕ)

@@ -15,6 +15,11 @@ slice-write-links-2 c =
     let a = c .before .args in
     lt-length-set (a .links .now) (a .n) _ (search needs)
 
+slice-write-links-3 : tie.Need-slice-write-links-3
+slice-write-links-3 c =
+    let a = c .before .args in
+    lt-length-set (set (a .links .now) (a .n) _) _ _ (lt-length-set (a .links .now) (a .n) _ (search needs))
+
 slice-write-keys-2 : tie.Need-slice-write-keys-2
 slice-write-keys-2 c =
     let a = c .before .args in
