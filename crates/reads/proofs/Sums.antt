@@ -39,7 +39,7 @@ sum-fits a b p q = record { sfits = omega (arith, sum-mag a b) }
 
 -- what messages were sent, by a list of cents
 abbrev pub sentBy : List ℤ → ℕ → Sent
-sentBy cents n = record { channel = 0; property = 0; cents = getD cents n (pos 0); day = 0 }
+sentBy cents n = record { channel = 0; property = 0; cents = getD cents n (pos 0); day = 0; unit = 0 }
 
 -- sums over messages of equal cents
 pub cents-alike : (t : Table) (f g : ℕ → Sent) (ns : List ℕ)

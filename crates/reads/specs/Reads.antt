@@ -16,7 +16,7 @@ use Rattle.reads.specs.declared.MatchRead as DR
 
 abbrev pub messageOf : DM.MessageRead → Message
 messageOf r = record {
-  sent = record { channel = r .channel; property = r .property; cents = r .cents; day = r .day };
+  sent = record { channel = r .channel; property = r .property; cents = r .cents; day = r .day; unit = r .unit };
   status = statusOf (r .status);
   match = r .matched;
   waker = r .waker;

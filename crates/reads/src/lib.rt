@@ -22,6 +22,7 @@ pub struct MessageRead {
     pub property: u32,
     pub cents: i64,
     pub day: u32,
+    pub unit: u16,
     pub status: u8,
     pub matched: u16,
     pub waker: u16,
@@ -44,11 +45,14 @@ pub fn message_read(
     statuses: &[u8],
     matched: &[u16],
     wakers: &[u16],
+    units: &[u16],
 ) -> MessageRead
     requires { ⌜ (n < length (now channels)) × (daysAt + n < length (now keys)) × (n < length (now cents)) ⌝ }
     requires { ⌜ (n < length (now statuses)) × (n < length (now matched)) × (n < length (now wakers)) ⌝ }
+    requires { ⌜ n < length (now units) ⌝ }
     ensures { λ r. ⌜ messageOf r ≡ messageIn (columnsOf (now (channels .entry)) (now (keys .entry))
-        (now (cents .entry)) (now (statuses .entry)) (now (matched .entry)) (now (wakers .entry))) n ⌝ }
+        (now (cents .entry)) (now (statuses .entry)) (now (matched .entry)) (now (wakers .entry))
+        (now (units .entry))) n ⌝ }
     ensures { λ r. ⌜ r .status ≡ getD (now (statuses .entry)) n 0 ⌝ }
 {
     let i = n as usize;
@@ -57,6 +61,7 @@ pub fn message_read(
         property: keys[i],
         cents: cents[i],
         day: keys[columns::DAYS + i],
+        unit: units[i],
         status: statuses[i],
         matched: matched[i],
         waker: wakers[i],

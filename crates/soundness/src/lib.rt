@@ -125,7 +125,7 @@ pub fn messages_ok(
     requires { ⌜ tableRefusal (now table) ≡ 0 ⌝ }
     requires { ⌜ (n ≤ length (now channels)) × (n ≤ length (now cents)) × (n ≤ length (now statuses)) ⌝ }
     requires { ⌜ (n ≤ length (now matched)) × (n ≤ length (now wakers)) ⌝ }
-    ensures { λ r. ⌜ ((keys : List ℕ) (b : Board) → length (b .messages) ≡ n → length (b .matches) ≡ matches →
+    ensures { λ r. ⌜ ((keys units : List ℕ) (b : Board) → length (b .messages) ≡ n → length (b .matches) ≡ matches →
         r ≡ messagesOk (tableOf (now (table .entry))) b (record {
           channels = now (channels .entry);
           keys = keys;
@@ -133,6 +133,7 @@ pub fn messages_ok(
           statuses = now (statuses .entry);
           matched = now (matched .entry);
           wakers = now (wakers .entry);
+          units = units;
         }) n) ⌝ }
 {
     let k = n as usize;

@@ -15,7 +15,7 @@ matched-ok : (c : tie.After-links-ok)
 matched-ok c = c .links-ok .ensures
 
 returns : tie.Need-returns
-returns c keys b ms ks =
+returns c keys units b ms ks =
     let l = c .before .before in
     let p = l .before .before .before in
     let s = p .before .before .before .before .before .before in
@@ -28,6 +28,7 @@ returns c keys b ms ks =
         statuses = a .statuses .now;
         matched = a .matched .now;
         wakers = a .wakers .now;
+        units = units;
       }) (a .n) (omega arith),
       ms,
       ks,
