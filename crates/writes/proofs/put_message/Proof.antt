@@ -1,6 +1,7 @@
 -- `writes::put_message` meets its contract: each store is within its list.
 use mathlib.Core.Path.{refl}
 use borrow.Author.Needs.{needs}
+use lib.ListN.{set}
 use lib.Seq.{lt-length-set}
 use Rattle.writes.proofs.put_message.Statement.{statement}
 use Rattle.writes.proofs.put_message.Tie as tie
@@ -41,6 +42,9 @@ put-message-spec =
     (λ c. search needs)
     (λ c. search needs)
     slice-write-links-2
+    (λ c. search needs)
+    (λ c. search needs)
+    slice-write-links-3
     (λ c. search needs)
     (λ c. search needs)
     (λ c. search needs)
