@@ -100,6 +100,7 @@ module _ (n k : ℕ) where
         statuses = statusesBy g (c .statuses);
         matched = matchedBy g (c .matched);
         wakers = wakersBy g (c .wakers);
+        units = c .units;
       })
       (record {
         chords = chordsBy g k chord (m .chords);
@@ -115,6 +116,7 @@ module _ (n k : ℕ) where
         statuses-len = p .0 ∙ l .statuses-len;
         matched-len = p .1 ∙ l .matched-len;
         wakers-len = p .2 ∙ l .wakers-len;
+        units-len = l .units-len;
         chords-len = q .0 ∙ l .chords-len;
         messages-len = q .1 ∙ l .messages-len;
       }

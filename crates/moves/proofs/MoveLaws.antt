@@ -80,6 +80,7 @@ module _ (s : List ℕ) (h : Held) (z : refusalOf s h ≡ 0) where
         statuses = omega (arith, full, lent .statuses-len);
         matched = omega (arith, full, lent .matched-len);
         wakers = omega (arith, full, lent .wakers-len);
+        units = omega (arith, full, lent .units-len);
       } in
       let wrote : Wrote o (written o n y) n y = record {
         few = full;
@@ -89,10 +90,11 @@ module _ (s : List ℕ) (h : Held) (z : refusalOf s h ≡ 0) where
         statuses = refl;
         matched = refl;
         wakers = refl;
+        units = refl;
       } in
       add-plays s h i y z (withMessage (h .board) i d) (written o n y) wrote refl refl
       (refusal-is (tableOf s) (h .board) o (h .matches) i y ∙ e)
-      (added-is (tableOf s) (h .board) i y d o (h .matches) room _ _ _ _ _ _ f refl refl refl refl refl refl)
+      (added-is (tableOf s) (h .board) i y d o (h .matches) room _ _ _ _ _ _ _ f refl refl refl refl refl refl refl)
       (others-after G.None (h .board .senders) i d)
 
   pub add-move : (k : ℕ) → n ≡ k → AddMoves k
@@ -134,6 +136,7 @@ module _ (s : List ℕ) (h : Held) (z : refusalOf s h ≡ 0) where
           statuses = a .0;
           matched = a .1;
           wakers = a .2;
+          units = refl;
           chords = b .1;
           messages = b .2;
           recorded = b .3;

@@ -38,17 +38,14 @@ use Rattle.writes.specs.Writes.{Sure, ChordsFit}
 use Rattle.writes.proofs.SureLaws.{in-range-sure}
 
 -- a step by columns that are equal to others
-module _ {ch pr st ch′ pr′ st′ : List ℕ} (a : ch ≡ ch′) (b : pr ≡ pr′) (c : st ≡ st′) where
-  pub ready-by : {t : Table} {n k : ℕ} {d : DD.Sender} → Ready t ch′ pr′ st′ n k d → Ready t ch pr st n k d
-  ready-by r = rw (a, b, c) r
+module _ {ch st ch′ st′ : List ℕ} (pr : List ℕ) (a : ch ≡ ch′) (b : st ≡ st′) where
+  pub ready-by : {t : Table} {us : List ℕ} {n k : ℕ} {d : DD.Sender} → Ready t ch′ pr us st′ n k d
+      → Ready t ch pr us st n k d
+  ready-by r = rw (a, b) r
 
-  module _ {ma wa ma′ wa′ : List ℕ} (e : ma ≡ ma′) (f : wa ≡ wa′) (t : Table) (n : ℕ) (d : Sender) {k : ℕ} {x : Effect}
-    where
-      pub effect-by : ((o : Others) → length (o .matches) ≡ k → o .backoffs ≡ builtinBackoffs → o .matched ≡ ma
-          → o .wakers ≡ wa → stateStep t (boardBy ch pr st n o) d (d .state) ≡ does x)
-          → (o : Others) → length (o .matches) ≡ k → o .backoffs ≡ builtinBackoffs → o .matched ≡ ma′
-          → o .wakers ≡ wa′ → stateStep t (boardBy ch′ pr′ st′ n o) d (d .state) ≡ does x
-      effect-by p = rw (← a, ← b, ← c, ← e, ← f) p
+  pub state-by : (t : Table) (n : ℕ) (o : Others) (d : Sender)
+      → stateStep t (boardBy ch pr st n o) d (d .state) ≡ stateStep t (boardBy ch′ pr st′ n o) d (d .state)
+  state-by t n o d = rw (a, b)
 
 -- d is sender i of the board
 abbrev pub SenderIs : HeldBoard → ℕ → DD.Sender → Type 0
@@ -110,12 +107,13 @@ module _ (s : List ℕ) (b : HeldBoard) (c : Columns) (m : MatchColumns) (e : bo
     cents = c .cents;
     matched = c .matched;
     wakers = c .wakers;
+    units = c .units;
     matches = matchesFrom t m 0 (b .matches);
     senders = map (senderIn t) (b .senders);
     backoffs = builtinBackoffs;
   }
 
-  lent-all : Lent (b .messages) (c .channels) (c .keys) (c .statuses)
+  lent-all : Lent (b .messages) (c .channels) (c .keys) (c .units) (c .statuses)
   lent-all =
       let l = lent-whole s b c m e in
       let f = (messages-few s b c m e) in
@@ -123,6 +121,7 @@ module _ (s : List ℕ) (b : HeldBoard) (c : Columns) (m : MatchColumns) (e : bo
         few = f;
         channels-all = omega (arith, l .channels-len);
         keys-all = omega (arith, l .keys-len);
+        units-all = omega (arith, l .units-len);
         statuses-all = omega (arith, l .statuses-len);
       }
 
@@ -133,7 +132,7 @@ module _ (s : List ℕ) (b : HeldBoard) (c : Columns) (m : MatchColumns) (e : bo
 
   module _ (i : ℕ) (d : DD.Sender) (at : SenderIs b i d) where
     -- what a step of the sender takes for granted
-    pub is-ready : Ready t (c .channels) (c .keys) (c .statuses) (b .messages) (b .matches) d
+    pub is-ready : Ready t (c .channels) (c .keys) (c .units) (c .statuses) (b .messages) (b .matches) d
     is-ready = record {
       others = others;
       counted = length-from (matchIn t m) 0 (b .matches);

@@ -19,8 +19,8 @@ use Rattle.rows.specs.Decoded.{boardFrom}
 use Rattle.rows.proofs.WalkLaws.{all-numbers}
 use Rattle.refusals.specs.Held.{heldOf}
 use Rattle.refusals.specs.Calls.{boardOf, refusalOf}
-use Rattle.refusals.proofs.Refusals.{table-accepted, messages-few}
-use Rattle.moves.proofs.StepLaws.{SenderIs, others, ready-by, effect-by, is-ready, does-it, is-sure}
+use Rattle.refusals.proofs.Refusals.{table-accepted}
+use Rattle.moves.proofs.StepLaws.{SenderIs, others, ready-by, state-by, is-ready, does-it, is-sure}
 use Rattle.moves.proofs.StepLaws.{effect-accepted}
 use Rattle.moves.proofs.MoveLaws.{sender-is, step-move}
 use Rattle.moves.proofs.step_move.Statement.{statement}
@@ -42,8 +42,8 @@ accepted s = s .pre .0 .accepted
 abbrev start : tie.After-sender-at → tie.Start
 start c = c .before .before .before .before .before .before
 
-abbrev caught : tie.After-wakers → tie.After-sender-at
-caught c = c .before .before .before .before .before .before
+abbrev caught : tie.After-statuses → tie.After-sender-at
+caught c = c .before .before .before .before
 
 -- the sender that steps
 is-sender : (c : tie.After-sender-at) → SenderIs (view (start c) .board) (start c .args .i) (c .sender-at .result)
@@ -59,22 +59,10 @@ shared-slice-read-effect-of-2 : tie.Need-shared-slice-read-effect-of-2
 shared-slice-read-effect-of-2 c = omega (arith, numbers (start (c .before .before)))
 
 -- the columns that the step is lent are those of the lists
-columns-are : (c : tie.After-wakers)
+columns-are : (c : tie.After-statuses)
     → let l = lent (start (caught c)) in
-    let m = c .before in
-    let t = m .before in
-    (t .before .channels .result .now ≡ columnsIn l .channels)
-    × (t .statuses .result .now ≡ columnsIn l .statuses)
-    × (m .matched .result .now ≡ columnsIn l .matched)
-    × (c .wakers .result .now ≡ columnsIn l .wakers)
-columns-are c =
-    let m = c .before in
-    let t = m .before in (
-      t .before .channels .ensures .0,
-      t .statuses .ensures .0,
-      m .matched .ensures .0,
-      c .wakers .ensures .0,
-    )
+    (c .before .channels .result .now ≡ columnsIn l .channels) × (c .statuses .result .now ≡ columnsIn l .statuses)
+columns-are c = (c .before .channels .ensures .0, c .statuses .ensures .0)
 
 effect-of-requires : tie.Need-effect-of-requires
 unfolding boardFrom
@@ -83,17 +71,17 @@ effect-of-requires c κs =
     let s = start f in
     let a = s .args in
     let e = columns-are c in
-    let z = accepted s in
-    let few = messages-few _ _ _ _ z in (
-      (table-accepted _ _ _ _ z, ap senderSteps (f .sender-at .ensures) ∙ s .pre .1 .0 .1),
+    let z = accepted s in (
       (
-        ready-by (e .0) refl (e .1)
+        table-accepted _ _ _ _ z,
+        ap senderSteps (f .sender-at .ensures) ∙ s .pre .1 .0 .1,
+        s .pre .0 .sized .links-len,
+      ),
+      (
+        ready-by (a .keys .now) (e .0) (e .1)
             (is-ready _ (view s .board) (view s .columns) (view s .matches) z (a .i) (f .sender-at .result)
             (is-sender f)),
-        (
-          (omega (arith, few, c .before .matched .ensures .1), omega (arith, few, c .wakers .ensures .1)),
-          subst (Passed (a .start) (getD (a .board .now) 0 0)) (sym (e .1)) (s .pre .1 .1),
-        ),
+        subst (Passed (a .start) (getD (a .board .now) 0 0)) (sym (e .1)) (s .pre .1 .1),
       ),
     )
 
@@ -110,17 +98,17 @@ by-effect c =
     let t = s .args .table .now in
     let g = view s in
     let e = columns-are w in
-    effect-by (e .0) refl (e .1) (e .2) (e .3) (tableOf t) (getD (s .args .board .now) 0 0)
-    (senderIn (tableOf t) (caught w .sender-at .result)) (c .effect-of .ensures)
-    (others t (g .board) (g .columns) (g .matches) (accepted s))
-    (length-from (matchIn (tableOf t) (g .matches)) 0 (g .board .matches)) refl refl refl
+    let o = others t (g .board) (g .columns) (g .matches) (accepted s) in
+    sym (state-by (s .args .keys .now) (e .0) (e .1) (tableOf t) (getD (s .args .board .now) 0 0) o
+    (senderIn (tableOf t) (caught w .sender-at .result)))
+    ∙ c .effect-of .ensures o (length-from (matchIn (tableOf t) (g .matches)) 0 (g .board .matches)) refl refl refl refl
 
 eight : (c : tie.After-effect-of) → length (c .effect-of .result .sender .job .chosen) ≡ 8
 eight c = simp length-map at (c .effect-of .ok .1 .1 .1 .1 .0 .1 .1 .1 .1 .1 .1 .1 .1 .0 .1 .1 .1 .1 .1 .0 .1 .0 .1)
 
 -- the message of a move that adds none
 abbrev none : DS.Sent
-none = record { channel = 0; property = 0; cents = pos 0; day = 0 }
+none = record { channel = 0; property = 0; cents = pos 0; day = 0; unit = 0 }
 
 returns : tie.Need-returns
 unfolding boardFrom
@@ -152,8 +140,6 @@ step-move-spec =
     (λ c κs. search needs)
     shared-slice-read-effect-of
     shared-slice-read-effect-of-2
-    (λ c κs. search needs)
-    (λ c κs. search needs)
     (λ c κs. search needs)
     (λ c κs. search needs)
     effect-of-requires
