@@ -3,3 +3,4 @@
 pub mod Walks
 pub mod Headers
 pub mod Places
+pub mod Equalities

@@ -7,3 +7,8 @@ abbrev pub equalityIn : DE.Equality → Equality
 equalityIn E.Any = any
 equalityIn E.Property = same-property
 equalityIn E.Unit = same-unit
+
+abbrev pub equalityFor : Equality → DE.Equality
+equalityFor any = E.Any
+equalityFor same-property = E.Property
+equalityFor same-unit = E.Unit

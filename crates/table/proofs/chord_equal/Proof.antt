@@ -8,8 +8,11 @@ returns : tie.Need-returns
 returns c =
     let b = c .before in
     let s = b .before .before in
-    rw (equal-is (s .args .table .now) (s .args .chord) (s .pre .0) (s .pre .1), c .equality-of .ensures,
-      b .entry-byte .ensures)
+    rw (
+      equal-is (s .args .table .now) (s .args .chord) (s .pre .0) (s .pre .1),
+      c .equality-of .ensures,
+      b .entry-byte .ensures,
+    )
 
 pub chord-equal-spec : {M : Type 1} → statement M
 chord-equal-spec = tie.close (tie.spec (λ c κs. search needs) (λ c κs. search needs) returns)
