@@ -9,6 +9,7 @@ use Rattle.model.specs.Tables.{Chord, Table, noChord}
 use Rattle.model.specs.Layout.{tableRefusal, tableOf}
 use Rattle.model.proofs.AcceptedChords.{TableOk, table-ok}
 use Rattle.model.proofs.Parts.{map-sets}
+use Rattle.table.proofs.Equalities.{equality-in}
 use Rattle.codec.specs.Views.{firsts, chordIn, tableIn, chordFor, tableFor, emptyChord, tableRead}
 
 pub firsts-front : {A : Type 0} (d : A) (xs ys : List A) → firsts d (length xs) (xs ++ ys) ≡ xs
@@ -20,7 +21,7 @@ firsts-stored d xs ys h = rw (sets-eq xs ys 0 (omega arith), firsts-front)
 
 chord-seen : (c : Chord) → length (c .channels) ≤ 8 → chordIn (chordFor c) ≡ c
 unfolding chordIn chordFor
-chord-seen c h = rw (firsts-stored 0 (c .channels) (replicate 8 0) (rw (length-replicate) h))
+chord-seen c h = rw (firsts-stored 0 (c .channels) (replicate 8 0) (rw (length-replicate) h), equality-in (c .equal))
 
 pub firsts-take : {A : Type 0} (d : A) (n : ℕ) (xs : List A) → n ≤ length xs → firsts d n xs ≡ take n xs
 firsts-take d zero xs h = refl

@@ -1,6 +1,5 @@
 -- The declared table as the model's, and the table that a refused read gives.
 -- A length over its array's is kept as it is, so that the reader's numbers refuse it as they refuse such a count.
-use mathlib.Core.Bool.{false}
 use mathlib.Core.List.{List, [], _∷_, map}
 use Prim.Native.Nat.{ℕ, zero, suc}
 use lib.Dec.{eqb}
@@ -12,6 +11,8 @@ use Rattle.codec.specs.declared.Read as DR
 use Rattle.model.specs.Basics.{pick}
 use Rattle.model.specs.Tables.{Chord, Table, noChord}
 use Rattle.model.specs.Layout.{tableRefusal, tableOf}
+use Rattle.table.specs.declared.Equality.the-variants as E
+use Rattle.table.specs.Equalities.{equalityIn, equalityFor}
 
 -- the first n of a list, and d for each that the list does not have
 abbrev pub firsts : {A : Type 0} → A → ℕ → List A → List A
@@ -20,7 +21,7 @@ firsts d (suc n) [] = d ∷ firsts d n []
 firsts d (suc n) (x ∷ xs) = x ∷ firsts d n xs
 
 unfoldable pub chordIn : DC.Chord → Chord
-chordIn c = record { channels = firsts 0 (c .len) (c .channels); equal = c .equal }
+chordIn c = record { channels = firsts 0 (c .len) (c .channels); equal = equalityIn (c .equal) }
 
 unfoldable pub tableIn : DT.Table → Table
 tableIn t = record {
@@ -29,7 +30,7 @@ tableIn t = record {
 }
 
 abbrev pub emptyChord : DC.Chord
-emptyChord = record { channels = replicate 8 0; len = 0; equal = false }
+emptyChord = record { channels = replicate 8 0; len = 0; equal = E.Any }
 
 -- what is read from refused bytes
 abbrev pub emptyTable : DT.Table
@@ -37,7 +38,11 @@ emptyTable = record { kinds = replicate 16 0; «kinds_len» = 0; chords = replic
 
 -- what is read from accepted bytes: each array holds its list from the start, and is empty past it
 unfoldable pub chordFor : Chord → DC.Chord
-chordFor c = record { channels = sets (replicate 8 0) 0 (c .channels); len = length (c .channels); equal = c .equal }
+chordFor c = record {
+  channels = sets (replicate 8 0) 0 (c .channels);
+  len = length (c .channels);
+  equal = equalityFor (c .equal);
+}
 
 unfoldable pub tableFor : Table → DT.Table
 tableFor t = record {

@@ -12,7 +12,7 @@ ghost use Rattle.codec.specs.Views.{tableIn, emptyTable, emptyChord, cho
 pub struct Chord {
     pub channels: [u8; 8],
     pub len: u8,
-    pub equal: bool,
+    pub equal: table::Equality,
 }
 
 pub struct Table {
@@ -34,7 +34,7 @@ fn empty_table() -> Table
     let none = Chord {
         channels: [0; 8],
         len: 0,
-        equal: false,
+        equal: table::Equality::Any,
     };
     Table {
         kinds: [0; 16],
@@ -74,7 +74,7 @@ fn chord_read(table: &[u8], chord: u8) -> Chord
     Chord {
         channels: channels,
         len: table::chord_len(table, chord),
-        equal: table::is_equal(table, chord),
+        equal: table::chord_equal(table, chord),
     }
 }
 
@@ -87,7 +87,7 @@ fn chords_read(table: &[u8]) -> [Chord; 32]
     let none = Chord {
         channels: [0; 8],
         len: 0,
-        equal: false,
+        equal: table::Equality::Any,
     };
     let mut chords = [none; 32];
     let mut i: u8 = 0;

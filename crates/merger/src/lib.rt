@@ -212,7 +212,7 @@ fn chord_after(second: &[u8], chord: u8, targets: [u8; 16]) -> codec::Chord
     codec::Chord {
         channels: channels,
         len: table::chord_len(second, chord),
-        equal: table::is_equal(second, chord),
+        equal: table::chord_equal(second, chord),
     }
 }
 

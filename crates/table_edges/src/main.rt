@@ -156,6 +156,13 @@ fn say_cuts(bytes: [u8; 412], len: usize)
     say(b"\n");
 }
 
+fn alternating(i: u8) -> table::Equality {
+    if i % 2 == 0 {
+        return table::Equality::Property;
+    }
+    table::Equality::Any
+}
+
 fn full_chord(i: u8) -> codec::Chord
     requires { ⌜ i < 32 ⌝ }
 {
@@ -169,7 +176,7 @@ fn full_chord(i: u8) -> codec::Chord
     codec::Chord {
         channels: channels,
         len: 8,
-        equal: i % 2 == 0,
+        equal: alternating(i),
     }
 }
 

@@ -14,6 +14,7 @@ use Rattle.model.specs.Basics.{every}
 use Rattle.model.specs.Tables.{noChord}
 use Rattle.model.proofs.Tests.{both}
 use Rattle.model.proofs.Lists.{every-nth}
+use Rattle.table.specs.declared.Equality.the-variants as E
 use Rattle.codec.specs.declared.Chord as DC
 use Rattle.codec.specs.declared.Table as DT
 use Rattle.codec.specs.Views.{firsts, chordIn, tableIn}
@@ -56,7 +57,7 @@ length-channels-in c = length-firsts 0 (c .len) (c .channels)
 
 -- the chord that an element read past the array's end would be
 abbrev pub zeroChord : DC.Chord
-zeroChord = record { channels = []; len = 0; equal = false }
+zeroChord = record { channels = []; len = 0; equal = E.Any }
 
 -- the chords left from i on
 module _ (t : DT.Table) (i : ℕ) where

@@ -14,10 +14,10 @@ use Rattle.model.specs.Tables.{Chord, Table}
 use Rattle.model.specs.Layout.{word, chordOk, chordsOk, membersOk, kindsOk, writtenChords, writtenMembers, tableBytes}
 use Rattle.model.specs.Layout.{tableRefusal, countsOk, offsetsOk, countT, countR, countM, chordsStart, membersStart}
 use Rattle.model.specs.Layout.{writeRefusal, written}
-use Rattle.model.proofs.Tests.{and, unless-none, all-four, refused-first, flag-small}
+use Rattle.model.proofs.Tests.{and, unless-none, all-four, refused-first}
 use Rattle.model.proofs.Lists.{every-each}
 use Rattle.model.proofs.Written.{header, whole-written, kinds-written, chords-written, members-written}
-use Rattle.model.proofs.Written.{sum-written}
+use Rattle.model.proofs.Written.{sum-written, equality-small}
 use Rattle.codec.specs.declared.Table as DT
 use Rattle.codec.specs.Views.{tableIn}
 use Rattle.writer.specs.Writes.{countsIn, sized, membersWritten, stored}
@@ -30,7 +30,7 @@ entries-sized rest next [] = refl
 entries-sized rest next (c ∷ cs) =
     rw (
       eq-eqb _ _ (mod-add-div next 256),
-      flag-small (c .equal),
+      equality-small (c .equal),
       and-true (leb (length (c .channels)) 8),
       entries-sized rest (next + length (c .channels)) cs,
     )

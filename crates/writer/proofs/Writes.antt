@@ -12,11 +12,12 @@ use Rattle.model.proofs.Written.{whole-written, length-entries}
 use Rattle.model.proofs.Parts.{sets-append}
 use Rattle.codec.specs.declared.Chord as DC
 use Rattle.codec.specs.declared.Table as DT
+use Rattle.table.specs.Equalities.{equalityIn}
 use Rattle.codec.specs.Views.{chordIn, tableIn}
 use Rattle.writer.specs.Writes.{entryBytes, stored}
 use Rattle.writer.proofs.Chords.{chords-left, length-channels-in, length-kinds-in, length-chords-in, zeroChord}
 
-equal-in : (c : DC.Chord) → chordIn c .equal ≡ c .equal
+equal-in : (c : DC.Chord) → chordIn c .equal ≡ equalityIn (c .equal)
 unfolding chordIn
 equal-in c = refl
 
@@ -30,7 +31,7 @@ module _ (t : DT.Table) (i : ℕ) (h : i < t .«chords_len») where
 
   module _ (out : List ℕ) (at : ℕ) where
     pub entries-next : (next : ℕ) → sets out at (writtenChords next (drop i (tableIn t .chords)))
-        ≡ sets (sets out at (entryBytes next (x .len) (x .equal))) (at + 4)
+        ≡ sets (sets out at (entryBytes next (x .len) (equalityIn (x .equal)))) (at + 4)
         (writtenChords (next + x .len) (drop (i + 1) (tableIn t .chords)))
     entries-next next =
         let z : at + 4 ≡ suc (suc (suc (suc at))) = omega arith in

@@ -6,9 +6,9 @@ use mathlib.Core.List.{List, [], _∷_, _++_}
 use Prim.Native.Nat.{ℕ, _+_, _*_, _≤_}
 use lib.Dec.{leb}
 use lib.ListN.{length, drop}
-use Rattle.model.specs.Basics.{every, flag}
-use Rattle.model.specs.Tables.{Chord, Table}
-use Rattle.model.specs.Layout.{writtenMembers, membersOk, two}
+use Rattle.model.specs.Basics.{every}
+use Rattle.model.specs.Tables.{Equality, Chord, Table}
+use Rattle.model.specs.Layout.{writtenMembers, membersOk, two, equalityByte}
 use Rattle.codec.specs.declared.Table as DT
 use Rattle.codec.specs.Views.{tableIn}
 
@@ -31,8 +31,8 @@ abbrev pub stored : List ℕ → List ℕ → List ℕ
 stored bytes out = bytes ++ drop (length bytes) out
 
 -- the four bytes of a chord's entry
-abbrev pub entryBytes : ℕ → ℕ → Bool → List ℕ
-entryBytes next n equal = two next ++ (n ∷ (flag equal ∷ []))
+abbrev pub entryBytes : ℕ → ℕ → Equality → List ℕ
+entryBytes next n equal = two next ++ (n ∷ (equalityByte equal ∷ []))
 
 -- chords of known sizes, whose members end within the bytes
 pub record MembersFit (t : DT.Table) (at : ℕ) (out : List ℕ) : Type 0 where

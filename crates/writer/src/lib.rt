@@ -7,7 +7,8 @@ ghost use lib.ListN.{length};
 ghost use lib.Seq.{sets};
 ghost use Rattle.model.specs.Basics.{every};
 ghost use Rattle.model.specs.Layout.{tableRefusal, kindsOk, membersOk, two, writeRefusal, written};
-ghost use Rattle.model.specs.Layout.{tableBytes, writtenHeader, writtenChords, writtenMembers};
+ghost use Rattle.model.specs.Layout.{equalityByte, tableBytes, writtenHeader, writtenChords, writtenMembers};
+ghost use Rattle.table.specs.Equalities.{equalityIn};
 ghost use Rattle.codec.specs.Views.{chordIn, tableIn};
 ghost use Rattle.writer.specs.Writes.{sized, membersWritten, stored, entryBytes, MembersFit, Writable};
 
@@ -147,14 +148,25 @@ fn put_bytes(out: &mut [u8], at: usize, src: &[u8])
     }
 }
 
-// A chord's entry: its first member, the number of its channels, and whether it wants equal properties.
-fn put_entry(out: &mut [u8], at: usize, next: u16, len: u8, equal: bool)
+// The byte of what a chord wants to be equal.
+fn byte_of(equal: table::Equality) -> u8
+    ensures { λ r. ⌜ r ≡ equalityByte (equalityIn equal) ⌝ }
+{
+    match equal {
+        table::Equality::Any => 0,
+        table::Equality::Property => 1,
+        table::Equality::Unit => 2,
+    }
+}
+
+// A chord's entry: its first member, the number of its channels, and what it wants to be equal.
+fn put_entry(out: &mut [u8], at: usize, next: u16, len: u8, equal: table::Equality)
     requires { ⌜ at + 4 ≤ length (now out) ⌝ }
-    ensures { λ _. ⌜ now (out .exit) ≡ sets (now (out .entry)) at (entryBytes next len equal) ⌝ }
+    ensures { λ _. ⌜ now (out .exit) ≡ sets (now (out .entry)) at (entryBytes next len (equalityIn equal)) ⌝ }
 {
     put_two(out, at, next);
     out[at + 2] = len;
-    out[at + 3] = equal as u8;
+    out[at + 3] = byte_of(equal);
 }
 
 // The chords' entries from a place on.
@@ -168,7 +180,8 @@ fn put_entries(table: codec::Table, out: &mut [u8], at: usize)
     while i < n {
         let k = i as usize;
         let c = table.chords[k];
-        put_entry(out, at + 4 * k, next, c.len, c.equal);
+        let equal = c.equal;
+        put_entry(out, at + 4 * k, next, c.len, equal);
         next = table::more(next, c.len);
         i += 1;
     }

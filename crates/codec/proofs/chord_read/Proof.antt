@@ -6,6 +6,7 @@ use native.Mathlib.Omega.{arith}
 use lib.ListN.{length, drop, replicate}
 use lib.Seq.{sets}
 use Rattle.model.proofs.AcceptedChords.{table-ok}
+use Rattle.table.proofs.Equalities.{equality-for}
 use Rattle.codec.specs.Views.{chordFor}
 use Rattle.model.proofs.Walks.{fill-next, fill-end}
 use borrow.Author.Needs.{needs}
@@ -41,7 +42,7 @@ returns c =
     let k = p .loop .k in
     let z = fill-end (p .loop .channels) (p .before .members .result .now) k k (omega arith) in
     let e = rw (p .before .members .ensures) at (sym z ∙ p .loop .inv .1) in
-    cc (e, c .before .chord-len .ensures, c .is-equal .ensures)
+    cc (e, c .before .chord-len .ensures, equality-for (c .chord-equal .result) (c .chord-equal .ensures))
 
 pub chord-read-spec : {M : Type 1} → statement M
 chord-read-spec =

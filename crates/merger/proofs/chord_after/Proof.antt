@@ -10,6 +10,7 @@ use Rattle.model.specs.Tables.{chordAt}
 use Rattle.model.specs.Layout.{tableOf}
 use Rattle.model.proofs.AcceptedChords.{table-ok}
 use Rattle.model.proofs.Lists.{nth-map}
+use Rattle.table.proofs.Equalities.{equality-for}
 use Rattle.codec.specs.Views.{chordFor}
 use Rattle.model.proofs.Walks.{fill-next, fill-end}
 use borrow.Author.Needs.{needs}
@@ -69,7 +70,7 @@ returns c =
     let e = rw (m .members .ensures) at (sym z ∙ p .loop .inv .1) in
     let n = c .before .chord-len .ensures
     ∙ sym (length-map (chordAt (tableOf (a .second .now)) (a .chord) .channels) f) in
-    cc (e, n, c .is-equal .ensures)
+    cc (e, n, equality-for (c .chord-equal .result) (c .chord-equal .ensures))
 
 pub chord-after-spec : {M : Type 1} → statement M
 chord-after-spec =
