@@ -1,5 +1,5 @@
 // A table written as text, compiled to table bytes: `tablec < table.txt > rules.bin`; with `-r` the way back.
-// A line is `tray NAME leave|waiting` or `rule NAME = A + B [same property]`; a comment goes from `#` to its end.
+// A line is `tray NAME leave|waiting` or `rule NAME = A + B [same property|unit]`; a comment goes from `#` to its end.
 // Standard output gets nothing unless the whole text is right; what is wrong goes to standard error as one line.
 ghost use mathlib.Core.Path.{_≡_};
 ghost use Prim.Native.Nat.{_<_, _≤_};
@@ -8,6 +8,7 @@ ghost use Rattle.io.specs.Counts.{Counts};
 ghost use Rattle.tablec.specs.Encoded.{Encoded};
 use libc::STDIN_FILENO;
 use libc::STDOUT_FILENO;
+use table::Equality;
 use texts::complain;
 use texts::complain_number;
 use texts::is_same;
@@ -339,7 +340,7 @@ fn members(trays: Names, number: u64, line: &[u8], at: usize) -> Reading {
     let none = codec::Chord {
         channels: [0; 8],
         len: 0,
-        equal: false,
+        equal: Equality::Any,
     };
     let start = Reading {
         chord: none,
@@ -355,7 +356,24 @@ fn members(trays: Names, number: u64, line: &[u8], at: usize) -> Reading {
     r
 }
 
-// What follows the trays: nothing, or `same property`.
+// What a rule wants to be equal by the word after `same`, which is `property` or `unit`: a unit with its property.
+fn wanted(word: &[u8]) -> Equality {
+    if is_same(word, b"unit") {
+        return Equality::Unit;
+    }
+    Equality::Property
+}
+
+fn with_equal(c: codec::Chord, equal: Equality) -> codec::Chord {
+    let channels = c.channels;
+    codec::Chord {
+        channels: channels,
+        len: c.len,
+        equal: equal,
+    }
+}
+
+// What follows the trays: nothing, `same property`, or `same unit`.
 fn rule_end(r: Reading, number: u64, line: &[u8]) -> Reading {
     let at = r.at;
     let word = word_at(line, at);
@@ -367,18 +385,21 @@ fn rule_end(r: Reading, number: u64, line: &[u8]) -> Reading {
         return stopped(r);
     }
     let second = past(line, at);
-    if !(is_same(word, b"same") & is_same(word_at(line, second), b"property")) {
-        wrong(number, b"expected + or same property");
+    let last = word_at(line, second);
+    let known = is_same(last, b"property") | is_same(last, b"unit");
+    if !(is_same(word, b"same") & known) {
+        wrong(number, b"expected +, same property or same unit");
         return stopped(r);
     }
     if !is_end(line, past(line, second), number) {
         return stopped(r);
     }
-    let mut c = r.chord;
-    c.equal = true;
-    let mut next = r;
-    next.chord = c;
-    next
+    let c = r.chord;
+    Reading {
+        chord: with_equal(c, wanted(last)),
+        at: at,
+        failed: false,
+    }
 }
 
 // `NAME = A + B` from a place on.
@@ -444,7 +465,7 @@ fn no_text() -> Text {
     let chord = codec::Chord {
         channels: [0; 8],
         len: 0,
-        equal: false,
+        equal: Equality::Any,
     };
     let table = codec::Table {
         kinds: [0; 16],
@@ -643,6 +664,14 @@ fn say_member(chord: codec::Chord, k: usize) -> bool
     say(b" t") & say_number(channel as usize)
 }
 
+fn say_end(equal: Equality) -> bool {
+    match equal {
+        Equality::Any => say(b"\n"),
+        Equality::Property => say(b" same property\n"),
+        Equality::Unit => say(b" same unit\n"),
+    }
+}
+
 fn say_chord(chord: codec::Chord) -> bool {
     let mut said = true;
     let mut k: usize = 0;
@@ -650,10 +679,8 @@ fn say_chord(chord: codec::Chord) -> bool {
         said = said & say_member(chord, k);
         k += 1;
     }
-    if chord.equal {
-        return said & say(b" same property\n");
-    }
-    said & say(b"\n")
+    let equal = chord.equal;
+    said & say_end(equal)
 }
 
 fn say_rule(table: codec::Table, i: usize) -> bool

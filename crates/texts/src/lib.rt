@@ -134,7 +134,7 @@ fn complain_when(number: u8) {
         2 => complain(b"T, R or M out of range"),
         3 => complain(b"offsets or length wrong"),
         4 => complain(b"byte over 1"),
-        5 => complain(b"wrong first member, count not 1 to 8, or last byte over 1"),
+        5 => complain(b"wrong first member, count not 1 to 8, or last byte over 2"),
         6 => complain(b"member counts do not sum to M"),
         _ => complain(b"tray number T or more"),
     }

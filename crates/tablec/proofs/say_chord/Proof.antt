@@ -5,10 +5,10 @@ use Rattle.tablec.proofs.say_chord.Statement.{statement}
 use Rattle.tablec.proofs.say_chord.Tie as tie
 
 abbrev Inv-loop : tie.InvT-loop
-Inv-loop chord said₀ k₀ t3 t4 said k = k ≤ 8
+Inv-loop chord said₀ k₀ said k = k ≤ 8
 
 abbrev μ-loop : tie.MeasureT-loop
-μ-loop chord said₀ k₀ t3 t4 said k = 8 - k
+μ-loop chord said₀ k₀ said k = 8 - k
 
 pub say-chord-spec : {M : Type 1} → statement M
 say-chord-spec =
@@ -19,10 +19,6 @@ say-chord-spec =
     (λ c. search needs)
     (λ c κs. search needs)
     (λ c. search needs)
-    (λ c. search needs)
-    (λ c. search needs)
-    (λ c. search needs)
-    (λ c κs. search needs)
     (λ c. search needs)
     (λ c. search needs)
     (λ c κs. search needs)
