@@ -1,4 +1,4 @@
--- What a chord wants to be equal, as the model's (rule 1.2).
+-- What a chord wants to be equal (rule 1.2): a value as the model's, and the value for it.
 use Rattle.model.specs.Tables.{Equality, any, same-property, same-unit}
 use Rattle.table.specs.declared.Equality as DE
 use Rattle.table.specs.declared.Equality.the-variants as E
