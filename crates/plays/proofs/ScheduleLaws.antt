@@ -114,28 +114,29 @@ module _ (s : List ℕ) (h : Held) (c : CallRows) (before : List ℕ) where
 -- One call by its row
 
 module _ (c : CallRows) (k : ℕ) where
-  pub step-at : getD (c .calls) (3 * k) 0 ≡ 0 → steps (getD (c .calls) (3 * k + 1) 0) ≡ callAt c k
+  pub step-at : getD (c .calls) (4 * k) 0 ≡ 0 → steps (getD (c .calls) (4 * k + 1) 0) ≡ callAt c k
   unfolding callAt
   step-at e = rw e
 
-  pub add-at : getD (c .calls) (3 * k) 0 ≢ 0
-      → adds (getD (c .calls) (3 * k + 1) 0)
+  pub add-at : getD (c .calls) (4 * k) 0 ≢ 0
+      → adds (getD (c .calls) (4 * k + 1) 0)
       (record {
-        channel = getD (c .calls) (3 * k + 2) 0;
+        channel = getD (c .calls) (4 * k + 2) 0;
         property = getD (c .numbers) (2 * k) 0;
         cents = getD (c .amounts) k (pos 0);
         day = getD (c .numbers) (2 * k + 1) 0;
+        unit = getD (c .calls) (4 * k + 3) 0;
       })
       ≡ callAt c k
   unfolding callAt
-  add-at e = rw (ne-eqb (getD (c .calls) (3 * k) 0) 0 e)
+  add-at e = rw (ne-eqb (getD (c .calls) (4 * k) 0) 0 e)
 
 -- The ways out of a replay
 
 fit-by : (c : CallRows) (room : ℕ) → rowsFit c ≡ true → callsLen c ≤ room → Fit c room
 unfolding rowsFit
 fit-by c room e l =
-    let p = both {t = eqb (length (c .calls)) (3 * callsLen c)} e in
+    let p = both {t = eqb (length (c .calls)) (4 * callsLen c)} e in
     record { calls-len = eqb-true _ _ (p .0); numbers-len = eqb-true _ _ (p .1); answers-all = l }
 
 -- x is the board's refusal

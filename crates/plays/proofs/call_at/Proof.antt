@@ -13,9 +13,10 @@ returns c = step-at _ _ (c .if1 .taken)
 
 returns-2 : tie.Need-returns-2
 returns-2 c =
-    let q = c .before .before .before .before in
+    let t = c .before .before in
+    let q = t .before .before .before in
     let a = q .before .before .before .args in
-    let back = toZ-ofZ w64 (getD (a .amounts .now) (a .k) (pos 0)) (record { sfits = c .before .t21 .given }) in
+    let back = toZ-ofZ w64 (getD (a .amounts .now) (a .k) (pos 0)) (record { sfits = t .t21 .given }) in
     rw back (add-at _ _ (q .if1 .left))
 
 pub call-at-spec : {M : Type 1} → statement M
@@ -29,6 +30,9 @@ call-at-spec =
     (λ c. search needs)
     (λ c. search needs)
     returns
+    (λ c. search needs)
+    (λ c. search needs)
+    (λ c. search needs)
     (λ c. search needs)
     (λ c. search needs)
     (λ c. search needs)
