@@ -12,7 +12,7 @@ use Rattle.records.specs.declared.Message.{Message}
 
 -- stands for a record past the end
 abbrev pub noRecord : Message
-noRecord = record { channel = 0; property = 0; cents = pos 0; day = 0; status = 0; matched = 0; waker = 0 }
+noRecord = record { channel = 0; property = 0; cents = pos 0; day = 0; unit = 0; status = 0; matched = 0; waker = 0 }
 
 -- rule 4.4: the status, 1, and nothing else of the record
 abbrev pub claimedOf : Message → Message
@@ -21,6 +21,7 @@ claimedOf x = record {
   property = x .property;
   cents = x .cents;
   day = x .day;
+  unit = x .unit;
   status = 1;
   matched = x .matched;
   waker = x .waker;

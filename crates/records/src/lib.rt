@@ -7,6 +7,7 @@ pub struct Message {
     pub property: u32,
     pub cents: i64,
     pub day: u32,
+    pub unit: u16,
     pub status: u8,
     pub matched: u16,
     pub waker: u16,

@@ -104,7 +104,7 @@ module _ {M : Type 1} (𝓤 : URA M) (H : Heap 𝓤) (A : Atoms 𝓤) (W : Given
 
   made : Typed h → Typed h′
   made g = let f = LL.owed T.the-type T′.the-laws h _ g in LL.owes T.the-type T′.the-laws h′
-      (f .0, (f .1 .0, (f .1 .1 .0, (f .1 .1 .1 .0, ((refl, lit< tt), f .1 .1 .1 .1 .1)))))
+      (f .0, (f .1 .0, (f .1 .1 .0, (f .1 .1 .1 .0, (f .1 .1 .1 .1 .0, ((refl, lit< tt), f .1 .1 .1 .1 .1 .1))))))
 
   -- the borrow at the list zs, and what the parameter n owns
   abbrev Lends : List Message → List (Item 𝓤) → List (Item 𝓤)
@@ -165,7 +165,7 @@ module _ {M : Type 1} (𝓤 : URA M) (H : Heap 𝓤) (A : Atoms 𝓤) (W : Given
           (LL.vals T.the-type T′.the-laws) (LL.tells T.the-type T′.the-laws) fullShare ys n noRecord b o l (λ g.
           -- [messages[n]; what it owns; the others; the open borrow; obs; auth; n's; _7; …]
           assigns ! (of-opd ! (lit ! tt)) (from ! (hop ! (look ! 7 refl) (fld ! refl (stop !))))
-          (store-in ! 0 (sub ! 4 refl (whole !)) (tt, record { fits = lit< tt })) $
+          (store-in ! 0 (sub ! 5 refl (whole !)) (tt, record { fits = lit< tt })) $
           move ! (1 ∷ []) $ drop ! $ owned ! T.the-row (Is T.the-row) (LL.makes T.the-type T′.the-plain 𝓤 H A) h′ _
           (made g) $ move ! (1 ∷ 0 ∷ []) $ elem-put ! T.the-row fullShare ys n h′ (T′.lowered h′ ∷ []) b o l $
           closes-slice ! tt T.the-row ys (set ys n h′) (length-set ys n h′) b o $
@@ -184,8 +184,8 @@ module _ {M : Type 1} (𝓤 : URA M) (H : Heap 𝓤) (A : Atoms 𝓤) (W : Given
           opens-slice ! tt T.the-row ys b o $ elem-out ! T.the-row (Is T.the-row) (shows 𝓤 H A T.the-row)
           (LL.vals T.the-type T′.the-laws) (LL.tells T.the-type T′.the-laws) fullShare ys n noRecord b o l (λ g.
           assigns ! (of-opd ! (load ! (from ! (hop ! (look ! 11 refl) (fld ! refl (stop !))))
-          (look-in ! 0 (sub ! 4 refl (whole !))))) (from ! (stop !))
-          (init ! 9 refl (tt, record { fits = LL.owed T.the-type T′.the-laws h _ g .1 .1 .1 .1 .0 .1 })) $
+          (look-in ! 0 (sub ! 5 refl (whole !))))) (from ! (stop !))
+          (init ! 9 refl (tt, record { fits = LL.owed T.the-type T′.the-laws h _ g .1 .1 .1 .1 .1 .0 .1 })) $
           elem-back ! T.the-row fullShare ys n noRecord (T′.lowered h ∷ []) b o l $
           closes-slice ! tt T.the-row ys ys refl b o $
           -- _4 = its status is not 0
