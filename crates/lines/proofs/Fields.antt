@@ -59,8 +59,8 @@ fields-some xs = go (ltb (spaceAt xs) (length xs)) refl
     go false e = (_, _, cut-last xs (ltb-false _ _ e))
 
 -- a field too many
-pub add-more : (d t p c y xs : List ℕ) → addLine (d ∷ t ∷ p ∷ c ∷ y ∷ fieldsOf xs) ≡ unreadable
-add-more d t p c y xs = rw (fields-some xs .2)
+pub add-more : (d t p c y u xs : List ℕ) → addLine (d ∷ t ∷ p ∷ c ∷ y ∷ u ∷ fieldsOf xs) ≡ unreadable
+add-more d t p c y u xs = rw (fields-some xs .2)
 
 pub step-more : (d xs : List ℕ) → stepLine (d ∷ fieldsOf xs) ≡ unreadable
 step-more d xs = rw (fields-some xs .2)

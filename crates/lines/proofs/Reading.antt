@@ -4,7 +4,7 @@ use mathlib.Core.Bool.{Bool, true, false, _&&_, and-false}
 use mathlib.Core.List.{List, [], _∷_}
 use Prim.Native.Nat.{ℕ, zero, suc, _-_, _<_, _≤_}
 use native.Mathlib.Omega.{arith}
-use borrow.Author.Tests.{lt-ltb, le-leb, lt-leb, ne-eqb, eqb-true}
+use borrow.Author.Tests.{lt-ltb, le-leb, lt-leb, ne-eqb, eqb-true, ltb-true}
 use lib.Dec.{eqb, leb, ltb}
 use lib.IntN.{pos, negℤ, _-ℤ_, +ℤ-idl}
 use lib.ListN.{length, getD, drop}
@@ -29,6 +29,11 @@ pub plus-some : (c : Bool) (n x : ℕ) → x ≡ plusOne c n → (x ≡ 0 → �
 unfolding plusOne
 plus-some true n x e h = (refl, omega arith)
 plus-some false n x e h = absurd (h e)
+
+plus-is : (c : Bool) (n x : ℕ) → x ≡ plusOne c n → c ≡ ltb 0 x
+unfolding plusOne
+plus-is true n x e = rw (e, lt-ltb 0 (suc n) (omega arith))
+plus-is false n x e = rw e
 
 -- the sign of cents
 pub to-pos : (n : ℕ) → n ≤ 999999999999999999 → toZ w64 n ≡ pos n
@@ -89,63 +94,73 @@ module _ (d : List ℕ) (x : ℕ) (e : x ≡ plusOne (isNumber 65535 d) (digitsV
   unfolding stepOf
   step-some h = let p = plus-some (isNumber 65535 d) (digitsValue d) x e h in rw (p .0, p .1)
 
--- an add
-module _ (d t p c y : List ℕ) where
-  add-none : (isNumber 65535 d
-      && (isNumber 65535 t && (isNumber 4294967295 p && (isCents c && isNumber 4294967295 y)))) ≡ false
-      → unreadable ≡ addOf d t p c y
+-- an add: its six fields, each read as its number plus 1, or 0 for none
+pub record Read (d t p c y u : List ℕ) (i j k l m n : ℕ) : Type 0 where
+  pub sender : i ≡ plusOne (isNumber 65535 d) (digitsValue d)
+  pub channel : j ≡ plusOne (isNumber 65535 t) (digitsValue t)
+  pub property : k ≡ plusOne (isNumber 4294967295 p) (digitsValue p)
+  pub cents : l ≡ plusOne (isCents c) (digitsValue (digitsOf c))
+  pub day : m ≡ plusOne (isNumber 4294967295 y) (digitsValue y)
+  pub unit : n ≡ plusOne (isNumber 65535 u) (digitsValue u)
+
+pub record AllSome (i j k l m n : ℕ) : Type 0 where
+  pub sender : 0 < i
+  pub channel : 0 < j
+  pub property : 0 < k
+  pub cents : 0 < l
+  pub day : 0 < m
+  pub unit : 0 < n
+
+module _ (i j k l m n : ℕ) where
+  abbrev pub allRead : Bool
+  allRead = ltb 0 i && (ltb 0 j && (ltb 0 k && (ltb 0 l && (ltb 0 m && ltb 0 n))))
+
+  pub all-some : allRead ≡ true → AllSome i j k l m n
+  all-some e =
+      let a = both {t = ltb 0 i} e in
+      let b = both {t = ltb 0 j} (a .1) in
+      let f = both {t = ltb 0 k} (b .1) in
+      let g = both {t = ltb 0 l} (f .1) in
+      let h = both {t = ltb 0 m} (g .1) in
+      record {
+        sender = ltb-true 0 i (a .0);
+        channel = ltb-true 0 j (b .0);
+        property = ltb-true 0 k (f .0);
+        cents = ltb-true 0 l (g .0);
+        day = ltb-true 0 m (h .0);
+        unit = ltb-true 0 n (h .1);
+      }
+
+module _ {d t p c y u : List ℕ} {i j k l m n : ℕ} (r : Read d t p c y u i j k l m n) where
+  pub no-add : allRead i j k l m n ≡ false → unreadable ≡ addOf d t p c y u
   unfolding addOf
-  add-none e = rw e
+  no-add e = rw (
+    plus-is _ _ i (r .sender),
+    plus-is _ _ j (r .channel),
+    plus-is _ _ k (r .property),
+    plus-is _ _ l (r .cents),
+    plus-is _ _ m (r .day),
+    plus-is _ _ n (r .unit),
+    e,
+  )
 
-  pub no-sender : (x : ℕ) → x ≡ plusOne (isNumber 65535 d) (digitsValue d) → x ≡ 0 → unreadable ≡ addOf d t p c y
-  no-sender x e z = add-none (rw (plus-none (isNumber 65535 d) (digitsValue d) x e z))
-
-  pub no-channel : (x : ℕ) → x ≡ plusOne (isNumber 65535 t) (digitsValue t) → x ≡ 0 → unreadable ≡ addOf d t p c y
-  no-channel x e z =
-      add-none (rw (plus-none (isNumber 65535 t) (digitsValue t) x e z, and-false (isNumber 65535 d)))
-
-  pub no-property : (x : ℕ) → x ≡ plusOne (isNumber 4294967295 p) (digitsValue p) → x ≡ 0
-      → unreadable ≡ addOf d t p c y
-  no-property x e z =
-      let n = plus-none (isNumber 4294967295 p) (digitsValue p) x e z in
-      add-none (rw (n, and-false (isNumber 65535 t), and-false (isNumber 65535 d)))
-
-  pub no-cents : (x : ℕ) → x ≡ plusOne (isCents c) (digitsValue (digitsOf c)) → x ≡ 0 → unreadable ≡ addOf d t p c y
-  no-cents x e z =
-      let n = plus-none (isCents c) (digitsValue (digitsOf c)) x e z in
-      add-none
-      (rw (n, and-false (isNumber 4294967295 p), and-false (isNumber 65535 t), and-false (isNumber 65535 d)))
-
-  pub no-day : (x : ℕ) → x ≡ plusOne (isNumber 4294967295 y) (digitsValue y) → x ≡ 0 → unreadable ≡ addOf d t p c y
-  no-day x e z =
-      let n = plus-none (isNumber 4294967295 y) (digitsValue y) x e z in
-      add-none
-      (rw (
-        n,
-        and-false (isCents c),
-        and-false (isNumber 4294967295 p),
-        and-false (isNumber 65535 t),
-        and-false (isNumber 65535 d),
-      ))
-
-  pub some-add : (i j k l m : ℕ) → i ≡ plusOne (isNumber 65535 d) (digitsValue d)
-      → j ≡ plusOne (isNumber 65535 t) (digitsValue t) → k ≡ plusOne (isNumber 4294967295 p) (digitsValue p)
-      → l ≡ plusOne (isCents c) (digitsValue (digitsOf c)) → m ≡ plusOne (isNumber 4294967295 y) (digitsValue y)
-      → (i ≡ 0 → ⊥) → (j ≡ 0 → ⊥) → (k ≡ 0 → ⊥) → (l ≡ 0 → ⊥) → (m ≡ 0 → ⊥)
+  pub some-add : AllSome i j k l m n
       → reads (adds (i - 1) (record {
         channel = j - 1;
         property = k - 1;
         cents = pick (isMinus c) (negℤ (pos (l - 1))) (pos (l - 1));
         day = m - 1;
-      })) ≡ addOf d t p c y
+        unit = n - 1;
+      })) ≡ addOf d t p c y u
   unfolding addOf centsFrom
-  some-add i j k l m ei ej ek el em i0 j0 k0 l0 m0 =
-      let a = plus-some (isNumber 65535 d) (digitsValue d) i ei i0 in
-      let b = plus-some (isNumber 65535 t) (digitsValue t) j ej j0 in
-      let u = plus-some (isNumber 4294967295 p) (digitsValue p) k ek k0 in
-      let v = plus-some (isCents c) (digitsValue (digitsOf c)) l el l0 in
-      let w = plus-some (isNumber 4294967295 y) (digitsValue y) m em m0 in
-      rw (a .0, a .1, b .0, b .1, u .0, u .1, v .0, v .1, w .0, w .1)
+  some-add s =
+      let a = plus-some _ _ i (r .sender) (λ z. omega arith) in
+      let b = plus-some _ _ j (r .channel) (λ z. omega arith) in
+      let e = plus-some _ _ k (r .property) (λ z. omega arith) in
+      let f = plus-some _ _ l (r .cents) (λ z. omega arith) in
+      let g = plus-some _ _ m (r .day) (λ z. omega arith) in
+      let h = plus-some _ _ n (r .unit) (λ z. omega arith) in
+      rw (a .0, a .1, b .0, b .1, e .0, e .1, f .0, f .1, g .0, g .1, h .0, h .1)
 
 -- the first field
 line-none : (f : List ℕ) → lineBy (f ∷ []) ≡ unreadable

@@ -114,31 +114,28 @@ fn signed(minus: bool, n: u64) -> i64
     v
 }
 
-// An add by its five fields.
-fn add_of(sender: &[u8], channel: &[u8], property: &[u8], cents: &[u8], day: &[u8]) -> Line
+// An add by its six fields.
+fn add_of(
+    sender: &[u8],
+    channel: &[u8],
+    property: &[u8],
+    cents: &[u8],
+    day: &[u8],
+    unit: &[u8],
+) -> Line
     ensures { λ r. ⌜
         lineIn r ≡ addOf (now (sender .entry)) (now (channel .entry)) (now (property .entry)) (now (cents .entry))
-        (now (day .entry))
+        (now (day .entry)) (now (unit .entry))
         ⌝ }
 {
     let d = number(sender, 65535);
-    if d == 0 {
-        return Line::Unreadable;
-    }
     let t = number(channel, 65535);
-    if t == 0 {
-        return Line::Unreadable;
-    }
     let p = number(property, 4294967295);
-    if p == 0 {
-        return Line::Unreadable;
-    }
     let c = unsigned_cents(cents);
-    if c == 0 {
-        return Line::Unreadable;
-    }
     let y = number(day, 4294967295);
-    if y == 0 {
+    let u = number(unit, 65535);
+    let all = (0 < d) & ((0 < t) & ((0 < p) & ((0 < c) & ((0 < y) & (0 < u)))));
+    if !all {
         return Line::Unreadable;
     }
     let v = signed(is_minus(cents), c - 1);
@@ -147,11 +144,13 @@ fn add_of(sender: &[u8], channel: &[u8], property: &[u8], cents: &[u8], day: &[u
         property: (p - 1) as u32,
         cents: v,
         day: (y - 1) as u32,
+        unit: (u - 1) as u16,
     };
     Line::Reads(Call::Add((d - 1) as u16, x))
 }
 
-// An add by its first three fields and what follows them: the cents, then a day or none, which is day 0.
+// An add by its first three fields and what follows them: the cents, perhaps a day, and after a day perhaps a unit; one
+// that is missing is 0.
 fn read_rest(sender: &[u8], channel: &[u8], property: &[u8], rest: &[u8]) -> Line
     ensures { λ r. ⌜
         lineIn r
@@ -161,13 +160,25 @@ fn read_rest(sender: &[u8], channel: &[u8], property: &[u8], rest: &[u8]) -> Lin
 {
     let i = byte_from(rest, 0, b' ');
     if i == rest.len() {
-        return add_of(sender, channel, property, rest, b"0");
+        return add_of(sender, channel, property, rest, b"0", b"0");
     }
     let day = i + 1;
-    if byte_from(rest, day, b' ') < rest.len() {
+    let j = byte_from(rest, day, b' ');
+    if j == rest.len() {
+        return add_of(sender, channel, property, &rest[0..i], &rest[day..], b"0");
+    }
+    let unit = j + 1;
+    if byte_from(rest, unit, b' ') < rest.len() {
         return Line::Unreadable;
     }
-    add_of(sender, channel, property, &rest[0..i], &rest[day..])
+    add_of(
+        sender,
+        channel,
+        property,
+        &rest[0..i],
+        &rest[day..j],
+        &rest[unit..],
+    )
 }
 
 // An add by what follows the `a` and its space.
