@@ -1,4 +1,4 @@
-"""A plain reading of the matching board (paper 01, and request 2 of paper 02).
+"""A plain reading of the matching board (paper 01, and requests 2 and 8 of paper 02).
 
     python3 tests/oracle.py RULES.BIN < INPUT
 
@@ -15,6 +15,7 @@ MOST_ITEMS = 1024
 MOST_MATCHES = 1024
 MOST_CENTS = 999_999_999_999
 MOST_U32 = 4_294_967_295  # a property, a day
+MOST_U16 = 65_535  # a unit
 MOST_TABLE_BYTES = 412
 MOST_LINE_BYTES = 80
 REST_TABLE = (0, 1, 1, 2, 2, 4, 4, 8, 8, 16, 16, 16, 32, 32, 32, 32)
@@ -42,11 +43,13 @@ class Refused(Exception):
 
 # --- the table --------------------------------------------------------------
 
+ANY, PROPERTY, UNIT = 0, 1, 2  # a rule's last byte: equal properties are wanted; equal properties and equal units
+
 
 class Rule:
-    def __init__(self, members, same_property):
+    def __init__(self, members, same):
         self.members = members
-        self.same_property = same_property
+        self.same = same
 
 
 class Table:
@@ -84,10 +87,10 @@ def read_table(data):
     due = 0  # where the next rule must start
     for at in range(rule_at, member_at, 4):
         first, count, same = u16(data, at), data[at + 2], data[at + 3]
-        if first != due or not 1 <= count <= 8 or same > 1:
+        if first != due or not 1 <= count <= 8 or same > UNIT:
             raise Refused(5)
         due = first + count
-        spans.append((first, due, same == 1))
+        spans.append((first, due, same))
     if due != members:
         raise Refused(6)
 
@@ -102,11 +105,12 @@ def read_table(data):
 
 
 class Item:
-    def __init__(self, tray, prop, cents, day):
+    def __init__(self, tray, prop, cents, day, unit):
         self.tray = tray
         self.prop = prop
         self.cents = cents
         self.day = day
+        self.unit = unit
         self.status = PENDING
         self.match = None  # once consumed
         self.waker = None  # once woken
@@ -145,7 +149,7 @@ class Board:
 
     # the calls
 
-    def add(self, desk_number, tray, prop, cents, day):
+    def add(self, desk_number, tray, prop, cents, day, unit):
         if desk_number >= DESKS:
             raise Refused(8)
         desk = self.desks[desk_number]
@@ -158,7 +162,7 @@ class Board:
         if len(self.items) >= MOST_ITEMS:
             raise Refused(12)
         number = len(self.items)
-        self.items.append(Item(tray, prop, cents, day))
+        self.items.append(Item(tray, prop, cents, day, unit))
         desk.own = number
         desk.slip = desk.waker = desk.matched = None
         desk.signal = False
@@ -226,12 +230,11 @@ class Board:
         return self.table.waiting[self.items[number].tray]
 
     def fits(self, desk, number, tray):
-        """Is it an item of the tray, with the hand's property if wanted?"""
-        item = self.items[number]
-        if item.tray != tray:
+        """Is it an item of the tray, with the hand's property and unit where these are wanted?"""
+        item, hand, same = self.items[number], self.items[desk.hand], self.table.rules[desk.rule].same
+        if item.tray != tray or (same != ANY and item.prop != hand.prop):
             return False
-        same = self.table.rules[desk.rule].same_property
-        return not same or item.prop == self.items[desk.hand].prop
+        return same != UNIT or item.unit == hand.unit
 
     def fires(self, desk):
         """Does the last claim make a match (or else wake a desk)?"""
@@ -429,7 +432,7 @@ def go_idle(desk, slip):
 
 # --- the lines ------------------------------------------------------------------
 
-ADD_LINE = re.compile(rb"a ([0-9]+) ([0-9]+) ([0-9]+) (-?[0-9]{1,18})(?: ([0-9]+))?")
+ADD_LINE = re.compile(rb"a ([0-9]+) ([0-9]+) ([0-9]+) (-?[0-9]{1,18})(?: ([0-9]+)(?: ([0-9]+))?)?")
 STEP_LINE = re.compile(rb"s ([0-9]+)")
 
 
@@ -448,14 +451,14 @@ def at_most(digits, limit):
 
 
 def read_line(line):
-    """('a', desk, tray, property, cents, day) or ('s', desk), or Refused 16."""
+    """('a', desk, tray, property, cents, day, unit) or ('s', desk), or Refused 16."""
     if len(line) > MOST_LINE_BYTES:
         raise Refused(16)
     add = ADD_LINE.fullmatch(line)
     if add:
-        desk, tray, prop, cents, day = add.groups(default=b"0")
+        desk, tray, prop, cents, day, unit = add.groups(default=b"0")
         numbers = at_most(desk, 65_535), at_most(tray, 65_535), at_most(prop, MOST_U32), int(cents)
-        return ("a", *numbers, at_most(day, MOST_U32))
+        return ("a", *numbers, at_most(day, MOST_U32), at_most(unit, MOST_U16))
     step = STEP_LINE.fullmatch(line)
     if step:
         return ("s", at_most(step.group(1), 65_535))

@@ -3,8 +3,8 @@
     python3 tests/oracles_test.py
 
 The printouts of the two test programs to their oracles, and the oracle's own printouts to the pool of the join
-calculus, over random tables and lines; each word, a quiet board and looks that the days decide must occur. The last
-line is 'oracles: N passed, M failed'.
+calculus, over random tables and lines; each word, a quiet board and what days and units decide must occur. Then the
+two flats, whose rents cross where the unit is not asked for. The last line is 'oracles: N passed, M failed'.
 """
 
 import subprocess
@@ -12,14 +12,19 @@ import sys
 from collections import Counter
 from pathlib import Path
 
+import oracle
 import pool_check
+import text_to_bin
 
 ROOT = Path(__file__).resolve().parent.parent
 SEEDS, LINES = 400, 400
 WORDS = (
     "item looked missed claimed lost reverted matched consumed told woke freed signalled again ended rested answered"
     " resumed quiet"
-).split() + ["older", "tie", "first day", "last day"]
+).split()
+WORDS += ["older", "tie", "first day", "last day", "first unit", "last unit"]
+WORDS += ["unit passed over", "unit not asked", "unit missed", "unit unmarked", "unit left"]
+FLATS = ROOT / "examples" / "two-flats"
 
 
 def printout(crate):
@@ -34,11 +39,24 @@ def pool():
     return all(total[word] for word in WORDS)
 
 
+def flats_cross():
+    """By property alone, flat 2's payment takes flat 1's rent."""
+    text = (FLATS / "table.txt").read_text()
+    lines = (FLATS / "input").read_bytes()
+    by_unit, by_property = (
+        oracle.printout(text_to_bin.convert(text.replace("same unit", wish)), lines).splitlines()
+        for wish in ("same unit", "same property")
+    )
+    crossed = b"match 0 rule 0 cents -25000 items 2 0"
+    return crossed in by_property and not any(line.startswith(crossed[:24]) for line in by_unit)
+
+
 def main():
     tests = {
         "printout of edges": lambda: printout("edges"),
         "printout of table_edges": lambda: printout("table_edges"),
         f"{SEEDS} printouts by the pool": pool,
+        "two flats by property alone": flats_cross,
     }
     failed = 0
     for name, test in tests.items():

@@ -4,38 +4,50 @@
 
 For each seed: a random table, N random lines, the oracle's printout; then the
 pool is kept by the words printed, and on a quiet board no rule can be met. What
-the days decided is counted beside the words.
+days and units decided is counted beside the words.
 """
 
 import sys
-from collections import Counter
+from collections import Counter, namedtuple
 
 import oracle
 import random_session
 
+Item = namedtuple("Item", "tray prop cents unit")
 
-def meets(table, rule, numbers, items):
+
+def common(item, same):
+    """What must be equal in the items of a rule with this last byte."""
+    return {0: (), 1: (item.prop,), 2: (item.prop, item.unit)}[same]
+
+
+def meets(rule, numbers, items):
     if len(set(numbers)) != len(numbers) or len(numbers) != len(rule.members):
         return False
-    if [items[n][0] for n in numbers] != rule.members:
+    if [items[n].tray for n in numbers] != rule.members:
         return False
-    return not rule.same_property or len({items[n][1] for n in numbers}) == 1
+    return len({common(items[n], rule.same) for n in numbers}) == 1
 
 
-def can_be_met(rule, pool, items):
-    need = Counter(rule.members)
-    groups = {None: pool} if not rule.same_property else {}
-    if rule.same_property:
-        for n in pool:
-            groups.setdefault(items[n][1], []).append(n)
-    return any(
-        all(Counter(items[n][0] for n in group)[tray] >= many for tray, many in need.items())
-        for group in groups.values()
-    )
+def can_be_met(members, same, pool, items):
+    need, groups = Counter(members), {}
+    for n in pool:
+        groups.setdefault(common(items[n], same), Counter())[items[n].tray] += 1
+    return any(all(group[tray] >= many for tray, many in need.items()) for group in groups.values())
+
+
+def left_by_unit(table, pool, items):
+    """Would the pool meet a rule that wants equal units if it wanted equal properties alone?"""
+    return any(rule.same == oracle.UNIT and can_be_met(rule.members, 1, pool, items) for rule in table.rules)
 
 
 class Watched(oracle.Board):
-    """Counts what the days decided: older items before lower numbers, lower numbers of equal days, and extremes."""
+    """Counts what days and units decided.
+
+    Of days: older items before lower numbers, lower numbers of equal days, and extremes. Of units: items of the hand's
+    property and another unit that the unit alone kept from being taken or from setting the mark, those that were taken
+    by rules that want the property alone, and extremes.
+    """
 
     def __init__(self, table):
         super().__init__(table)
@@ -43,9 +55,43 @@ class Watched(oracle.Board):
 
     def found(self, desk):
         number = super().found(desk)
-        if number not in (None, desk.hand):
+        if number is None:
+            self.weigh_miss(desk)
+        elif number != desk.hand:
             self.weigh(desk, number)
+            self.weigh_unit(desk, number)
         return number
+
+    def same(self, desk):
+        return self.table.rules[desk.rule].same
+
+    def of_other_units(self, desk, status):
+        """Day and number of the items of the member's tray with this status, the hand's property and another unit."""
+        hand, tray = self.items[desk.hand], self.members(desk)[desk.at]
+        return [
+            (item.day, number)
+            for number, item in enumerate(self.items)
+            if (item.tray, item.status, item.prop) == (tray, status, hand.prop) and item.unit != hand.unit
+        ]
+
+    def weigh_miss(self, desk):
+        if self.same(desk) == oracle.UNIT:
+            tray = self.members(desk)[desk.at]
+            marked = any(item.status == oracle.CLAIMED and self.fits(desk, n, tray) for n, item in enumerate(self.items))
+            self.seen["unit missed"] += self.of_other_units(desk, oracle.PENDING) != []
+            self.seen["unit unmarked"] += not marked and self.of_other_units(desk, oracle.CLAIMED) != []
+
+    def weigh_unit(self, desk, number):
+        item, hand, same = self.items[number], self.items[desk.hand], self.same(desk)
+        if same == oracle.PROPERTY:
+            assert item.prop == hand.prop
+            self.seen["unit not asked"] += item.unit != hand.unit
+        elif same == oracle.UNIT:
+            assert (item.prop, item.unit) == (hand.prop, hand.unit)
+            earlier = [rank for rank in self.of_other_units(desk, oracle.PENDING) if rank < (item.day, number)]
+            self.seen["unit passed over"] += earlier != []
+            self.seen["first unit"] += item.unit == 0
+            self.seen["last unit"] += item.unit == oracle.MOST_U16
 
     def weigh(self, desk, number):
         day, tray = self.items[number].day, self.members(desk)[desk.at]
@@ -58,7 +104,7 @@ class Watched(oracle.Board):
         self.seen["last day"] += day == oracle.MOST_U32
 
 
-def decided_by_days(table, calls):
+def decided(table, calls):
     board = Watched(table)
     for line in calls:
         oracle.answer(board, line)
@@ -73,34 +119,35 @@ def check(seed, lines):
     out = oracle.printout(data, session).decode().split("\n")[:-1]
     answers, rest = out[: len(calls)], out[len(calls) :]
     matches = [line.split() for line in rest if line.startswith("match")]
-    items, pool, own, words, made = [], set(), {}, decided_by_days(table, calls), 0
+    items, pool, own, words, made = [], set(), {}, decided(table, calls), 0
     for line, words_printed in zip(calls, answers):
         word, *number = words_printed.split()
         words[words_printed if word == "refused" else word] += 1
         if word == "item":
             assert int(number[0]) == len(items)
-            _, desk, tray, prop, cents, *_ = line.split()
-            items.append((int(tray), int(prop), int(cents)))
+            desk, tray, prop, cents, _, unit = [*map(int, line.split()[1:]), 0, 0][:6]
+            items.append(Item(tray, prop, cents, unit))
             pool.add(int(number[0]))
-            own[int(desk)] = int(number[0])
+            own[desk] = int(number[0])
         elif word == "matched":
             assert int(number[0]) == made
             match = matches[made]
             rule, cents = int(match[3]), int(match[5])
             numbers = [int(n) for n in match[7:]]
-            assert set(numbers) <= pool and meets(table, table.rules[rule], numbers, items)
-            assert cents == sum(items[n][2] for n in numbers)
+            assert set(numbers) <= pool and meets(table.rules[rule], numbers, items)
+            assert cents == sum(items[n].cents for n in numbers)
             pool -= set(numbers)
             made += 1
         elif word == "answered":
             mine = own[int(line.split()[1])]
-            assert table.waiting[items[mine][0]]
+            assert table.waiting[items[mine].tray]
             holders = [k for k, m in enumerate(matches) if str(mine) in m[7:]]
             assert holders == [int(number[0])], (holders, number)
     assert made == len(matches)
     if rest[-1] == "quiet yes":
         words["quiet"] += 1
-        assert not any(can_be_met(rule, pool, items) for rule in table.rules), seed
+        assert not any(can_be_met(rule.members, rule.same, pool, items) for rule in table.rules), seed
+        words["unit left"] += left_by_unit(table, pool, items)
         assert sorted(pool) == [int(l.split()[1]) for l in rest if l.startswith("open")]
     return words
 

@@ -20,17 +20,26 @@ import random_session
 ROOT = pathlib.Path(__file__).resolve().parent.parent
 PROGRAM = ROOT / "target" / "bin" / "gevnyusto"
 TABLE_P = (ROOT / "examples" / "table-p" / "rules.bin").read_bytes()
+TABLE_OF_UNITS = TABLE_P[:17] + b"\2" + TABLE_P[18:]  # P, with a rule that wants equal units too
 RUN_OF_P = (ROOT / "examples" / "table-p" / "input").read_bytes()
 DAY_LINE = b"a 0 0 7 5000"
 DAYS = (b"", b" 0", b" 1", b" 4294967295", b" 004294967295", b" " + b"0" * 40)
 UNREADABLE_DAYS = (
     b" ", b" 4294967296", b" 04294967296", b" 99999999999", b" -1", b" -0", b" +1", b" x", b" 1x", b" 0x1", b" 1 ",
-    b"  1", b" 1 2", b" 1 2 3", b" 1\r", b"\t1", b" " + b"9" * 67,
+    b"  1", b" 1\r", b"\t1", b" " + b"9" * 67,
+)  # fmt: skip
+UNIT_LINE = DAY_LINE + b" 20454"
+UNITS = (b"", b" 0", b" 1", b" 255", b" 256", b" 65535", b" 00000065535", b" " + b"0" * 40)
+UNREADABLE_UNITS = (
+    b" ", b" 65536", b" 00065536", b" 65537", b" 4294967295", b" 4294967296", b" 18446744073709551616", b" -1", b" -0",
+    b" +1", b" x", b" 1x", b" 0x1", b" 1.5", b" 1 ", b"  1", b" 1 2", b" 1 2 3", b" 1\r", b"\t1", b" " + b"9" * 61,
 )  # fmt: skip
 
 
-def with_day(line):
-    return line + (b" 20454\n" if line.startswith(b"a") else b"\n")
+def with_end(lines, *ends):
+    """The lines, where adds have these ends, the first add the first end and so on."""
+    ends = iter(ends)
+    return b"".join(line + next(ends) + b"\n" if line.startswith(b"a") else line + b"\n" for line in lines.splitlines())
 
 
 def printed(table, lines):
@@ -56,6 +65,8 @@ def odd_cases():
     tables["a long file"] = TABLE_P + bytes(100_000)
     tables["a full table"] = random_session.largest_table(random.Random(0))
     tables["a full table and one byte"] = tables["a full table"] + b"\0"
+    for byte in (0, 2, 3, 255):
+        tables[f"last byte {byte}"] = TABLE_P[:17] + bytes([byte]) + TABLE_P[18:]
     for name, table in tables.items():
         yield name, printed(table, RUN_OF_P), oracle.printout((table or b"")[:413], RUN_OF_P)
     inputs = {"no input": b"", "a line feed": b"\n", "no last line feed": RUN_OF_P.rstrip(b"\n")}
@@ -67,12 +78,31 @@ def odd_cases():
     inputs["days"] = b"".join(DAY_LINE + day + b"\ns 0\ns 0\ns 0\n" for day in DAYS) + RUN_OF_P
     inputs["an add of 80 bytes"] = (DAY_LINE + b" ").ljust(79, b"0") + b"7\n"
     inputs["an add of 81 bytes"] = (DAY_LINE + b" ").ljust(80, b"0") + b"7\n"
-    inputs["the run with days"] = b"".join(with_day(line) for line in RUN_OF_P.splitlines())
+    inputs["the run with days"] = with_end(RUN_OF_P, b" 20454", b" 20454")
+    inputs["unreadable units"] = b"\n".join(UNIT_LINE + unit for unit in UNREADABLE_UNITS)
+    inputs["units"] = b"".join(UNIT_LINE + unit + b"\ns 0\ns 0\ns 0\n" for unit in UNITS) + RUN_OF_P
+    inputs["an add with a unit of 80 bytes"] = (UNIT_LINE + b" ").ljust(79, b"0") + b"7\n"
+    inputs["an add with a unit of 81 bytes"] = (UNIT_LINE + b" ").ljust(80, b"0") + b"7\n"
     inputs["5,000 line feeds"] = b"\n" * 5_000
     inputs["lines over the ends of reads"] = b"s 0\na 0 0 1 5\ns 12345\n" * 2_000
     inputs["four megabytes"] = b"s 0\na 0 0 1 5\ns 12345\n" * 180_000 + RUN_OF_P
     for name, lines in inputs.items():
         yield name, printed(TABLE_P, lines), oracle.printout(TABLE_P, lines)
+
+
+def unit_cases():
+    """01's run of P, with units: by property alone it goes as without them, else only where they are equal."""
+    run = oracle.printout(TABLE_P, RUN_OF_P)
+    unmatched = oracle.printout(TABLE_OF_UNITS, with_end(RUN_OF_P, b" 0 1", b" 0 2"))
+    for first, second in ((b"", b""), (b"", b" 0 0"), (b" 5 0", b" 9"), (b" 0 7", b" 1 07"), (b" 3 65535", b" 0 65535")):
+        lines = with_end(RUN_OF_P, first, second)
+        yield f"the run, {first} and {second}", printed(TABLE_OF_UNITS, lines), run
+        yield f"the run by property, {first} and {second}", printed(TABLE_P, lines), run
+    for first, second in ((b" 0 1", b" 0 2"), (b"", b" 0 1"), (b" 0 1", b""), (b" 0 256", b""), (b" 0 65535", b" 0 32767")):
+        lines = with_end(RUN_OF_P, first, second)
+        yield f"the run unmatched, {first} and {second}", printed(TABLE_OF_UNITS, lines), unmatched
+        yield f"the run by property, {first} and {second}", printed(TABLE_P, lines), run
+    yield "the run unmatched", b"match" in unmatched or run == unmatched, False
 
 
 def failing_cases():
@@ -104,7 +134,7 @@ def random_cases(count):
 def main():
     count = int(sys.argv[1]) if len(sys.argv) > 1 else 300
     passed = failed = 0
-    for cases in (example_cases(), odd_cases(), failing_cases(), random_cases(count)):
+    for cases in (example_cases(), odd_cases(), unit_cases(), failing_cases(), random_cases(count)):
         for name, got, wanted in cases:
             if got == wanted:
                 passed += 1

@@ -15,13 +15,17 @@ from text_to_bin import table_bytes
 
 UNREADABLE = (
     b"", b"a", b"s", b"s ", b" s 0", b"s 0 ", b"s  0", b"s -0", b"s 65536", b"s 0\r", b"S 0",
-    b"a 0 0 0", b"a 0 0 0 0 0 0", b"a 0  0 0 0", b"a 0 0 0 -", b"a 0 0 0 +1", b"a 0 0 0 --1",
+    b"a 0 0 0", b"a 0 0 0 0 0 0 0", b"a 0  0 0 0", b"a 0 0 0 -", b"a 0 0 0 +1", b"a 0 0 0 --1",
     b"a -1 0 0 0", b"a 0 65536 0 0", b"a 65536 0 0 0", b"a 0 0 4294967296 0",
     b"a 0 0 0 0000000000000000000", b"a 0 0 0 1234567890123456789", b"s " + b"0" * 79,
     b"x 1 2 3 4", b"s 1 2", b"s \xff", b"a 0 0 0 1.5", b"s\t0", b"q",
     b"a 0 0 0 0 4294967296", b"a 0 0 0 0 00004294967296", b"a 0 0 0 0 18446744073709551616", b"a 0 0 0 0 ",
     b"a 0 0 0 0 -0", b"a 0 0 0 0 -1", b"a 0 0 0 0 +1", b"a 0 0 0 0 x", b"a 0 0 0 0 1x", b"a 0 0 0 0 1.5",
-    b"a 0 0 0 0  1", b"a 0 0 0 0 1 ", b"a 0 0 0 0 1 2", b"a 0 0 0 0 1\r", b"a 0 0 0 0\t1", b"a 0 0 0 0 " + b"0" * 71,
+    b"a 0 0 0 0  1", b"a 0 0 0 0 1 ", b"a 0 0 0 0 1\r", b"a 0 0 0 0\t1", b"a 0 0 0 0 " + b"0" * 71,
+    b"a 0 0 0 0 1 65536", b"a 0 0 0 0 1 00065536", b"a 0 0 0 0 1 4294967296", b"a 0 0 0 0 1 18446744073709551616",
+    b"a 0 0 0 0 1 -0", b"a 0 0 0 0 1 -1", b"a 0 0 0 0 1 +1", b"a 0 0 0 0 1 x", b"a 0 0 0 0 1 1x", b"a 0 0 0 0 1 1.5",
+    b"a 0 0 0 0 1  2", b"a 0 0 0 0  2", b"a 0 0 0 0 1 2 ", b"a 0 0 0 0 1 2\r", b"a 0 0 0 0 1\t2", b"a 0 0 0 0 x 2",
+    b"a 0 0 0 0 1 2 3", b"a 0 0 0 0 1 2 3 4", b"a 0 0 0 0 4294967296 2", b"a 0 0 0 0 1 " + b"0" * 69,
 )  # fmt: skip
 
 # The habits of days: from the random numbers and the number of items so far.
@@ -35,6 +39,21 @@ DAYS = (
     lambda rng, items: 1 + items // 3,
     lambda rng, items: oracle.MOST_U32 - items // 3,
 )
+
+# The habits of units.
+UNITS = (
+    lambda rng: 0,
+    lambda rng: 12,
+    lambda rng: rng.randrange(2),
+    lambda rng: rng.randrange(2),
+    lambda rng: 1 + rng.randrange(3),
+    lambda rng: rng.choice((0, 256)),
+    lambda rng: rng.choice((0, oracle.MOST_U16)),
+    lambda rng: oracle.MOST_U16 - rng.randrange(2),
+    lambda rng: rng.randrange(oracle.MOST_U16 + 1),
+)
+
+LAST_BYTES = (oracle.ANY, oracle.ANY, oracle.PROPERTY, oracle.UNIT)
 
 
 def random_table(seed):
@@ -51,13 +70,13 @@ def random_table(seed):
     for _ in range(count):
         length = rng.randint(1 if rng.random() < 0.15 else min(2, longest), longest)
         members = [rng.randrange(trays) for _ in range(length)]
-        rules.append((members, rng.random() < 0.4))
+        rules.append((members, rng.choice(LAST_BYTES)))
     return table_bytes(waiting, rules)
 
 
 def largest_table(rng):
     """A table of 412 bytes, the most there can be."""
-    rules = [([rng.randrange(16) for _ in range(8)], rng.random() < 0.4) for _ in range(32)]
+    rules = [([rng.randrange(16) for _ in range(8)], rng.choice(LAST_BYTES)) for _ in range(32)]
     return table_bytes([rng.random() < 0.5 for _ in range(16)], rules)
 
 
@@ -77,6 +96,7 @@ class Session:
         self.favoured = self.rng.sample(range(oracle.DESKS), desks)
         self.properties = self.rng.choice((1, 2, 2, 3, 5))
         self.days = self.rng.choice((None, *DAYS))
+        self.units = self.rng.choice((None, *UNITS))
         self.adding = self.rng.choice((0.1, 0.2, 0.35, 0.5))
         self.run_on = self.rng.choice((0.0, 0.3, 0.7, 0.95))
         self.last = None  # the desk stepped last
@@ -107,7 +127,7 @@ class Session:
         return [number for number in desks if number in self.favoured] or desks
 
     def add_line(self, desk):
-        return self.add(desk, self.tray(), self.property(), self.cents()) + self.day()
+        return self.add(desk, self.tray(), self.property(), self.cents()) + self.day_and_unit()
 
     def tray(self):
         """A tray of some rule, often the one that the rule is shortest of."""
@@ -136,12 +156,18 @@ class Session:
             return 2**32 - 1
         return self.rng.randrange(self.properties)
 
-    def day(self):
-        """The end of a line: a day or none, and some with leading zeros."""
+    def day_and_unit(self):
+        """The end of a line: a day or none, and after a day a unit or none, some with leading zeros."""
         if self.days is None or self.rng.random() < 0.05:
             return b""
-        zeros = b"0" * self.rng.choice((0, 0, 0, 0, 1, 3, 20))
-        return b" %s%d" % (zeros, self.days(self.rng, len(self.board.items)))
+        day = self.field(self.days(self.rng, len(self.board.items)), 20)
+        if self.units is None or self.rng.random() < 0.05:
+            return day
+        return day + self.field(self.units(self.rng), 8)
+
+    def field(self, number, most_zeros):
+        zeros = b"0" * self.rng.choice((0, 0, 0, 0, 1, 3, most_zeros))
+        return b" %s%d" % (zeros, number)
 
     def cents(self):
         dice = self.rng.random()
@@ -162,6 +188,10 @@ class Session:
             (b"a %d %d %d 5 " % (desk, tray, self.property())).ljust(80, b"0"),
             (b"a %d %d %d 5 " % (desk, tray, self.property())).ljust(81, b"0"),
             self.add(desk, tray, self.property(), self.cents()) + b" 4294967295",
+            (b"a %d %d %d 5 20454 " % (desk, tray, self.property())).ljust(80, b"0"),
+            (b"a %d %d %d 5 20454 " % (desk, tray, self.property())).ljust(81, b"0"),
+            self.add(desk, tray, self.property(), self.cents()) + b" 20454 65535",
+            self.add(desk, tray, self.property(), self.cents()) + b" 20454 65536",
             self.add(desk, tray, self.property(), self.cents()),
             self.add(32 + desk, tray, self.property(), self.cents()),
             self.add(desk, self.trays, self.property(), self.cents()),

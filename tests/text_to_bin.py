@@ -3,8 +3,9 @@
     python3 tests/text_to_bin.py TABLE.TXT RULES.BIN
 
 A line is `tray NAME leave`, `tray NAME waiting`, or `rule NAME = A + B + C`,
-which may end with `same property`. A `#` starts a comment; blank lines are
-passed over. Trays and rules are numbered in the order of their lines.
+which may end with `same property` or with `same unit`: then all its items must
+have one property, or one property and one unit. A `#` starts a comment; blank
+lines are passed over. Trays and rules are numbered in the order of their lines.
 """
 
 import re
@@ -12,11 +13,12 @@ import sys
 
 NAME = r"[A-Za-z0-9_-]+"
 TRAY_LINE = re.compile(rf"tray\s+({NAME})\s+(leave|waiting)")
-RULE_LINE = re.compile(rf"rule\s+({NAME})\s*=\s*({NAME}(?:\s*\+\s*{NAME})*)(\s+same\s+property)?")
+RULE_LINE = re.compile(rf"rule\s+({NAME})\s*=\s*({NAME}(?:\s*\+\s*{NAME})*)(?:\s+same\s+(property|unit))?")
+LAST_BYTES = {None: 0, "property": 1, "unit": 2}
 
 
 def read_text(text):
-    """([(tray name, waiting)], [(rule name, members, same property)])"""
+    """([(tray name, waiting)], [(rule name, members, last byte)])"""
     trays, rules, tray_numbers, rule_names = [], [], {}, set()
     for number, line in enumerate(text.splitlines(), 1):
         line = line.split("#")[0].strip()
@@ -40,7 +42,7 @@ def read_text(text):
                 raise ValueError(f"line {number}: no tray {unknown[0]}")
             if len(names) > 8:
                 raise ValueError(f"line {number}: over 8 members")
-            rules.append((name, [tray_numbers[part] for part in names], same is not None))
+            rules.append((name, [tray_numbers[part] for part in names], LAST_BYTES[same]))
         else:
             raise ValueError(f"line {number}: neither a tray nor a rule")
     return trays, rules
@@ -51,7 +53,7 @@ def u16(number):
 
 
 def table_bytes(waiting, rules):
-    """The bytes of trays (a bool each) and rules (members, same property)."""
+    """The bytes of trays (a bool each) and rules (members, last byte)."""
     members = [tray for names, _ in rules for tray in names]
     if not 1 <= len(waiting) <= 16 or len(rules) > 32 or len(members) > 256:
         raise ValueError("trays must be 1 to 16, rules at most 32, members at most 256")
@@ -61,7 +63,7 @@ def table_bytes(waiting, rules):
     header = b"".join(u16(number) for number in counts + offsets)
     records, first = b"", 0
     for names, same in rules:
-        records += u16(first) + bytes([len(names), int(same)])
+        records += u16(first) + bytes([len(names), same])
         first += len(names)
     return header + bytes(int(w) for w in waiting) + records + bytes(members)
 
