@@ -41,14 +41,9 @@ def pool():
 
 def flats_cross():
     """By property alone, flat 2's payment takes flat 1's rent."""
-    text = (FLATS / "table.txt").read_text()
-    lines = (FLATS / "input").read_bytes()
-    by_unit, by_property = (
-        oracle.printout(text_to_bin.convert(text.replace("same unit", wish)), lines).splitlines()
-        for wish in ("same unit", "same property")
-    )
-    crossed = b"match 0 rule 0 cents -25000 items 2 0"
-    return crossed in by_property and not any(line.startswith(crossed[:24]) for line in by_unit)
+    text = (FLATS / "table.txt").read_text().replace("same unit", "same property")
+    printed = oracle.printout(text_to_bin.convert(text), (FLATS / "input").read_bytes())
+    return b"match 0 rule 0 cents -25000 items 2 0" in printed.splitlines()
 
 
 def main():

@@ -80,8 +80,8 @@ WAKES, HELPS, OWN, OTHER, LAST = 0, [1, 2, 3, 4, 5, 6], 7, 8, [9, 10, 11, 12, 13
 
 def worst_table():
     waiting = [False] * 7 + [True] * 7
-    rules = [([WAKES, *HELPS[:5], OTHER, OWN], True)] * 30
-    rules += [([OTHER, WAKES, *LAST, OWN], False), ([WAKES, *HELPS, OWN], False)]
+    rules = [([WAKES, *HELPS[:5], OTHER, OWN], oracle.PROPERTY)] * 30
+    rules += [([OTHER, WAKES, *LAST, OWN], oracle.ANY), ([WAKES, *HELPS, OWN], oracle.ANY)]
     return table_bytes(waiting, rules)
 
 

@@ -77,7 +77,8 @@ class Watched(oracle.Board):
     def weigh_miss(self, desk):
         if self.same(desk) == oracle.UNIT:
             tray = self.members(desk)[desk.at]
-            marked = any(item.status == oracle.CLAIMED and self.fits(desk, n, tray) for n, item in enumerate(self.items))
+            claimed = [number for number, item in enumerate(self.items) if item.status == oracle.CLAIMED]
+            marked = any(self.fits(desk, number, tray) for number in claimed)
             self.seen["unit missed"] += self.of_other_units(desk, oracle.PENDING) != []
             self.seen["unit unmarked"] += not marked and self.of_other_units(desk, oracle.CLAIMED) != []
 

@@ -29,6 +29,8 @@ UNREADABLE_DAYS = (
     b"  1", b" 1\r", b"\t1", b" " + b"9" * 67,
 )  # fmt: skip
 UNIT_LINE = DAY_LINE + b" 20454"
+ONE_UNIT = ((b"", b""), (b"", b" 0 0"), (b" 5 0", b" 9"), (b" 0 7", b" 1 07"), (b" 3 65535", b" 0 65535"))
+TWO_UNITS = ((b" 0 1", b" 0 2"), (b"", b" 0 1"), (b" 0 1", b""), (b" 0 256", b""), (b" 0 65535", b" 0 32767"))
 UNITS = (b"", b" 0", b" 1", b" 255", b" 256", b" 65535", b" 00000065535", b" " + b"0" * 40)
 UNREADABLE_UNITS = (
     b" ", b" 65536", b" 00065536", b" 65537", b" 4294967295", b" 4294967296", b" 18446744073709551616", b" -1", b" -0",
@@ -92,17 +94,14 @@ def odd_cases():
 
 def unit_cases():
     """01's run of P, with units: by property alone it goes as without them, else only where they are equal."""
-    run = oracle.printout(TABLE_P, RUN_OF_P)
-    unmatched = oracle.printout(TABLE_OF_UNITS, with_end(RUN_OF_P, b" 0 1", b" 0 2"))
-    for first, second in ((b"", b""), (b"", b" 0 0"), (b" 5 0", b" 9"), (b" 0 7", b" 1 07"), (b" 3 65535", b" 0 65535")):
-        lines = with_end(RUN_OF_P, first, second)
-        yield f"the run, {first} and {second}", printed(TABLE_OF_UNITS, lines), run
-        yield f"the run by property, {first} and {second}", printed(TABLE_P, lines), run
-    for first, second in ((b" 0 1", b" 0 2"), (b"", b" 0 1"), (b" 0 1", b""), (b" 0 256", b""), (b" 0 65535", b" 0 32767")):
-        lines = with_end(RUN_OF_P, first, second)
-        yield f"the run unmatched, {first} and {second}", printed(TABLE_OF_UNITS, lines), unmatched
-        yield f"the run by property, {first} and {second}", printed(TABLE_P, lines), run
-    yield "the run unmatched", b"match" in unmatched or run == unmatched, False
+    run = (ROOT / "examples" / "table-p" / "printout").read_bytes()
+    words = ["item 0", "missed", "ended", "refused 13", "item 1", "looked 1", "missed", "ended", *["refused 13"] * 12]
+    unmatched = "".join(line + "\n" for line in (*words, "open 0 pending", "open 1 pending", "quiet yes")).encode()
+    for units, wanted in ((ONE_UNIT, run), (TWO_UNITS, unmatched)):
+        for ends in units:
+            lines = with_end(RUN_OF_P, *ends)
+            yield f"the run, {ends}", printed(TABLE_OF_UNITS, lines), wanted
+            yield f"the run by property, {ends}", printed(TABLE_P, lines), run
 
 
 def failing_cases():

@@ -44,6 +44,17 @@ goes_back() {
     gives "$1, there and back" "$2"
 }
 
+# Table bytes, a format of printf, give a text, a format too.
+prints() {
+    # shellcheck disable=SC2059
+    printf "$2" >in
+    # shellcheck disable=SC2059
+    printf "$3" >expected
+    "$tablec" -r <in >out 2>err
+    cmp -s out expected && [ ! -s err ]
+    count "$1" $?
+}
+
 # With this argument the file `text` gives no output and one line on standard error.
 complains() {
     "$tablec" ${2+"$2"} <text >out 2>err
@@ -117,11 +128,31 @@ gives "names of 24" p.bin
 { printf 'tray a leave #%s\n' "$(letters 1010)" && lines 3000 '# %d' &&
     printf 'tray b waiting\nrule c = a + b same property'; } >text
 gives "a line of 1024 bytes, and many lines" p.bin
+
+# The wishes: none, `same property`, `same unit`, there and back.
+header='\002\000\001\000\002\000\014\000\016\000\022\000\000\001\000\000\002'
+trays='tray t0 leave\ntray t1 waiting\n'
+prints "no wish" "$header\\000\\000\\001" "${trays}rule r0 = t0 + t1\\n"
+prints "same property" "$header\\001\\000\\001" "${trays}rule r0 = t0 + t1 same property\\n"
+prints "same unit" "$header\\002\\000\\001" "${trays}rule r0 = t0 + t1 same unit\\n"
+# shellcheck disable=SC2059
+printf "$header\\002\\000\\001" >unit.bin
+goes_back "same unit" unit.bin
+printf 'tray a leave\ntray b waiting\nrule c =\ta + b   same\tunit  # same property\r\n' >text
+gives "same unit, with blanks and a comment" unit.bin
+printf 'tray same leave\ntray unit waiting\nrule property = same + unit same unit' >text
+gives "same and unit as names" unit.bin
+{ printf '\001\000\004\000\004\000\014\000\015\000\035\000\000' &&
+    printf '\000\000\001\002\001\000\001\000\002\000\001\001\003\000\001\002\000\000\000\000'; } >four.bin
+printf 'tray a leave\nrule p = a same unit\nrule q = a\nrule r = a same property\nrule s = a same unit\n' >text
+gives "four rules with their wishes" four.bin
+goes_back "four rules with their wishes" four.bin
+
 printf '\001\000\000\000\000\000\014\000\015\000\015\000\001' >one.bin
 printf 'tray a waiting' >text
 gives "one tray, no rule" one.bin
 goes_back "one tray, no rule" one.bin
-{ lines 16 'tray t%d leave' && lines 32 'rule r%d = t1 + t2 + t3 + t4 + t5 + t6 + t7 + t16'; } >text
+{ lines 16 'tray t%d leave' && lines 32 'rule r%d = t1 + t2 + t3 + t4 + t5 + t6 + t7 + t16 same unit'; } >text
 "$tablec" <text >full.bin 2>err
 [ "$(wc -c <full.bin)" -eq 412 ] && [ ! -s err ]
 count "the full table" $?
@@ -151,10 +182,15 @@ wrong 'line 4: no tray is called recipt' 'tray receipt leave\n\n\nrule r = recei
 wrong 'line 1: no tray is called a' 'rule r = a\ntray a leave\n'
 wrong 'line 2: no tray is called a+a' 'tray a leave\nrule r = a+a\n'
 wrong 'line 2: no tray is called same' 'tray a leave\nrule r = same property\n'
-wrong 'line 2: expected + or same property' 'tray a leave\nrule r = a a\n'
-wrong 'line 2: expected + or same property' 'tray a leave\nrule r = a same\n'
-wrong 'line 2: expected + or same property' 'tray a leave\nrule r = a same properties\n'
-wrong 'line 2: expected the end of the line, not +' 'tray a leave\nrule r = a same property + a\n'
+for end in a same property unit 'same properties' 'same units' 'same uni' 'same Unit' 'Same unit' 'same a unit' \
+    'same + unit' 'unit same' 'property unit' 'same property-unit'; do
+    wrong 'line 2: expected +, same property or same unit' "tray a leave\\nrule r = a $end\\n"
+done
+for wish in property unit; do
+    for end in + unit property same x; do
+        wrong "line 2: expected the end of the line, not $end" "tray a leave\\nrule r = a same $wish $end a\\n"
+    done
+done
 { lines 17 'tray t%d leave' && printf 'x\n'; } >text
 complains 'line 17: more than 16 trays'
 { printf 'tray a leave\n' && lines 33 'rule r%d = a'; } >text
@@ -169,8 +205,10 @@ refused 'refused 1: under 12 bytes' ''
 refused 'refused 2: T, R or M out of range' '\000\000\000\000\000\000\014\000\014\000\014\000'
 refused 'refused 3: offsets or length wrong' '\001\000\000\000\000\000\014\000\015\000\015\000'
 refused 'refused 4: byte over 1' '\001\000\000\000\000\000\014\000\015\000\015\000\002'
-refused 'refused 5: wrong first member, count not 1 to 8, or last byte over 1' \
-    '\001\000\001\000\001\000\014\000\015\000\021\000\000\000\000\011\000\000'
+for end in '\011\000' '\000\000' '\001\003' '\001\377'; do
+    refused 'refused 5: wrong first member, count not 1 to 8, or last byte over 2' \
+        "\\001\\000\\001\\000\\001\\000\\014\\000\\015\\000\\021\\000\\000\\000\\000$end\\000"
+done
 refused 'refused 6: member counts do not sum to M' \
     '\001\000\001\000\001\000\014\000\015\000\021\000\000\000\000\002\000\000'
 refused 'refused 7: tray number T or more' \

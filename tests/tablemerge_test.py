@@ -1,11 +1,11 @@
-"""Runs target/bin/tablemerge and compares what it writes with a merge written from request 1 alone.
+"""Runs target/bin/tablemerge and compares what it writes with a merge written from requests 1 and 8 alone.
 
     python3 tests/tablemerge_test.py [PAIRS]
 
-The example, every line on standard error, each refusal in its place, and PAIRS random pairs of tables and maps
-(default 600), some of them damaged. Then the law, on target/bin/gevnyusto: sessions that add only to trays of the first
-table which no rule of the second names give one printout under the first table and under the merged one, and other
-sessions need not. The last line is `tablemerge: N passed, M failed`.
+The example, every line on standard error, each last byte of a rule, each refusal in its place, and PAIRS random pairs
+of tables and maps (default 600), some of them damaged. Then the law, on target/bin/gevnyusto: sessions that add only to
+trays of the first table which no rule of the second names give one printout under the first table and under the merged
+one, and other sessions need not. The last line is `tablemerge: N passed, M failed`.
 """
 
 import collections
@@ -31,7 +31,7 @@ WHEN = {
     2: "T, R or M out of range",
     3: "offsets or length wrong",
     4: "byte over 1",
-    5: "wrong first member, count not 1 to 8, or last byte over 1",
+    5: "wrong first member, count not 1 to 8, or last byte over 2",
     6: "member counts do not sum to M",
     7: "tray number T or more",
 }
@@ -92,8 +92,8 @@ def merge(first_bytes, second_bytes, words):
     check_map(first, second, words)
     targets = becomes(first, words)
     waiting = first.waiting + [second.waiting[place] for place, word in enumerate(words) if word == "new"]
-    rules = [(rule.members, rule.same_property) for rule in first.rules]
-    rules += [([targets[tray] for tray in rule.members], rule.same_property) for rule in second.rules]
+    rules = [(rule.members, rule.same) for rule in first.rules]
+    rules += [([targets[tray] for tray in rule.members], rule.same) for rule in second.rules]
     if len(rules) > 32:
         raise Refused(18, "rules", "the merged table would have more than 32 rules")
     if len(waiting) > 16:
@@ -142,12 +142,12 @@ def merged(first, second, text, arguments=FILES, stdin=b"", stdout=subprocess.PI
 
 # --- tables for the cases -----------------------------------------------------
 
-PAIR = table_bytes([False, True], [([0, 1], True)])
-THREE = table_bytes([True, False, False], [([0, 1, 2], False), ([1], True)])
+PAIR = table_bytes([False, True], [([0, 1], 1)])
+THREE = table_bytes([True, False, False], [([0, 1, 2], 0), ([1], 2)])
 ONE = table_bytes([False], [])
-WIDE = table_bytes([False] * 16, [([0], False)])
-LONG = table_bytes([False, True], [([0], False)] * 20)
-FULL = table_bytes([False] * 16, [([7] * 8, True)] * 32)
+WIDE = table_bytes([False] * 16, [([0], 0)])
+LONG = table_bytes([False, True], [([0], 0)] * 20)
+FULL = table_bytes([False] * 16, [([7] * 8, 2)] * 32)
 
 
 def with_byte(data, at, byte):
@@ -160,7 +160,7 @@ DAMAGED = {
     2: with_byte(PAIR, 0, 17),
     3: PAIR[:-1],
     4: with_byte(PAIR, 13, 2),
-    5: with_byte(PAIR, 17, 2),
+    5: with_byte(PAIR, 17, 3),
     6: with_byte(PAIR, 16, 1),
     7: with_byte(PAIR, 19, 2),
 }
@@ -214,8 +214,25 @@ def size_cases():
         wanted = complaint(f"refused 3: the second table: {WHEN[3]}")
         yield f"second table of {len(data)} bytes", merged(PAIR, data, b"0 1"), wanted
     yield "a table of 412 bytes", merged(FULL, ONE, b"3"), (FULL, b"")
-    most, more = table_bytes([False] * 15, [([7] * 8, True)] * 31), table_bytes([False] * 2, [([0] * 8, True)])
+    most, more = table_bytes([False] * 15, [([7] * 8, 2)] * 31), table_bytes([False] * 2, [([0] * 8, 2)])
     yield "a merge that makes 412 bytes", merged(most, more, b"7 new"), (FULL, b"")
+
+
+# --- the last bytes of rules --------------------------------------------------
+
+
+def last_byte_cases():
+    for own, other in itertools.product(range(3), repeat=2):
+        first, second = table_bytes([False, True], [([0, 1], own)]), table_bytes([False], [([0, 0], other)])
+        joined = table_bytes([False, True], [([0, 1], own), ([0, 0], other)])
+        apart = table_bytes([False, True, False], [([0, 1], own), ([2, 2], other)])
+        yield f"last bytes {own} and {other}, joined", merged(first, second, b"0"), (joined, b"")
+        yield f"last bytes {own} and {other}, apart", merged(first, second, b"new"), (apart, b"")
+    for byte in (3, 4, 128, 255):
+        wrong = with_byte(PAIR, 17, byte)
+        for name, pair in (("first", (wrong, PAIR)), ("second", (PAIR, wrong))):
+            wanted = complaint(f"refused 5: the {name} table: {WHEN[5]}")
+            yield f"last byte {byte} in the {name}", merged(*pair, b"0 1"), wanted
 
 
 # --- the map's text -----------------------------------------------------------
@@ -278,11 +295,11 @@ def placed():
     yield "18 trays", WIDE, PAIR, "0 new"
     yield "18 rules", LONG, LONG, "0 1"
     yield "18 rules", FULL, FULL, " ".join(map(str, range(16)))
-    yield "18 rules", LONG, table_bytes([False] * 15, [([0], False)] * 13), "new " * 15  # and the trays
+    yield "18 rules", LONG, table_bytes([False] * 15, [([0], 0)] * 13), "new " * 15  # and the trays
     for text in ("1 new 0", "new new new", "1 0 new"):
         yield "merged", PAIR, THREE, text
     yield "merged", WIDE, ONE, "15"
-    yield "merged", LONG, table_bytes([True], [([0], True)] * 12), "1"
+    yield "merged", LONG, table_bytes([True], [([0], 1)] * 12), "1"
 
 
 def placed_cases():
@@ -350,9 +367,12 @@ def random_cases(pairs):
             second = damaged(rng, second)
         wanted, occurred = merge_says(first, second, words)
         seen[occurred] += 1
+        if occurred == "merged":
+            seen.update(f"last byte {rule.same}" for rule in oracle.read_table(wanted[0]).rules)
         yield f"random pair {seed}", merged(first, second, random_text(rng, words)), wanted
     print("tablemerge: random pairs, " + ", ".join(f"{key} {seen[key]}" for key in sorted(seen)))
     wanted = {"merged", *GROUNDS, *(f"{number} {which}" for number in WHEN for which in ("first", "second"))}
+    wanted |= {f"last byte {byte}" for byte in range(3)}
     yield "all that can occur occurred", sorted(wanted - set(seen)), []
 
 
@@ -399,6 +419,12 @@ def tray_count(table):
     return len(oracle.read_table(table).waiting)
 
 
+def matches_by_unit(table, printout):
+    rules = oracle.read_table(table).rules
+    chosen = [int(line.split()[3]) for line in printout.splitlines() if line.startswith(b"match ")]
+    return sum(rules[number].same == oracle.UNIT for number in chosen)
+
+
 def law_cases(sessions):
     """For each merge a session in the law and two outside of it: to all trays of the first, and to all there are."""
     seen = collections.Counter()
@@ -406,12 +432,14 @@ def law_cases(sessions):
         under_first, under_both = printouts(seed, first, both, own)
         seen["in the law"] += 1
         seen["matches in the law"] += under_first.count(b"\nmatch ")
+        seen["matches by unit in the law"] += matches_by_unit(first, under_first)
         yield f"the law, {seed}", under_both, under_first
         for name, table in (("to the first's trays", first), ("to all trays", both)):
             under_first, under_both = printouts(seed, first, both, range(tray_count(table)))
             seen[f"{name}, alike" if under_first == under_both else f"{name}, not alike"] += 1
     print("tablemerge: sessions, " + ", ".join(f"{key} {seen[key]}" for key in sorted(seen)))
     yield "there were matches in the law", seen["matches in the law"] > 0, True
+    yield "there were matches by unit in the law", seen["matches by unit in the law"] > 0, True
     yield "a tray that the second names matters", seen["to the first's trays, not alike"] > 0, True
     yield "a tray past the first's matters", seen["to all trays, not alike"] > 0, True
 
@@ -422,7 +450,7 @@ def main():
         if not program.exists():
             sys.exit(f"tablemerge_test.py: no program {program}")
     passed = failed = 0
-    fixed = (example_cases(), argument_cases(), size_cases(), text_cases(), placed_cases())
+    fixed = (example_cases(), argument_cases(), size_cases(), last_byte_cases(), text_cases(), placed_cases())
     for cases in (*fixed, random_cases(pairs), law_cases(100)):
         for name, got, wanted in cases:
             if got == wanted:
