@@ -1,6 +1,6 @@
 #!/usr/bin/env python3
-# The expected printout of edges, from document 01 and request 2 of document 02 alone: each line with the sentence or
-# the reason that gives it.
+# The expected printout of edges, from document 01 and requests 2 and 8 of document 02 alone: each line with the
+# sentence or the reason that gives it.
 # Run: python3 oracle.py | diff - stdout
 #
 # A line of one call: its answer, and `kept` where every list must be as found ("a refusal returns the number only and
@@ -9,11 +9,11 @@
 # empty board, all by one desk.
 #
 # The five lists: board, 674 numbers (items, matches, then 21 for each of 32 desks); bytes, 3,072 (trays, statuses,
-# rules of matches); links, 10,240 (matches of items, wakers, eight items of each match); keys, 2,048 (properties,
-# days); cents, 1,024. A desk's 21: state (0 idle, 1 at work, 2 blocked), signal, own item, waker, slip, match made
-# (these four plus 1, 0 for none), item in hand, rule, phase, place, second number, mark, how often `again`, eight
-# chosen items. Phases: 0 look, 1 claim, 2 revert (second: claims made), 3 consume (second: match plus 1), 4 tell, 5
-# wake, 6 free, 7 signal, 8 pass end, 9 rest (place: rests left less 1). Wake, signal and pass end have no place. A
+# rules of matches); links, 11,264 (matches of items, wakers, eight items of each match, units); keys, 2,048
+# (properties, days); cents, 1,024. A desk's 21: state (0 idle, 1 at work, 2 blocked), signal, own item, waker, slip,
+# match made (these four plus 1, 0 for none), item in hand, rule, phase, place, second number, mark, how often `again`,
+# eight chosen items. Phases: 0 look, 1 claim, 2 revert (second: claims made), 3 consume (second: match plus 1), 4 tell,
+# 5 wake, 6 free, 7 signal, 8 pass end, 9 rest (place: rests left less 1). Wake, signal and pass end have no place. A
 # rule, a place, the claims made and the count of `again` are bytes; signal and mark are 0 or 1.
 
 
@@ -96,16 +96,21 @@ for name in ["board", "bytes", "links", "keys", "cents"]:
     broken(name)
     six(name, 13, 0, 0, 0, 14, 15)  # an empty board: desk 0 idle: 13; its add taken; no item 0, no match 0
     broken(name)
+    if name == "links":
+        broken("links without units")  # 10,240 numbers
     if name == "keys":
         broken("keys, properties alone")  # 1,024 numbers, no days
 
 # 4. "a call given them first gives the reader's numbers": before 30 (a list too short) and 8 (desk 32).
 for n, label in [(1, "11 bytes"), (2, "17 trays"), (3, "a byte less"), (4, "tray byte 2"), (5, "a rule of 9"),
-                 (6, "a sum of 1"), (7, "member 2")]:
+                 (6, "a sum of 1"), (7, "member 2"), (5, "last byte 3"), (5, "last byte 255")]:
     print(f"open, {label}: {n} kept")
     six(label, *[n] * 6)
 print("open, P: 30 kept")  # 673 numbers lent
 broken("P")  # 30 before 8
+print("open, last byte 2: 30 kept")  # "the last byte is now wrong when over 2": P with 2 is accepted
+broken("last byte 2")
+print("opened, last byte 2: 0")
 print("open, 674 numbers: 0")
 print("open, 675 numbers: 30 kept")
 broken("30 before 8")
@@ -125,7 +130,7 @@ print("match 0: 15")
 print("slip: 0 reply 0")  # "A slip without a match reads as none, which is no refusal"
 print("quiet: 0 quiet")  # "every desk is idle, or blocked without a signal"
 
-# 6. Desks 0 to 31, trays under T, any property, any day, cents in range.
+# 6. Desks 0 to 31, trays under T, any property, day and unit, cents in range.
 one("add, desk 31", "item 0")
 one("add, desk 32", "refused 8")
 one("add, desk 65,535", "refused 8")
@@ -142,6 +147,10 @@ one("tray 65,535", "refused 10")
 for label in ["property 0", "property 4,294,967,295", "day 0", "day 4,294,967,295"]:  # "u32, any value"
     print(f"{label}: item 0 0 as sent")  # the add, and a read of item 0
 print("day 65,536, day 0 is asked for: item 0 0")  # read, and not as asked for
+print("unit 0: item 0 0 as sent")
+print("unit 65,535: item 0 0 as sent")  # "u16"
+print("unit 256, unit 0 is asked for: item 0 0")
+print("a unit not given: item 0 0 as sent")  # "without one it is 0"
 for label, taken in [("cents 999,999,999,999", True), ("cents 1,000,000,000,000", False),
                      ("cents -999,999,999,999", True), ("cents -1,000,000,000,000", False)]:
     print(f"{label}:", "item 0 0 as sent" if taken else "refused 11 kept 14")
@@ -185,6 +194,8 @@ broken("match of rule 3")  # three rules
 accepted("match 1, not counted, of rule 3")
 broken("match of item 6")
 accepted("past its members, item 6")  # rule 0 has two members, so the third number is not the match's
+accepted("item 0 of unit 65,535")  # sound asks nothing of units
+accepted("item 1,023, not counted, of unit 65,535")
 accepted("idle, own item 5")
 broken("idle, own item 6")  # numbers "held by a desk", also an idle one
 broken("idle, waker 6")
@@ -286,8 +297,8 @@ broken("the last desk, state 3")
 
 # 10. A replay, on table P and an empty board, of the first rows of 01's run of P: the calls of the rows, each as by
 # itself; 30 for rows that do not fit and 31 for less room than rows, after the refusals that every board call has. A
-# row has three numbers of calls, a property and a day, and an amount. A place for an answer that was not written is a
-# dash.
+# row has four numbers of calls, the last of them the unit, a property and a day, and an amount. A place for an answer
+# that was not written is a dash. The adds have units 3 and 65,535.
 def replay(label, number, *answers):
     print(f"{label}: {number}", *answers)
 
@@ -299,15 +310,19 @@ replay("two rows, room for two", 0, *RUN[:2], "-")
 replay("three rows, room for three", 0, *RUN[:3], "-")
 replay("two rows, room for three", 0, *RUN[:2], "-")
 replay("no rows, no room", 0, "-", "kept")  # no call
-for label in ["a number of the calls less", "a number of the calls more", "a day less", "a property more",
-              "properties alone", "an amount less", "an amount more", "rows and no amounts"]:
+for label in ["a unit less", "a number of the calls more", "calls without units", "four rows without units",
+              "a day less", "a property more", "properties alone", "an amount less", "an amount more",
+              "rows and no amounts"]:
     replay(label, "30 kept")
 replay("room for one", "31 kept")
 replay("no room", "31 kept")
 replay("30 before 31", "30 kept")
 replay("rows that fit, a board that is not sound", "30 kept")
-# then match 0, quiet, and desk 0's slip: "match 0 rule 0 cents 5000 items 1 0 / quiet yes"; the slip is match 0 plus 1
-replay("the run of P", 0, *RUN, "0 rule 0 members 2 items 1 0 cents 5000", "0 quiet", "0 reply 1")
+# then match 0, quiet, and desk 0's slip: "match 0 rule 0 cents 5000 items 1 0 / quiet yes"; the slip is match 0 plus 1;
+# "last byte 1 goes on meaning property only"; reads of both items with their units
+replay("the run of P", 0, *RUN, "0 rule 0 members 2 items 1 0 cents 5000", "0 quiet", "0 reply 1", *["0 as sent"] * 2)
+# P with last byte 2: item 0 does not fit for its unit; no item is claimed; a leave item's desk is idle, desk 0 blocked
+replay("the run, units wanted", 0, *RUN[:6], "missed", "ended", *["refused 13"] * 12, 15, "0 quiet", "0 reply 0")
 replay("1 before 30", "1 kept")
 
 
@@ -344,3 +359,46 @@ chosen("older, of another property", 2, 0, [0, 2])
 # Q's rule 0 names tray 0 and an empty one; rule 1 names tray 0 twice: the hand is the first, and not chosen again
 chosen("the oldest in hand", 2, 1, [2, 1], before=["looked 2", "missed"])
 chosen("the newest in hand", 2, 1, [2, 1], before=["looked 2", "missed"])
+
+
+# 12. "A rule with last byte 2 wants equal property and equal unit; last byte 1 goes on meaning property only". First
+# table P with last byte 2: items in tray 0 of the units in the label, then the one in hand, in tray 1.
+def missed(label):
+    print(f"{label}: item 0 item 1 missed ended")
+
+
+chosen("units 3 and 4, 4 in hand", 2, 0, [1, 2])
+chosen("units 4 and 3, 4 in hand", 2, 0, [0, 2], after=["0 as sent"])  # and a read of item 1 with its unit
+chosen("units 4 and 4, 4 in hand", 2, 0, [0, 2])
+chosen("older, of another unit", 2, 0, [1, 2])
+chosen("older, of the same unit", 2, 0, [1, 2])  # of those that fit, the least day
+chosen("the same unit of another property", 2, 0, [1, 2])
+chosen("units 65,534 and 65,535", 2, 0, [1, 2])
+chosen("units 65,535 and none, 0 in hand", 2, 0, [1, 2])  # "without one it is 0"
+# a leave item in hand, and two waiting ones in tray 1
+print("waiting, units 3 and 4, 4 in hand: item 0 item 1 item 2 looked 2 looked 1")
+# desk 0 finds nothing in tray 1; item 0 is pending and does not fit; what is left meets no rule, and the board is quiet
+print("unit 3, 4 in hand: item 0 looked 0 missed ended item 1 missed ended 0 quiet")
+missed("no unit, 65,535 in hand")
+missed("unit 256, none in hand")
+missed("unit 4 of another property, 4 in hand")
+# "if the tray has a claimed item that would fit, .. the retry mark is set": item 0 is of property 7 and unit 4
+print("desk 1 holds item 0: item 0 item 1 looked 0 looked 1 claimed 0")
+print("claimed, of the same unit: item 2 missed again")
+print("claimed, of another unit: item 2 missed ended")
+print("claimed, of another property: item 2 missed ended")
+# last byte 1: table P
+chosen("by property, another unit", 1, 0, [0, 1])
+chosen("by property, older and of another unit", 2, 0, [1, 2])
+missed("by property, the same unit of another property")
+print("by property, claimed, of another unit: item 0 item 1 looked 0 looked 1 claimed 0 item 2 missed again")
+# last byte 0
+chosen("by neither", 1, 0, [0, 1])
+print("by neither, claimed: item 0 item 1 looked 0 looked 1 claimed 0 item 2 missed again")
+# Trays leave, waiting, leave; rules 0 1, and 0 2 with last byte 2. Desk 0's item 0 is of unit 3, its waker, item 1, of
+# unit 4 and newer than item 2. Desk 0 matches items 2 and 0; "takes its waker in hand if it has one that is not
+# consumed". Rule 0 is missed, as tray 1 has no pending item. Of items 3 and 4, of units 3 and 4, 4 fits the item in
+# hand. The slip is match 0, of its own item.
+print("the waker in hand: item 0 missed ended item 1 looked 1 looked 0 claimed 1 claimed 0 woke 0 freed 1 signalled 0",
+      "item 2 item 3 item 4 resumed looked 2 looked 0 claimed 2 matched 0 consumed 2 consumed 0 looked 1 missed",
+      "looked 1 looked 4 claimed 1 matched 1 consumed 1 consumed 4 0 rule 1 members 2 items 1 4 0 reply 1")

@@ -12,7 +12,7 @@ fn set(w: World, kind: u8, at: usize, x: u16) -> World {
     match kind {
         b'n' => v.board[at % 675] = x,
         b'b' => v.bytes[at % 3073] = (x % 256) as u8,
-        b'l' => v.links[at % 10241] = x,
+        b'l' => v.links[at % 11265] = x,
         b'L' => v.lens[at % 5] = x as usize,
         _ => {}
     }

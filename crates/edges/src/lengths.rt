@@ -63,9 +63,22 @@ fn tables() {
         2,
         b"open, member 2|L 0 673;o\nmember 2|L 0 0;y 32\n",
     );
+    damaged(
+        20,
+        17,
+        3,
+        b"open, last byte 3|L 0 673;o\nlast byte 3|L 0 0;y 32\n",
+    );
+    damaged(
+        20,
+        17,
+        255,
+        b"open, last byte 255|L 0 673;o\nlast byte 255|L 0 0;y 32\n",
+    );
 }
 
-// Each list at no numbers, one less than a board has, as many, and one more; keys without days; then the tables.
+// Each list at no numbers, one less than a board has, as many, and one more; links without units and keys without days;
+// then the tables.
 pub fn lines() {
     opened(
         &ONE,
@@ -78,9 +91,10 @@ pub fn lines() {
         bytes|L 1 3072;y 0\n\
         bytes|L 1 3073;y 0\n\
         links|L 2 0;y 0\n\
-        links|L 2 10239;y 0\n\
-        links|L 2 10240;y 0\n\
-        links|L 2 10241;y 0\n\
+        links|L 2 11263;y 0\n\
+        links|L 2 11264;y 0\n\
+        links|L 2 11265;y 0\n\
+        links without units|L 2 10240;y 0\n\
         keys|L 3 0;y 0\n\
         keys|L 3 2047;y 0\n\
         keys|L 3 2048;y 0\n\
@@ -93,6 +107,12 @@ pub fn lines() {
     );
     tables();
     damaged(20, 0, 2, b"open, P|L 0 673;o\nP|L 0 0;y 32\n");
+    damaged(
+        20,
+        17,
+        2,
+        b"open, last byte 2|L 0 673;o\nlast byte 2|L 0 0;y 32\nopened, last byte 2|o\n",
+    );
     filled(&P, b"open, 674 numbers|o\nopen, 675 numbers|L 0 675;o\n");
     opened(&ONE, b"30 before 8|L 1 3071;y 32\n");
 }

@@ -11,6 +11,7 @@ mod order;
 mod replays;
 mod sound;
 mod tables;
+mod units;
 mod unsound;
 
 fn main() {
@@ -24,4 +25,5 @@ fn main() {
     numbers::lines();
     replays::lines();
     days::lines();
+    units::lines();
 }

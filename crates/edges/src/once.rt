@@ -23,6 +23,7 @@ fn record(status: u8) -> Message {
         property: 7,
         cents: 1,
         day: 0,
+        unit: 0,
         status: status,
         matched: 0,
         waker: 0,

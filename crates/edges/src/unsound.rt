@@ -28,6 +28,8 @@ pub fn lines() {
         match 1, not counted, of rule 3|b 2049 3;x 0\n\
         match of item 6|l 2049 6;x 0\n\
         past its members, item 6|l 2050 6;x 0\n\
+        item 0 of unit 65,535|l 10240 65535;x 0\n\
+        item 1,023, not counted, of unit 65,535|l 11263 65535;x 0\n\
         idle, own item 5|d 3 2 6 0 0 0;x 0\n\
         idle, own item 6|d 3 2 7 0 0 0;x 0\n\
         idle, waker 6|d 3 2 2 7 0 0;x 0\n\

@@ -3,20 +3,23 @@ use crate::say;
 use crate::script;
 use crate::script::Part;
 
-// The 20 calls of the run, three numbers each: 1 for an add, the sender, the channel.
-fn run_calls() -> [u16; 60] {
-    let mut r = [0u16; 60];
+// The 20 calls of the run, four numbers each: 1 for an add, the sender, the channel, the unit. The adds have units 3
+// and 65,535, which the run does not ask for.
+fn run_calls() -> [u16; 80] {
+    let mut r = [0u16; 80];
     r[0] = 1;
     r[2] = 1;
-    r[12] = 1;
-    r[13] = 1;
+    r[3] = 3;
     r[16] = 1;
-    r[19] = 1;
-    r[22] = 1;
+    r[17] = 1;
+    r[19] = 65535;
+    r[21] = 1;
     r[25] = 1;
-    r[28] = 1;
-    r[31] = 1;
-    r[34] = 1;
+    r[29] = 1;
+    r[33] = 1;
+    r[37] = 1;
+    r[41] = 1;
+    r[45] = 1;
     r
 }
 
@@ -65,7 +68,7 @@ pub fn replayed(
     let numbers = run_numbers();
     let amounts = run_amounts();
     let mut answers = [NONE; 20];
-    let c = (script::small(p, 0) % 61) as usize;
+    let c = (script::small(p, 0) % 81) as usize;
     let n = (script::small(p, 1) % 41) as usize;
     let a = (script::small(p, 2) % 21) as usize;
     let room = (script::small(p, 3) % 21) as usize;

@@ -6,16 +6,17 @@
 //     l AT x..         links from AT on
 //     c N x, C N x     the cents of message N: x, or -1 - x
 //     L K n            list K is lent at n numbers
-//     a I C P x D      an add by sender I, to channel C, of property P, x cents and day D; a day not given is 0
-//     A I C P x D      the same, of -1 - x cents
+//     a I C P x D U    an add by sender I, to channel C, of property P, x cents, day D and unit U; a day or a unit not
+//                      given is 0
+//     A I C P x D U    the same, of -1 - x cents
 //     s I              a step of sender I
 //     x I              a step of sender I, an add of the last sender, and the reads, as numbers
 //     y I              the same by sender I, with the reads on the lists before both
 //     o                an opening, as a number
-//     m N C P x D, M   a read of message N, which is to have these
+//     m N C P x D U, M a read of message N, which is to have these
 //     k K, r I, q      reads of match K, of sender I's reply, and whether the board is quiet
-//     w C N A R        a replay of C numbers of calls, N properties and days, two a row, and A amounts, with room for
-//                      R answers
+//     w C N A R        a replay of C numbers of calls, four a row, N properties and days, two a row, and A amounts,
+//                      with room for R answers
 ghost use Prim.Native.Nat.{_≤_, _<_};
 ghost use lib.ListN.{length};
 use boards::Sent;
@@ -128,7 +129,7 @@ pub fn amount(p: Part, k: usize) -> i64 {
     x
 }
 
-// What a part says of a message: channel, property, cents and day, from a number of it on.
+// What a part says of a message: channel, property, cents, day and unit, from a number of it on.
 pub fn sent(p: Part, k: usize) -> Sent
     requires { ⌜ k < 16 ⌝ }
 {
@@ -137,6 +138,7 @@ pub fn sent(p: Part, k: usize) -> Sent
         property: (at(p, k + 1) % 4294967296) as u32,
         cents: amount(p, k + 2),
         day: (at(p, k + 3) % 4294967296) as u32,
+        unit: small(p, k + 4),
     }
 }
 
@@ -154,7 +156,7 @@ pub fn is_step(p: Part) -> bool {
     (p.kind == b's') | (p.kind == b't')
 }
 
-// A part with one number; its message is of property 7, of one cent, and of day 0.
+// A part with one number; its message is of property 7, of one cent, and of day and unit 0.
 pub fn ask(kind: u8, i: u16) -> Part {
     let mut numbers = [0u64; 24];
     numbers[0] = i as u64;

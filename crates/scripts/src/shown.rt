@@ -28,12 +28,12 @@ fn numbers(q: u8, r: u8, m: u8, k: u8) {
     say::next(k);
 }
 
-// A message's number, and whether channel, property, cents and day are these.
+// A message's number, and whether channel, property, cents, day and unit are these.
 fn message(r: MessageAnswer, x: Sent) {
     let m = r.message;
     say::next(r.number);
     let told = (m.channel as u16 == x.channel) & (m.property == x.property);
-    if told & (m.cents == x.cents) & (m.day == x.day) {
+    if told & (m.cents == x.cents) & (m.day == x.day) & (m.unit == x.unit) {
         say::text(b" as sent");
     }
 }

@@ -10,7 +10,7 @@ use state::Said;
 pub struct World {
     pub board: [u16; 675],
     pub bytes: [u8; 3073],
-    pub links: [u16; 10241],
+    pub links: [u16; 11265],
     pub keys: [u32; 2049],
     pub cents: [i64; 1025],
     pub lens: [usize; 5],
@@ -30,17 +30,17 @@ pub fn filled(x: u8) -> World {
     World {
         board: [number; 675],
         bytes: [x; 3073],
-        links: [number; 10241],
+        links: [number; 11265],
         keys: [key; 2049],
         cents: [amount; 1025],
-        lens: [674, 3072, 10240, 2048, 1024],
+        lens: [674, 3072, 11264, 2048, 1024],
     }
 }
 
 // Each list is read from its start again until the longest ends.
 pub fn is_same(a: World, b: World) -> bool {
     let mut i: usize = 0;
-    while i < 10241 {
+    while i < 11265 {
         let n = i % 675;
         let y = i % 3073;
         let k = i % 2049;
@@ -134,7 +134,7 @@ fn lend(
     table: &[u8],
     mut board: [u16; 675],
     mut bytes: [u8; 3073],
-    mut links: [u16; 10241],
+    mut links: [u16; 11265],
     mut keys: [u32; 2049],
     mut cents: [i64; 1025],
     lens: [usize; 5],
@@ -142,7 +142,7 @@ fn lend(
 ) -> After {
     let n0 = lens[0] % 676;
     let n1 = lens[1] % 3074;
-    let n2 = lens[2] % 10242;
+    let n2 = lens[2] % 11266;
     let n3 = lens[3] % 2050;
     let n4 = lens[4] % 1026;
     let said = lent(

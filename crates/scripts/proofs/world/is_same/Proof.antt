@@ -5,10 +5,10 @@ use Rattle.scripts.proofs.world.is_same.Statement.{statement}
 use Rattle.scripts.proofs.world.is_same.Tie as tie
 
 abbrev Inv-loop : tie.InvT-loop
-Inv-loop _ _ _ i = i ≤ 10241
+Inv-loop _ _ _ i = i ≤ 11265
 
 abbrev μ-loop : tie.MeasureT-loop
-μ-loop _ _ _ i = 10241 - i
+μ-loop _ _ _ i = 11265 - i
 
 pub is-same-spec : {M : Type 1} → statement M
 is-same-spec =
