@@ -1,5 +1,6 @@
 #!/usr/bin/env python3
-# The expected printout of table_edges, from document 01's "Table bytes" and "Refused, by place" alone.
+# The expected printout of table_edges, from document 01's "Table bytes" and "Refused, by place" and document 02's
+# request 8 alone.
 # Run: python3 oracle.py | diff - stdout
 
 
@@ -20,7 +21,7 @@ def number(b):
     first = 0
     for at in range(rules, members, 4):
         count = b[at + 2]
-        if u16(b, at) != first or not 1 <= count <= 8 or b[at + 3] > 1:
+        if u16(b, at) != first or not 1 <= count <= 8 or b[at + 3] > 2:
             return 5
         first += count
     if first != M:
@@ -45,7 +46,8 @@ def damage(b):
 
 
 def build(kinds, chords):
-    # the bytes of a value: kinds, and for each chord its channels and whether it wants equal properties
+    # the bytes of a value: kinds, and for each chord its channels and what it wants: 0 any, 1 equal properties, 2 equal
+    # properties and equal units
     members = [x for channels, _ in chords for x in channels]
     T, R, M = len(kinds), len(chords), len(members)
     b = b"".join(w.to_bytes(2, "little") for w in [T, R, M, 12, 12 + T, 12 + T + 4 * R]) + bytes(kinds)
@@ -62,7 +64,7 @@ def value(label, b, room=20):
 
 
 P = bytes.fromhex("020001000200" "0C000E001200" "0001" "00000201" "0001")
-full = build([i % 2 for i in range(16)], [([(i + k) % 16 for k in range(8)], 1 - i % 2) for i in range(32)])
+full = build([i % 2 for i in range(16)], [([(i + k) % 16 for k in range(8)], i % 3) for i in range(32)])
 
 print("table P, written, number", number(P))
 print("cut to 0, 1, .. 20 bytes:", *(number(P[:n]) for n in range(21)))
@@ -78,5 +80,8 @@ value("kind 7", build([0, 7], [([0, 1], 1)]))
 value("channel 2", build([0, 1], [([0, 2], 1)]))
 value("a buffer of 19", P, 19)
 value("a buffer of 20", P)
+for byte, label in enumerate(["any", "equal properties", "equal properties and units"]):
+    b = build([0, 1], [([0, 1], byte)])
+    print(f"{label}: {number(b)}, last byte {byte}, back {byte}")
 print("full table, written, number", number(full))
 damage(full)

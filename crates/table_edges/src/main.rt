@@ -2,6 +2,7 @@
 // Tables go through the reader and the writer first: table P, and one of 16 channels and 32 chords of 8.
 ghost use Prim.Native.Nat.{_<_, _≤_};
 use libc::STDOUT_FILENO;
+use table::Equality;
 
 const P: [u8; 20] = [
     2,
@@ -156,11 +157,14 @@ fn say_cuts(bytes: [u8; 412], len: usize)
     say(b"\n");
 }
 
-fn alternating(i: u8) -> table::Equality {
-    if i % 2 == 0 {
-        return table::Equality::Property;
+// The three equalities in turn.
+fn equal_of(i: u8) -> Equality {
+    let wish = i % 3;
+    match wish {
+        0 => Equality::Any,
+        1 => Equality::Property,
+        _ => Equality::Unit,
     }
-    table::Equality::Any
 }
 
 fn full_chord(i: u8) -> codec::Chord
@@ -176,7 +180,7 @@ fn full_chord(i: u8) -> codec::Chord
     codec::Chord {
         channels: channels,
         len: 8,
-        equal: alternating(i),
+        equal: equal_of(i),
     }
 }
 
@@ -233,6 +237,19 @@ fn with_channel(t: codec::Table, channel: u8) -> codec::Table {
     next
 }
 
+fn with_equal(t: codec::Table, equal: Equality) -> codec::Table {
+    let old = t.chords[0];
+    let channels = old.channels;
+    let c = codec::Chord {
+        channels: channels,
+        len: old.len,
+        equal: equal,
+    };
+    let mut next = t;
+    next.chords[0] = c;
+    next
+}
+
 fn with_kind(t: codec::Table, kind: u8) -> codec::Table {
     let mut next = t;
     next.kinds[1] = kind;
@@ -261,6 +278,35 @@ fn say_value(label: &[u8], t: codec::Table, room: usize)
     say(b"\n");
 }
 
+// The last byte of table P's chord.
+fn say_last(label: &[u8], p: [u8; 20]) {
+    say(label);
+    say_number(p[17] as usize);
+}
+
+// Table P's value with an equality: the number of its writing, its chord's last byte, and that byte once it is read and
+// written again.
+fn say_equal(label: &[u8], t: codec::Table, equal: Equality) {
+    let mut out = [255u8; 20];
+    let number = writer::write_table(with_equal(t, equal), &mut out);
+    let read = codec::read_table(&out);
+    let table = read.table;
+    let mut back = [255u8; 20];
+    writer::write_table(table, &mut back);
+    say(label);
+    say(b": ");
+    say_number(number as usize);
+    say_last(b", last byte ", out);
+    say_last(b", back ", back);
+    say(b"\n");
+}
+
+fn say_equals(t: codec::Table) {
+    say_equal(b"any", t, Equality::Any);
+    say_equal(b"equal properties", t, Equality::Property);
+    say_equal(b"equal properties and units", t, Equality::Unit);
+}
+
 // Table P's value with one field out of range.
 fn say_values(t: codec::Table) {
     say_value(b"0 channels", with_lens(t, 0, 1), 20);
@@ -285,6 +331,7 @@ fn main() {
     say_cuts(p, 20);
     say_damage(p, 20);
     say_values(table);
+    say_equals(table);
     let mut full = [255u8; 412];
     say(b"full table, ");
     say_written(writer::write_table(full_table(), &mut full));
