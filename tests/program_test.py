@@ -2,8 +2,9 @@
 
     python3 tests/program_test.py [SESSIONS]
 
-The examples, odd files and odd inputs, files that cannot be read or written, and SESSIONS random sessions (default
-300), each on its own random table, against tests/oracle.py. The last line is `program: N passed, M failed`.
+The examples, odd files and odd inputs, the run of table P with units, files that cannot be read or written, and
+SESSIONS random sessions (default 300), each on its own random table, against tests/oracle.py. The last line is
+`program: N passed, M failed`.
 """
 
 import os
@@ -81,7 +82,6 @@ def odd_cases():
     inputs["an add of 80 bytes"] = (DAY_LINE + b" ").ljust(79, b"0") + b"7\n"
     inputs["an add of 81 bytes"] = (DAY_LINE + b" ").ljust(80, b"0") + b"7\n"
     inputs["the run with days"] = with_end(RUN_OF_P, b" 20454", b" 20454")
-    inputs["unreadable units"] = b"\n".join(UNIT_LINE + unit for unit in UNREADABLE_UNITS)
     inputs["units"] = b"".join(UNIT_LINE + unit + b"\ns 0\ns 0\ns 0\n" for unit in UNITS) + RUN_OF_P
     inputs["an add with a unit of 80 bytes"] = (UNIT_LINE + b" ").ljust(79, b"0") + b"7\n"
     inputs["an add with a unit of 81 bytes"] = (UNIT_LINE + b" ").ljust(80, b"0") + b"7\n"
@@ -102,6 +102,9 @@ def unit_cases():
             lines = with_end(RUN_OF_P, *ends)
             yield f"the run, {ends}", printed(TABLE_OF_UNITS, lines), wanted
             yield f"the run by property, {ends}", printed(TABLE_P, lines), run
+    unreadable = b"\n".join(UNIT_LINE + unit for unit in UNREADABLE_UNITS)
+    wanted = b"refused 16\n" * len(UNREADABLE_UNITS) + b"quiet yes\n"
+    yield "unreadable units", printed(TABLE_P, unreadable), wanted
 
 
 def failing_cases():
