@@ -2,7 +2,7 @@
 //! looks over a full board.
 
 use reference::look::Wanted;
-use reference::{Answer, Board, Call, Columns, Rows, Table, calls};
+use reference::{Answer, Board, Call, Columns, Equality, Rows, Sent, Table, calls};
 use std::hint::black_box;
 use std::time::Instant;
 
@@ -16,7 +16,8 @@ fn rendezvous() -> Vec<Call> {
     let (mut board, mut calls) = (Board::default(), Vec::new());
     for pair in 0..PAIRS {
         for sender in [0, 1] {
-            let call = Call::Add { sender, channel: sender, property: pair.into(), cents: 1, day: 0 };
+            let sent = Sent { channel: sender, property: pair.into(), cents: 1, ..Sent::default() };
+            let call = Call::Add { sender, sent };
             calls.push(call);
             board.core_call(&table, call);
             while let Some(sender) = board.first_busy() {
@@ -72,7 +73,11 @@ fn main() {
 
 /// A look for a pending message of channel 1 and property 0, among 1,024 pending ones.
 fn look(name: &str, put: impl Fn(&mut Columns, usize)) {
-    let (mut columns, wanted) = (Columns::default(), Wanted { channel: 1, property: Some(0) });
+    look_by(Equality::Property, name, put);
+}
+
+fn look_by(equality: Equality, name: &str, put: impl Fn(&mut Columns, usize)) {
+    let (mut columns, wanted) = (Columns::default(), Wanted { channel: 1, equality, property: 0, unit: 0 });
     for at in 0..1024 {
         columns.channels[at] = 1;
         put(&mut columns, at);
@@ -107,4 +112,19 @@ fn looks() {
     look("one fits, the last", |columns, at| columns.properties[at] = u32::from(at != 1023));
     look("none of the property", |columns, at| columns.properties[at] = 1);
     look("none of the channel", |columns, at| columns.channels[at] = 0);
+    look_by(Equality::Any, "all fit, any property, rising days", |columns, at| columns.days[at] = 1 + at as u32);
+    looks_by_unit();
+}
+
+fn looks_by_unit() {
+    let look = |name: &str, put: fn(&mut Columns, usize)| look_by(Equality::Unit, &format!("by unit: {name}"), put);
+    look("all fit, days 0", |_, _| ());
+    look("all fit, rising days", |columns, at| columns.days[at] = 1 + at as u32);
+    look("all fit, falling days", |columns, at| columns.days[at] = 1024 - at as u32);
+    look("one in eight fits, rising days", |columns, at| {
+        (columns.units[at], columns.days[at]) = (u16::from(at % 8 != 5), 1 + at as u32);
+    });
+    look("one fits, the last", |columns, at| columns.units[at] = u16::from(at != 1023));
+    look("none of the unit", |columns, at| columns.units[at] = 1);
+    look("none of the property", |columns, at| columns.properties[at] = 1);
 }

@@ -4,12 +4,23 @@ use crate::answer::{Answer, Refusal};
 use crate::board::{Board, held};
 use crate::table::Table;
 
+/// A message as it is added.
+#[derive(Clone, Copy, Debug, Default, PartialEq, Eq)]
+pub struct Sent {
+    pub channel: u16,
+    pub property: u32,
+    pub cents: i64,
+    pub day: u32,
+    pub unit: u16,
+}
+
 #[derive(Clone, Copy, Debug, PartialEq, Eq)]
 pub struct Message {
     pub channel: u8,
     pub property: u32,
     pub cents: i64,
     pub day: u32,
+    pub unit: u16,
     pub status: u8,
     pub matched: Option<u16>,
     pub waker: Option<u16>,
@@ -25,7 +36,7 @@ pub struct Match {
 
 #[derive(Clone, Copy, Debug, PartialEq, Eq)]
 pub enum Call {
-    Add { sender: u16, channel: u16, property: u32, cents: i64, day: u32 },
+    Add { sender: u16, sent: Sent },
     Step { sender: u16 },
 }
 
@@ -37,8 +48,8 @@ impl Call {
     }
 }
 
-/// The calls of a replay in rows, as the host interface has them. Of `calls` the kind, the sender and the channel; a
-/// kind of 0 is a step, any other an add. Of `numbers` the property and the day.
+/// The calls of a replay in rows, as the host interface has them. Of `calls` the kind, the sender, the channel and the
+/// unit; a kind of 0 is a step, any other an add. Of `numbers` the property and the day.
 #[derive(Clone, Debug, Default)]
 pub struct Rows {
     pub calls: Vec<u16>,
@@ -63,8 +74,8 @@ pub fn call(table: &[u8], board: &mut Board, call: Call) -> Answer {
     }
 }
 
-pub fn add(table: &[u8], board: &mut Board, sender: u16, channel: u16, property: u32, cents: i64, day: u32) -> Answer {
-    call(table, board, Call::Add { sender, channel, property, cents, day })
+pub fn add(table: &[u8], board: &mut Board, sender: u16, sent: Sent) -> Answer {
+    call(table, board, Call::Add { sender, sent })
 }
 
 pub fn step(table: &[u8], board: &mut Board, sender: u16) -> Answer {
@@ -96,7 +107,7 @@ pub fn quiet(table: &[u8], board: &Board) -> Result<bool, Refusal> {
 pub fn replay(table: &[u8], board: &mut Board, rows: &Rows, answers: &mut [u32]) -> Result<(), Refusal> {
     let table = judged(table, board)?;
     let count = rows.len();
-    if rows.calls.len() != 3 * count || rows.numbers.len() != 2 * count {
+    if rows.calls.len() != 4 * count || rows.numbers.len() != 2 * count {
         return Err(30);
     }
     if answers.len() < count {
@@ -117,8 +128,10 @@ impl Rows {
 
     pub fn push(&mut self, call: Call) {
         let (row, numbers, amount) = match call {
-            Call::Add { sender, channel, property, cents, day } => ([1, sender, channel], [property, day], cents),
-            Call::Step { sender } => ([0, sender, 0], [0, 0], 0),
+            Call::Add { sender, sent: Sent { channel, property, cents, day, unit } } => {
+                ([1, sender, channel, unit], [property, day], cents)
+            }
+            Call::Step { sender } => ([0, sender, 0, 0], [0, 0], 0),
         };
         self.calls.extend(row);
         self.numbers.extend(numbers);
@@ -135,14 +148,10 @@ impl Rows {
     }
 
     fn at(&self, at: usize) -> Call {
-        let (sender, channel) = (self.calls[3 * at + 1], self.calls[3 * at + 2]);
-        match self.calls[3 * at] {
-            0 => Call::Step { sender },
-            _ => {
-                let (property, day) = (self.numbers[2 * at], self.numbers[2 * at + 1]);
-                Call::Add { sender, channel, property, cents: self.amounts[at], day }
-            }
-        }
+        let [kind, sender, channel, unit] = self.calls.as_chunks().0[at];
+        let [property, day] = self.numbers.as_chunks().0[at];
+        let sent = Sent { channel, property, cents: self.amounts[at], day, unit };
+        if kind == 0 { Call::Step { sender } } else { Call::Add { sender, sent } }
     }
 }
 
@@ -150,9 +159,7 @@ impl Board {
     /// A call on a sound board, without the tests.
     pub fn core_call(&mut self, table: &Table, call: Call) -> Answer {
         match call {
-            Call::Add { sender, channel, property, cents, day } => {
-                self.core_add(table, sender, channel, property, cents, day)
-            }
+            Call::Add { sender, sent } => self.core_add(table, sender, sent),
             Call::Step { sender } => self.core_step(table, sender),
         }
     }
@@ -165,6 +172,7 @@ impl Board {
             property: self.columns.properties[at],
             cents: self.columns.cents[at],
             day: self.columns.days[at],
+            unit: self.columns.units[at],
             status: self.columns.statuses[at],
             matched: held(self.columns.matched[at]),
             waker: held(self.columns.wakers[at]),

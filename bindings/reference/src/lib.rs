@@ -20,10 +20,10 @@ pub mod table;
 
 pub use answer::{Answer, Refusal};
 pub use board::{Board, Columns, Phase, Sender, State};
-pub use calls::{Call, Match, Message, Rows};
+pub use calls::{Call, Match, Message, Rows, Sent};
 pub use lists::Lists;
 pub use numbers::{NUMBERS, SENDER_NUMBERS};
-pub use table::{Chord, Table};
+pub use table::{Chord, Equality, Table};
 
 #[cfg(test)]
 mod look_tests;
@@ -31,3 +31,5 @@ mod look_tests;
 mod merge_tests;
 #[cfg(test)]
 mod tests;
+#[cfg(test)]
+mod unit_tests;

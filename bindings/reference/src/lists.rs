@@ -7,10 +7,12 @@ use crate::numbers::NUMBERS;
 pub const STATUSES: usize = MESSAGES;
 pub const CHORDS: usize = 2 * MESSAGES;
 pub const BYTES: usize = 3 * MESSAGES;
-/// Of `links`: the matches that the messages note, from here their wakers, from here the matches' messages.
+/// Of `links`: the matches that the messages note, from here their wakers, from here the matches' messages, from here the
+/// messages' units.
 pub const WAKERS: usize = MESSAGES;
 pub const MEMBERS: usize = 2 * MESSAGES;
-pub const LINKS: usize = 10 * MESSAGES;
+pub const UNITS: usize = 10 * MESSAGES;
+pub const LINKS: usize = 11 * MESSAGES;
 /// Of `keys`: properties, from here days.
 pub const DAYS: usize = MESSAGES;
 pub const KEYS: usize = 2 * MESSAGES;
@@ -52,7 +54,8 @@ impl Lists {
         self.bytes[CHORDS..].copy_from_slice(&columns.chords[..]);
         self.links[..WAKERS].copy_from_slice(&columns.matched[..]);
         self.links[WAKERS..MEMBERS].copy_from_slice(&columns.wakers[..]);
-        self.links[MEMBERS..].copy_from_slice(columns.messages.as_flattened());
+        self.links[MEMBERS..UNITS].copy_from_slice(columns.messages.as_flattened());
+        self.links[UNITS..].copy_from_slice(&columns.units[..]);
         self.keys[..DAYS].copy_from_slice(&columns.properties[..]);
         self.keys[DAYS..].copy_from_slice(&columns.days[..]);
         self.cents.copy_from_slice(&columns.cents[..]);
@@ -69,7 +72,8 @@ impl Lists {
         columns.chords.copy_from_slice(&self.bytes[CHORDS..]);
         columns.matched.copy_from_slice(&self.links[..WAKERS]);
         columns.wakers.copy_from_slice(&self.links[WAKERS..MEMBERS]);
-        columns.messages.as_flattened_mut().copy_from_slice(&self.links[MEMBERS..]);
+        columns.messages.as_flattened_mut().copy_from_slice(&self.links[MEMBERS..UNITS]);
+        columns.units.copy_from_slice(&self.links[UNITS..]);
         columns.properties.copy_from_slice(&self.keys[..DAYS]);
         columns.days.copy_from_slice(&self.keys[DAYS..]);
         columns.cents.copy_from_slice(&self.cents);

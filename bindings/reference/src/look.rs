@@ -1,12 +1,15 @@
 //! Finding messages: sixty-four at a time over the columns, then inside the sixty-four.
 
 use crate::board::{CLAIMED, Columns, MESSAGES, PENDING};
+use crate::table::Equality;
 
-/// What a member asks of a message.
+/// What a member asks of a message: its channel, and that it equals the one in hand as its chord wants.
 #[derive(Clone, Copy)]
 pub struct Wanted {
     pub channel: u8,
-    pub property: Option<u32>,
+    pub equality: Equality,
+    pub property: u32,
+    pub unit: u16,
 }
 
 /// No key: day and number of none.
@@ -49,15 +52,25 @@ impl Columns {
     ) -> bool {
         let (kinds, states) = (part(&self.channels, block), part(&self.statuses, block));
         any_of_64(kinds, states, wanted.channel, status)
-            && wanted.property.is_none_or(|property| any_equal(part(&self.properties, block), property))
+            && self.may_have_alike(block, wanted)
             && visit_64(kinds, states, wanted.channel, status, |at| {
                 let message = 64 * block as u16 + at;
-                message < count && self.has_property(message, wanted.property) && is_enough(message)
+                message < count && self.is_alike(message, wanted) && is_enough(message)
             })
     }
 
-    fn has_property(&self, message: u16, property: Option<u32>) -> bool {
-        property.is_none_or(|property| self.properties[message as usize] == property)
+    /// Whether one of the block has the wanted unit, and one the wanted property.
+    #[inline(always)]
+    fn may_have_alike(&self, block: usize, wanted: Wanted) -> bool {
+        (wanted.equality != Equality::Unit || any_equal(part(&self.units, block), wanted.unit))
+            && (wanted.equality == Equality::Any || any_equal(part(&self.properties, block), wanted.property))
+    }
+
+    #[inline(always)]
+    fn is_alike(&self, message: u16, wanted: Wanted) -> bool {
+        let at = usize::from(message);
+        (wanted.equality == Equality::Any || self.properties[at] == wanted.property)
+            && (wanted.equality != Equality::Unit || self.units[at] == wanted.unit)
     }
 
     /// Day and number as one number.
@@ -83,7 +96,7 @@ fn any_of_64(channels: &[u8; 64], statuses: &[u8; 64], channel: u8, status: u8) 
     any != 0
 }
 
-fn any_equal(numbers: &[u32; 64], number: u32) -> bool {
+fn any_equal<T: Copy + PartialEq>(numbers: &[T; 64], number: T) -> bool {
     numbers.iter().fold(false, |any, &other| any | (other == number))
 }
 

@@ -3,6 +3,7 @@
 use crate::Columns;
 use crate::board::{CLAIMED, MESSAGES, PENDING};
 use crate::look::Wanted;
+use crate::table::Equality;
 
 struct Random(u64);
 
@@ -19,17 +20,18 @@ impl Random {
     }
 }
 
-/// Few or many of channel 0 that are pending, few or many properties and days.
+/// Few or many of channel 0 that are pending, few or many properties, days and units.
 fn columns(random: &mut Random) -> Columns {
     let mut columns = Columns::default();
     let (channels, statuses) = (random.pick(&[1, 1, 2, 40]), random.pick(&[1, 2, 4]));
     let (properties, days) = (random.pick(&[1, 2, 30]), random.pick(&[1, 2, 5, 1000, 1 << 32]));
-    let least = random.pick(&[0, 1, u32::MAX - 1]);
+    let (least, units) = (random.pick(&[0, 1, u32::MAX - 1]), random.pick(&[1, 2, 30]));
     for at in 0..MESSAGES {
         columns.channels[at] = random.below(channels) as u8;
         columns.statuses[at] = random.below(statuses) as u8;
         columns.properties[at] = random.below(properties) as u32;
         columns.days[at] = (random.below(days) as u32).saturating_add(least);
+        columns.units[at] = (random.below(units) as u16).wrapping_neg();
     }
     columns
 }
@@ -37,7 +39,8 @@ fn columns(random: &mut Random) -> Columns {
 fn fits(columns: &Columns, wanted: Wanted, status: u8, at: usize) -> bool {
     columns.channels[at] == wanted.channel
         && columns.statuses[at] == status
-        && wanted.property.is_none_or(|property| columns.properties[at] == property)
+        && (wanted.equality == Equality::Any || columns.properties[at] == wanted.property)
+        && (wanted.equality != Equality::Unit || columns.units[at] == wanted.unit)
 }
 
 fn plain(columns: &Columns, count: u16, wanted: Wanted, chosen: &[u16]) -> Option<u16> {
@@ -51,7 +54,8 @@ fn as_plain_looks() {
     for _ in 0..4_000 {
         let columns = columns(&mut random);
         let count = random.pick(&[0, 1, 63, 64, 65, 500, 1023, 1024]);
-        let wanted = Wanted { channel: 0, property: random.pick(&[None, Some(0)]) };
+        let equality = random.pick(&[Equality::Any, Equality::Property, Equality::Unit]);
+        let wanted = Wanted { channel: 0, equality, property: 0, unit: random.pick(&[0, u16::MAX]) };
         let claimed = (0..count).any(|at| fits(&columns, wanted, CLAIMED, at.into()));
         assert_eq!(columns.any_claimed(count, wanted), claimed);
         let mut chosen = Vec::new();

@@ -66,9 +66,9 @@ fn put_channels(channels: &mut [u8], first: &[u8], second: &[u8], map: &[u8]) {
 fn put_chords(chords: &mut [u8], first: &Parts, second: &Parts) {
     let (kept, added) = chords.split_at_mut(4 * first.chords.len());
     kept.copy_from_slice(first.chords.as_flattened());
-    for (chord, &[low, high, len, equal]) in added.chunks_exact_mut(4).zip(second.chords) {
+    for (chord, &[low, high, len, equality]) in added.chunks_exact_mut(4).zip(second.chords) {
         let [low, high] = (u16::from_le_bytes([low, high]) + first.members.len() as u16).to_le_bytes();
-        chord.copy_from_slice(&[low, high, len, equal]);
+        chord.copy_from_slice(&[low, high, len, equality]);
     }
 }
 

@@ -1,6 +1,7 @@
 //! Merged tables byte for byte, every refusal in its place, and the edges of the map, the counts and the buffer.
 
 use crate::merge::{NEW, merge};
+use crate::table::Equality::{Any, Property, Unit};
 use crate::table::{table_bytes, table_refusal};
 
 /// The longest table.
@@ -14,7 +15,7 @@ fn channels(count: usize) -> Vec<u8> {
 
 /// One leaving channel and so many chords, each of so many members.
 fn chords(count: usize, members: usize) -> Vec<u8> {
-    table_bytes(&[0], &vec![(vec![0; members], false); count])
+    table_bytes(&[0], &vec![(vec![0; members], Any); count])
 }
 
 /// Table P with one byte changed or cut off, so that the reader gives that number.
@@ -53,17 +54,25 @@ fn merged(first: &[u8], second: &[u8], map: &[u8]) -> Vec<u8> {
 
 #[test]
 fn two_offices() {
-    let second = table_bytes(&[1, 0, 1, 0], &[(vec![3, 0, 1, 0], true), (vec![2], false)]);
-    let joined = table_bytes(&[0, 1, 1, 0], &[(vec![0, 1], true), (vec![3, 1, 0, 1], true), (vec![2], false)]);
+    let second = table_bytes(&[1, 0, 1, 0], &[(vec![3, 0, 1, 0], Property), (vec![2], Any)]);
+    let joined = table_bytes(&[0, 1, 1, 0], &[(vec![0, 1], Property), (vec![3, 1, 0, 1], Property), (vec![2], Any)]);
     assert_eq!(merged(P, &second, &[1, 0, NEW, NEW]), joined);
-    let apart = [(vec![0, 1], true), (vec![5, 2, 3, 2], true), (vec![4], false)];
+    let apart = [(vec![0, 1], Property), (vec![5, 2, 3, 2], Property), (vec![4], Any)];
     assert_eq!(merged(P, &second, &[NEW; 4]), table_bytes(&[0, 1, 1, 0, 1, 0], &apart));
+}
+
+#[test]
+fn what_a_chord_wants_equal_is_carried() {
+    let of = |channel: u8| [(vec![channel], Any), (vec![channel], Property), (vec![channel], Unit)];
+    let table = table_bytes(&[0], &of(0));
+    assert_eq!(merged(&table, &table, &[0]), table_bytes(&[0], &[of(0), of(0)].concat()));
+    assert_eq!(merged(&table, &table, &[NEW]), table_bytes(&[0, 0], &[of(0), of(1)].concat()));
 }
 
 #[test]
 fn nothing_added() {
     assert_eq!(merged(P, &channels(1), &[0]), P);
-    assert_eq!(merged(P, P, &[0, 1]), table_bytes(&[0, 1], &[(vec![0, 1], true), (vec![0, 1], true)]));
+    assert_eq!(merged(P, P, &[0, 1]), table_bytes(&[0, 1], &[(vec![0, 1], Property), (vec![0, 1], Property)]));
 }
 
 #[test]
@@ -168,7 +177,7 @@ fn members_are_never_too_many_alone() {
 
 #[test]
 fn buffers_of_every_length() {
-    let (second, map) = (table_bytes(&[1], &[(vec![0, 0, 0], true)]), [NEW]);
+    let (second, map) = (table_bytes(&[1], &[(vec![0, 0, 0], Property)]), [NEW]);
     let len = merged(P, &second, &map).len();
     assert_eq!(len, 12 + 3 + 2 * 4 + 5);
     for room in 0..=MOST {
@@ -178,7 +187,7 @@ fn buffers_of_every_length() {
 
 #[test]
 fn the_longest_table() {
-    let (first, second) = (table_bytes(&[0; 16], &vec![(vec![15; 8], true); 31]), chords(1, 8));
+    let (first, second) = (table_bytes(&[0; 16], &vec![(vec![15; 8], Property); 31]), chords(1, 8));
     assert_eq!(merged(&first, &second, &[15]).len(), MOST);
     assert_eq!(number(&first, &second, &[15], MOST - 1), 31);
     assert_eq!(number(&first, &second, &[NEW], MOST), 18);

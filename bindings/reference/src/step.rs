@@ -2,6 +2,7 @@
 
 use crate::answer::Answer;
 use crate::board::{Board, CLAIMED, CONSUMED, MESSAGES, MOST_CENTS, PENDING, Phase, SENDERS, State, WOKEN, held, kept};
+use crate::calls::Sent;
 use crate::look::Wanted;
 use crate::table::{Chord, Table};
 
@@ -9,31 +10,23 @@ use crate::table::{Chord, Table};
 const RESTS: [u8; 16] = [0, 1, 1, 2, 2, 4, 4, 8, 8, 16, 16, 16, 32, 32, 32, 32];
 
 impl Board {
-    pub fn core_add(
-        &mut self,
-        table: &Table,
-        sender: u16,
-        channel: u16,
-        property: u32,
-        cents: i64,
-        day: u32,
-    ) -> Answer {
-        match self.add_refusal(table, sender, channel, cents) {
+    pub fn core_add(&mut self, table: &Table, sender: u16, sent: Sent) -> Answer {
+        match self.add_refusal(table, sender, sent) {
             Some(number) => Answer::Refused(number),
             None => {
-                self.put_message(channel as u8, property, cents, day);
+                self.put_message(sent);
                 self.accept(table, sender as usize)
             }
         }
     }
 
-    fn add_refusal(&self, table: &Table, sender: u16, channel: u16, cents: i64) -> Option<u8> {
+    fn add_refusal(&self, table: &Table, sender: u16, sent: Sent) -> Option<u8> {
         let Some(at) = self.senders.get(sender as usize) else { return Some(8) };
         if at.state != State::Idle {
             Some(9)
-        } else if channel >= table.channel_count.into() {
+        } else if sent.channel >= table.channel_count.into() {
             Some(10)
-        } else if !(-MOST_CENTS..=MOST_CENTS).contains(&cents) {
+        } else if !(-MOST_CENTS..=MOST_CENTS).contains(&sent.cents) {
             Some(11)
         } else if self.messages as usize == MESSAGES {
             Some(12)
@@ -42,12 +35,13 @@ impl Board {
         }
     }
 
-    fn put_message(&mut self, channel: u8, property: u32, cents: i64, day: u32) {
+    fn put_message(&mut self, sent: Sent) {
         let at = self.messages as usize;
-        self.columns.channels[at] = channel;
-        self.columns.properties[at] = property;
-        self.columns.cents[at] = cents;
-        self.columns.days[at] = day;
+        self.columns.channels[at] = sent.channel as u8;
+        self.columns.properties[at] = sent.property;
+        self.columns.cents[at] = sent.cents;
+        self.columns.days[at] = sent.day;
+        self.columns.units[at] = sent.unit;
         self.columns.statuses[at] = PENDING;
         self.columns.matched[at] = 0;
         self.columns.wakers[at] = 0;
@@ -98,8 +92,8 @@ impl Board {
     fn look(&mut self, table: &Table, i: usize, at: usize) -> Answer {
         let chord = self.chord_of(table, i);
         let hand = self.senders[i].subject;
-        let property = chord.equal.then(|| self.columns.properties[hand as usize]);
-        let wanted = Wanted { channel: chord.channels[at], property };
+        let (property, unit) = (self.columns.properties[hand as usize], self.columns.units[hand as usize]);
+        let wanted = Wanted { channel: chord.channels[at], equality: chord.equality, property, unit };
         let found = if chord.first_of(self.channel(hand)) == Some(at) {
             Some(hand)
         } else {

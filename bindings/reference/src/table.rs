@@ -4,12 +4,27 @@ use crate::answer::Refusal;
 
 pub const HEADER: usize = 12;
 
+/// What the messages of a chord must have equal; its number is the last byte of the chord's record.
+#[derive(Clone, Copy, Debug, Default, PartialEq, Eq)]
+pub enum Equality {
+    #[default]
+    Any,
+    Property,
+    /// Property and unit.
+    Unit,
+}
+
+impl Equality {
+    pub fn of(byte: u8) -> Option<Equality> {
+        [Equality::Any, Equality::Property, Equality::Unit].get(usize::from(byte)).copied()
+    }
+}
+
 /// A rule: the channels of its members, in order.
 #[derive(Clone, Copy, Debug, Default)]
 pub struct Chord {
     pub len: u8,
-    /// All its messages must have equal property numbers.
-    pub equal: bool,
+    pub equality: Equality,
     pub channels: [u8; 8],
     /// The first member of a waiting channel.
     pub waiting: Option<u8>,
@@ -58,13 +73,13 @@ pub fn table_refusal(bytes: &[u8]) -> Refusal {
     Parts::read(bytes).err().unwrap_or(0)
 }
 
-/// Table bytes from each channel's kind, and each chord's channels and whether it wants equal property numbers.
-pub fn table_bytes<M: AsRef<[u8]>>(kinds: &[u8], chords: &[(M, bool)]) -> Vec<u8> {
+/// Table bytes from each channel's kind, and each chord's channels and what it wants equal.
+pub fn table_bytes<M: AsRef<[u8]>>(kinds: &[u8], chords: &[(M, Equality)]) -> Vec<u8> {
     let (mut records, mut members) = (Vec::new(), Vec::new());
-    for (channels, equal) in chords {
+    for (channels, equality) in chords {
         let channels = channels.as_ref();
         records.extend((members.len() as u16).to_le_bytes());
-        records.extend([channels.len() as u8, u8::from(*equal)]);
+        records.extend([channels.len() as u8, *equality as u8]);
         members.extend(channels);
     }
     let header = Header { channels: kinds.len(), chords: chords.len(), members: members.len() };
@@ -101,13 +116,13 @@ impl Table {
         for (number, record) in chords.iter().enumerate() {
             let (own, rest) = members.split_at(record[2] as usize);
             members = rest;
-            table.put_chord(number, own, record[3] == 1);
+            table.put_chord(number, own, Equality::of(record[3]).unwrap_or_default());
         }
         table
     }
 
-    fn put_chord(&mut self, number: usize, members: &[u8], equal: bool) {
-        let mut chord = Chord { len: members.len() as u8, equal, ..Chord::default() };
+    fn put_chord(&mut self, number: usize, members: &[u8], equality: Equality) {
+        let mut chord = Chord { len: members.len() as u8, equality, ..Chord::default() };
         chord.channels[..members.len()].copy_from_slice(members);
         chord.waiting = members.iter().position(|&channel| self.is_waiting(channel)).map(|at| at as u8);
         for &channel in members {
@@ -177,7 +192,7 @@ fn judge_chords(chords: &[[u8; 4]], members: usize) -> Result<(), Refusal> {
     let mut next = 0;
     for record in chords {
         let first = u16::from_le_bytes([record[0], record[1]]) as usize;
-        if first != next || !(1..=8).contains(&record[2]) || record[3] > 1 {
+        if first != next || !(1..=8).contains(&record[2]) || Equality::of(record[3]).is_none() {
             return Err(5);
         }
         next += record[2] as usize;

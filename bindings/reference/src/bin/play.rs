@@ -1,7 +1,7 @@
 //! Reads `rules.bin` and calls from standard input, and prints 01's printout.
 
 use reference::board::CONSUMED;
-use reference::{Answer, Board, Call, Table};
+use reference::{Answer, Board, Call, Sent, Table};
 use std::io::{self, BufWriter, Read, Write};
 
 const STATUSES: [&str; 4] = ["pending", "claimed", "woken", "consumed"];
@@ -38,21 +38,23 @@ fn read_line(line: &[u8]) -> Option<Call> {
     }
     let words: Vec<&[u8]> = line.split(|&byte| byte == b' ').collect();
     match words[..] {
-        [b"a", sender, channel, property, cents] => add([sender, channel, property, cents, b"0"]),
-        [b"a", sender, channel, property, cents, day] => add([sender, channel, property, cents, day]),
+        [b"a", sender, channel, property, cents] => add([sender, channel, property, cents, b"0", b"0"]),
+        [b"a", sender, channel, property, cents, day] => add([sender, channel, property, cents, day, b"0"]),
+        [b"a", sender, channel, property, cents, day, unit] => add([sender, channel, property, cents, day, unit]),
         [b"s", sender] => Some(Call::Step { sender: number(sender)?.try_into().ok()? }),
         _ => None,
     }
 }
 
-fn add([sender, channel, property, cents, day]: [&[u8]; 5]) -> Option<Call> {
-    Some(Call::Add {
-        sender: number(sender)?.try_into().ok()?,
+fn add([sender, channel, property, cents, day, unit]: [&[u8]; 6]) -> Option<Call> {
+    let sent = Sent {
         channel: number(channel)?.try_into().ok()?,
         property: number(property)?.try_into().ok()?,
         cents: signed(cents)?,
         day: number(day)?.try_into().ok()?,
-    })
+        unit: number(unit)?.try_into().ok()?,
+    };
+    Some(Call::Add { sender: number(sender)?.try_into().ok()?, sent })
 }
 
 /// Decimal digits, at least one; none above a u64.
