@@ -11,7 +11,7 @@
 #ifndef GEVNYUSTO_H
 #define GEVNYUSTO_H
 
-#define GV_VERSION "0.4.0"
+#define GV_VERSION "0.5.0"
 
 #include <stddef.h>
 #include <stdint.h>
@@ -34,18 +34,19 @@ extern "C" {
  * bytes: a channel for each message; from GV_STATUSES a status (0 pending, 1 claimed, 2 woken, 3 consumed) for each;
  *   from GV_CHORDS a chord for each match
  * links: for each message the match that it notes plus 1, 0 for none; from GV_WAKERS its waker plus 1, 0 for none;
- *   from GV_MEMBERS eight messages for each match
+ *   from GV_MEMBERS eight messages for each match; from GV_UNITS a unit for each message
  * keys: a property number for each message; from GV_DAYS a day for each
  * cents: cents for each message */
 #define GV_BOARD 674
 #define GV_BYTES 3072
-#define GV_LINKS 10240
+#define GV_LINKS 11264
 #define GV_KEYS 2048
 #define GV_CENTS 1024
 #define GV_STATUSES 1024
 #define GV_CHORDS 2048
 #define GV_WAKERS 1024
 #define GV_MEMBERS 2048
+#define GV_UNITS 10240
 #define GV_DAYS 1024
 #define GV_SENDERS 32
 #define GV_MESSAGES 1024
@@ -80,24 +81,26 @@ uint8_t gv_merge_tables(
 uint8_t gv_open(const uint8_t *table, size_t table_len, uint16_t *board, size_t board_len);
 
 /* The lists of a call that may write them. An add leaves the matches' chords and messages as they are, a step channels,
- * properties, days and cents. */
+ * properties, days, units and cents. */
 #define GV_LISTS \
     uint16_t *board, size_t board_len, uint8_t *bytes, size_t bytes_len, uint16_t *links, size_t links_len, \
     uint32_t *keys, size_t keys_len, int64_t *cents, size_t cents_len
 
-/* Adds a message: an answer. Of the messages that fit a member a look takes the one with the least day, the one with
- * the lowest number of equal days. */
+/* Adds a message: an answer. A chord's last byte in the table says which messages of a member's channel fit: 0 all,
+ * 1 those with the property of the message in hand, 2 those with its property and its unit. Of those that fit a look
+ * takes the one with the least day, the one with the lowest number of equal days. */
 uint32_t gv_add(
     const uint8_t *table, size_t table_len, GV_LISTS,
-    uint16_t sender, uint16_t channel, uint32_t property, int64_t amount, uint32_t day);
+    uint16_t sender, uint16_t channel, uint32_t property, int64_t amount, uint32_t day, uint16_t unit);
 
 /* Takes one step of a sender: an answer. */
 uint32_t gv_step(const uint8_t *table, size_t table_len, GV_LISTS, uint16_t sender);
 
-/* Plays a list of calls, one after another, on a board that is tested once. Call i is calls[3 * i] (GV_STEP a step, any
- * other an add), its sender calls[3 * i + 1], and for an add channel calls[3 * i + 2], property numbers[2 * i], day
- * numbers[2 * i + 1] and amounts[i] cents; its answer goes to answers[i]. There are amounts_len calls.
- * 0, 1 to 7, 30 also for a calls_len other than 3 * amounts_len or a numbers_len other than 2 * amounts_len, or 31 for
+/* Plays a list of calls, one after another, on a board that is tested once. Call i is calls[4 * i] (GV_STEP a step, any
+ * other an add), its sender calls[4 * i + 1], and for an add channel calls[4 * i + 2], unit calls[4 * i + 3], property
+ * numbers[2 * i], day numbers[2 * i + 1] and amounts[i] cents; its answer goes to answers[i]. There are amounts_len
+ * calls.
+ * 0, 1 to 7, 30 also for a calls_len other than 4 * amounts_len or a numbers_len other than 2 * amounts_len, or 31 for
  * too few answers. */
 #define GV_STEP 0
 #define GV_ADD 1
@@ -114,8 +117,8 @@ uint8_t gv_replay(
 
 /* Reads: 0 and the numbers from the start of out, or a refusal: 1 to 7, 30, the read's own, then 31. */
 
-/* Message: channel, property, cents, status, match plus 1, waker plus 1, day. */
-#define GV_MESSAGE_NUMBERS 7
+/* Message: channel, property, cents, status, match plus 1, waker plus 1, day, unit. */
+#define GV_MESSAGE_NUMBERS 8
 uint8_t gv_read_message(
     const uint8_t *table, size_t table_len, GV_READ_LISTS, uint16_t message, int64_t *out, size_t out_len);
 

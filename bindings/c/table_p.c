@@ -48,10 +48,10 @@ int main(void) {
     if (refused(gv_open(TABLE, board, GV_BOARD)))
         return 1;
     puts("sender 0 waits at channel 1 for property 7");
-    say(0, gv_add(TABLE, LISTS, 0, 1, 7, 0, 0));
+    say(0, gv_add(TABLE, LISTS, 0, 1, 7, 0, 0, 0));
     run(0);
     puts("sender 1 leaves 5000 cents for property 7");
-    say(1, gv_add(TABLE, LISTS, 1, 0, 7, 5000, 0));
+    say(1, gv_add(TABLE, LISTS, 1, 0, 7, 5000, 0, 0));
     run(1);
     puts("sender 0 was signalled");
     run(0);

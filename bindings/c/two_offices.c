@@ -51,8 +51,8 @@ static int say(uint16_t sender, uint32_t alone, uint32_t together) {
 static size_t merged_len(void) { return 12 + merged[0] + 4 * merged[2] + (merged[4] | merged[5] << 8); }
 
 static void add(uint16_t sender, uint16_t channel, int64_t amount) {
-    say(sender, gv_add(first, sizeof first, LENT(one), sender, channel, 7, amount, 0),
-        gv_add(merged, merged_len(), LENT(two), sender, channel, 7, amount, 0));
+    say(sender, gv_add(first, sizeof first, LENT(one), sender, channel, 7, amount, 0, 0),
+        gv_add(merged, merged_len(), LENT(two), sender, channel, 7, amount, 0, 0));
 }
 
 /* Steps a sender under both tables until both refuse. */

@@ -16,17 +16,18 @@ enum list {
     TABLE, BOARD, BYTES, LINKS, KEYS, CENTS, ROWS, NUMBERS, AMOUNTS, ANSWERS, OUT, SECOND, MAP, MERGED, LISTS
 };
 enum call { REFUSAL, OPEN, ADD, STEP, REPLAY, READ_MESSAGE, READ_MATCH, READ_REPLY, QUIET, MERGE, CALLS };
-enum { PAGE = 4096, MOST_BYTES = 20488, REPLAYED = 24, MOST_CHANNELS = 16 };
+enum { PAGE = 4096, MOST_BYTES = 22536, REPLAYED = 24, MOST_CHANNELS = 16 };
 
-/* Which numbers of a list a call may write. */
+/* Which numbers of a list a call may write: from one to another, and from a third on where that is not 0. */
 struct range {
-    size_t from, to;
+    size_t from, to, again;
 };
-#define ALL {0, SIZE_MAX}
+#define ALL {0, SIZE_MAX, 0}
 static const struct range written[CALLS][LISTS] = {
     [OPEN] = {[BOARD] = ALL},
-    [ADD] = {[BOARD] = ALL, [BYTES] = {0, GV_CHORDS}, [LINKS] = {0, GV_MEMBERS}, [KEYS] = ALL, [CENTS] = ALL},
-    [STEP] = {[BOARD] = ALL, [BYTES] = {GV_STATUSES, GV_BYTES}, [LINKS] = ALL},
+    [ADD] = {[BOARD] = ALL, [BYTES] = {0, GV_CHORDS, 0}, [LINKS] = {0, GV_MEMBERS, GV_UNITS}, [KEYS] = ALL,
+             [CENTS] = ALL},
+    [STEP] = {[BOARD] = ALL, [BYTES] = {GV_STATUSES, GV_BYTES, 0}, [LINKS] = {0, GV_UNITS, 0}},
     [REPLAY] = {[BOARD] = ALL, [BYTES] = ALL, [LINKS] = ALL, [KEYS] = ALL, [CENTS] = ALL, [ANSWERS] = ALL},
     [READ_MESSAGE] = {[OUT] = ALL},
     [READ_MATCH] = {[OUT] = ALL},
@@ -38,12 +39,12 @@ static const struct range written[CALLS][LISTS] = {
 static const uint8_t table_p[20] = {2, 0, 1, 0, 2, 0, 12, 0, 14, 0, 18, 0, 0, 1, 0, 0, 2, 1, 0, 1};
 static const size_t element[LISTS] = {1, 2, 1, 2, 4, 8, 2, 4, 8, 4, 8, 1, 1, 1};
 static const size_t right[LISTS] = {
-    sizeof table_p, GV_BOARD, GV_BYTES, GV_LINKS, GV_KEYS, GV_CENTS, 3 * REPLAYED, 2 * REPLAYED, REPLAYED, REPLAYED,
+    sizeof table_p, GV_BOARD, GV_BYTES, GV_LINKS, GV_KEYS, GV_CENTS, 4 * REPLAYED, 2 * REPLAYED, REPLAYED, REPLAYED,
     GV_MATCH_NUMBERS, GV_TABLE_BYTES, MOST_CHANNELS, GV_TABLE_BYTES
 };
 
 /* The parts of the lists that are edited. */
-enum { PARTS = 11 };
+enum { PARTS = 12 };
 static const struct part {
     enum list list;
     size_t from, count;
@@ -56,6 +57,7 @@ static const struct part {
     {LINKS, 0, GV_MESSAGES},
     {LINKS, GV_WAKERS, GV_MESSAGES},
     {LINKS, GV_MEMBERS, 8 * GV_MATCHES},
+    {LINKS, GV_UNITS, GV_MESSAGES},
     {KEYS, 0, GV_MESSAGES},
     {KEYS, GV_DAYS, GV_MESSAGES},
     {CENTS, 0, GV_MESSAGES},
@@ -65,7 +67,7 @@ static const struct part {
 struct lent {
     _Alignas(8) uint8_t bytes[LISTS][MOST_BYTES];
     size_t length[LISTS];
-    uint16_t first, channel;
+    uint16_t first, channel, unit;
     uint32_t property, day;
     int64_t amount;
 };
@@ -141,7 +143,7 @@ static uint32_t make_call(const struct lent *lent, enum call call) {
     case OPEN:
         return gv_open(U8(TABLE), U16(BOARD));
     case ADD:
-        return gv_add(LENT, lent->first, lent->channel, lent->property, lent->amount, lent->day);
+        return gv_add(LENT, lent->first, lent->channel, lent->property, lent->amount, lent->day, lent->unit);
     case STEP:
         return gv_step(LENT, lent->first);
     case REPLAY:
@@ -206,7 +208,7 @@ static int has_lengths(const struct lent *lent, enum call call) {
     for (int list = BOARD; list <= last; list++)
         if (lent->length[list] != right[list])
             return 0;
-    return call != REPLAY || (lent->length[ROWS] == 3 * calls && lent->length[NUMBERS] == 2 * calls);
+    return call != REPLAY || (lent->length[ROWS] == 4 * calls && lent->length[NUMBERS] == 2 * calls);
 }
 
 /* What the header says of the number: the table first, for a merge the second too, then lengths and board, then the
@@ -232,7 +234,7 @@ static void demand_answers(const struct lent *lent) {
     memcpy(answers, at[ANSWERS], bytes_of(lent, ANSWERS));
     const uint16_t *rows = (const uint16_t *)(const void *)lent->bytes[ROWS];
     for (size_t i = 0; i < lent->length[AMOUNTS]; i++) {
-        enum call call = rows[3 * i] != GV_STEP ? ADD : STEP;
+        enum call call = rows[4 * i] != GV_STEP ? ADD : STEP;
         uint32_t refusal = refusal_of(call, answers[i]);
         demand(refusal ? is_own_refusal(call, refusal) : is_answer(call == ADD, answers[i]), "no answer of a replay",
                REPLAY, answers[i]);
@@ -269,11 +271,20 @@ static int is_kept(const struct lent *lent, int list, size_t from, size_t to) {
 static void demand_kept(const struct lent *lent, enum call call, uint32_t answer) {
     int refused = refusal_of(call, answer) != 0;
     for (int list = 0; list < LISTS; list++) {
-        struct range range = written[call][list];
-        size_t from = refused ? 0 : range.from, to = refused ? 0 : range.to;
-        demand(is_kept(lent, list, 0, from) && is_kept(lent, list, to, lent->length[list]), "a list has changed", call,
+        struct range range = refused ? (struct range){0, 0, 0} : written[call][list];
+        size_t end = range.again != 0 ? range.again : lent->length[list];
+        demand(is_kept(lent, list, 0, range.from) && is_kept(lent, list, range.to, end), "a list has changed", call,
                answer);
     }
+}
+
+/* An add that is not refused writes the unit of its message, and of no other. */
+static void demand_unit(const struct lent *lent, uint32_t answer) {
+    const uint16_t *links = (const uint16_t *)(const void *)at[LINKS];
+    size_t written_at = GV_UNITS + GV_VALUE(answer);
+    demand(links[written_at] == lent->unit, "another unit is written", ADD, answer);
+    demand(is_kept(lent, LINKS, GV_UNITS, written_at) && is_kept(lent, LINKS, written_at + 1, GV_LINKS),
+           "the unit of another message has changed", ADD, answer);
 }
 
 /* After a call that wrote the board it is accepted, if the other lists have their lengths. */
@@ -291,6 +302,8 @@ static uint32_t checked_call(const struct lent *lent, enum call call, int at_end
     uint32_t answer = make_call(lent, call);
     demand_kept(lent, call, answer);
     demand_documented(lent, call, answer);
+    if (call == ADD && refusal_of(ADD, answer) == 0)
+        demand_unit(lent, answer);
     if (call == REPLAY && answer == 0)
         demand_answers(lent);
     if (call == MERGE && answer == 0)
@@ -328,7 +341,8 @@ static void count(const struct lent *lent, enum call call, uint32_t answer) {
     }
 }
 
-/* One call of the schedule, by one of eight senders; a byte that steps may step up to eight times. */
+/* One call of the schedule, by one of eight senders; a byte that steps may step up to eight times, behind one that adds
+ * is the unit. */
 static void play(struct lent *lent) {
     uint8_t byte = take();
     int is_add = (byte & 24) < 16, times = (byte & 24) == 24 ? 8 : 1;
@@ -336,6 +350,7 @@ static void play(struct lent *lent) {
     lent->channel = byte >> 3 & 1;
     lent->property = byte >> 5 & 1;
     lent->day = byte >> 6;
+    lent->unit = is_add ? take() & 1 : 0;
     lent->amount = byte;
     for (int i = 0; i < times; i++) {
         uint32_t answer = make_call(lent, is_add ? ADD : STEP);
@@ -345,13 +360,13 @@ static void play(struct lent *lent) {
     }
 }
 
-/* Table P, or one that differs in who waits and in whether the properties must be equal. */
+/* Table P, or one that differs in who waits and in what must be equal. */
 static void put_table(struct lent *lent, uint8_t kind) {
     uint8_t *table = lent->bytes[TABLE];
     memcpy(table, table_p, sizeof table_p);
     table[12] ^= kind & 1;
     table[13] ^= kind >> 1 & 1;
-    table[17] ^= kind >> 2 & 1;
+    table[17] = (kind >> 4) % 3;
 }
 
 /* An empty board with lists of any one byte, or a board that is almost full; and a schedule played on it. */
@@ -388,7 +403,7 @@ static void put_second(struct lent *lent, size_t channels, size_t chords) {
     size_t count = 0, each = 1 + take() % 8;
     memset(second, 0, 12 + channels);
     for (size_t nth = 0; nth < chords; nth++, chord += 4) {
-        const uint8_t record[4] = {count & 255, count >> 8, each, nth & 1};
+        const uint8_t record[4] = {count & 255, count >> 8, each, nth % 3};
         memcpy(chord, record, sizeof record);
         memset(members + count, nth % channels, each);
         count += each;
@@ -422,11 +437,11 @@ static void fill_merge(struct lent *lent) {
 static void fill_replay(struct lent *lent) {
     size_t calls = take() % (REPLAYED + 1);
     for (int list = ROWS; list <= ANSWERS; list++)
-        lent->length[list] = (list == ROWS ? 3 : list == NUMBERS ? 2 : 1) * calls;
+        lent->length[list] = (list == ROWS ? 4 : list == NUMBERS ? 2 : 1) * calls;
     for (size_t i = 0; i < calls; i++) {
-        put(lent, ROWS, 3 * i, take() % 4);
-        put(lent, ROWS, 3 * i + 1, number());
-        put(lent, ROWS, 3 * i + 2, number());
+        put(lent, ROWS, 4 * i, take() % 4);
+        for (size_t nth = 1; nth < 4; nth++)
+            put(lent, ROWS, 4 * i + nth, number());
         put(lent, NUMBERS, 2 * i, number());
         put(lent, NUMBERS, 2 * i + 1, number());
         put(lent, AMOUNTS, i, number());
@@ -456,6 +471,7 @@ int LLVMFuzzerTestOneInput(const uint8_t *data, size_t size) {
     lent.channel = (uint16_t)number();
     lent.property = (uint32_t)number();
     lent.day = (uint32_t)number();
+    lent.unit = (uint16_t)number();
     lent.amount = (int64_t)number();
     lent.length[OUT] = out_numbers[call];
     if (call == REPLAY)

@@ -17,9 +17,9 @@ fn run(matcher: &mut Matcher, sender: u16) -> Refusal {
 
 fn main() -> Result<(), Refusal> {
     let mut matcher = Matcher::open(TABLE_P)?;
-    println!("sender 0 waits at channel 1 for property 7: {}", matcher.add(0, 1, 7, 0, 0)?);
+    println!("sender 0 waits at channel 1 for property 7: {}", matcher.add(0, 1, 7, 0, 0, 0)?);
     println!("  sender 0 rests: {}", run(&mut matcher, 0));
-    println!("sender 1 leaves 5000 cents for property 7: {}", matcher.add(1, 0, 7, 5000, 0)?);
+    println!("sender 1 leaves 5000 cents for property 7: {}", matcher.add(1, 0, 7, 5000, 0, 0)?);
     println!("  sender 1 rests: {}", run(&mut matcher, 1));
     println!("sender 0 was signalled");
     println!("  sender 0 rests: {}", run(&mut matcher, 0));

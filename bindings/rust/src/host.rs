@@ -6,11 +6,13 @@
 /// The lengths of a board's lists.
 pub const BOARD_NUMBERS: usize = 674;
 pub const BYTES: usize = 3072;
-pub const LINKS: usize = 10_240;
+pub const LINKS: usize = 11_264;
 pub const KEYS: usize = 2048;
 pub const CENTS: usize = 1024;
 /// Where the days begin in `keys`.
 pub const DAYS: usize = 1024;
+/// Where the units begin in `links`.
+pub const UNITS: usize = 10_240;
 /// The longest table.
 pub const TABLE_BYTES: usize = 412;
 /// A map's byte for a channel that becomes a new one.
@@ -41,8 +43,8 @@ impl Default for Lists {
     }
 }
 
-/// The calls of a replay, a row each: of `calls` the kind, the sender and the channel, of `numbers` the property and
-/// the day.
+/// The calls of a replay, a row each: of `calls` the kind, the sender, the channel and the unit, of `numbers` the
+/// property and the day.
 #[derive(Clone, Copy, Debug)]
 pub struct Replay<'a> {
     pub calls: &'a [u16],
@@ -100,7 +102,7 @@ unsafe extern "C" {
     ) -> u8;
     fn gv_open(table: *const u8, table_len: usize, board: *mut u16, board_len: usize) -> u8;
 }
-board_function!(gv_add, mut, [u16, u16, u32, i64, u32], u32);
+board_function!(gv_add, mut, [u16, u16, u32, i64, u32, u16], u32);
 board_function!(gv_step, mut, [u16], u32);
 board_function!(gv_replay, mut, [*const u16, usize, *const u32, usize, *const i64, usize, *mut u32, usize], u8);
 board_function!(gv_read_message, const, [u16, *mut i64, usize], u8);
@@ -126,8 +128,18 @@ pub fn open(table: &[u8], board: &mut [u16]) -> u8 {
     unsafe { gv_open(table.as_ptr(), table.len(), board.as_mut_ptr(), board.len()) }
 }
 
-pub fn add(table: &[u8], lists: &mut Lists, sender: u16, channel: u16, property: u32, cents: i64, day: u32) -> u32 {
-    lend!(gv_add, as_mut_ptr, table, lists, [sender, channel, property, cents, day])
+#[expect(clippy::too_many_arguments)]
+pub fn add(
+    table: &[u8],
+    lists: &mut Lists,
+    sender: u16,
+    channel: u16,
+    property: u32,
+    cents: i64,
+    day: u32,
+    unit: u16,
+) -> u32 {
+    lend!(gv_add, as_mut_ptr, table, lists, [sender, channel, property, cents, day, unit])
 }
 
 pub fn step(table: &[u8], lists: &mut Lists, sender: u16) -> u32 {
@@ -147,7 +159,7 @@ pub fn replay(table: &[u8], lists: &mut Lists, Replay { calls, numbers, amounts 
     )
 }
 
-/// Channel, property, cents, status, match plus 1, waker plus 1, day.
+/// Channel, property, cents, status, match plus 1, waker plus 1, day, unit.
 pub fn read_message(table: &[u8], lists: &Lists, number: u16, out: &mut [i64]) -> u8 {
     lend!(gv_read_message, as_ptr, table, lists, [number, out.as_mut_ptr(), out.len()])
 }

@@ -28,6 +28,7 @@ pub struct Message {
     pub property: u32,
     pub cents: i64,
     pub day: u32,
+    pub unit: u16,
     pub status: Status,
     pub matched: Option<u16>,
     pub waker: Option<u16>,
@@ -44,7 +45,7 @@ pub struct Match {
 /// A call of a replay.
 #[derive(Clone, Copy, Debug, PartialEq, Eq)]
 pub enum Call {
-    Add { sender: u16, channel: u16, property: u32, cents: i64, day: u32 },
+    Add { sender: u16, channel: u16, property: u32, cents: i64, day: u32, unit: u16 },
     Step { sender: u16 },
 }
 
@@ -63,9 +64,34 @@ impl Matcher {
     }
 
     /// Adds a message of an idle sender; it answers [`Answer::Item`]. Of the messages that fit, the one with the least
-    /// day is matched first, the lowest-numbered of equal days.
-    pub fn add(&mut self, sender: u16, channel: u16, property: u32, cents: i64, day: u32) -> Result<Answer, Refusal> {
-        Answer::from_number(host::add(&self.table, &mut self.lists, sender, channel, property, cents, day))
+    /// day is matched first, the lowest-numbered of equal days. A chord's last byte in the table says which fit: with 0
+    /// all of the channel, with 1 those of equal property, with 2 those of equal property and unit.
+    ///
+    /// ```
+    /// use gevnyusto::{Matcher, Refusal};
+    ///
+    /// // Rents and receipts, which leave; a chord of both, of one property and unit.
+    /// const FLATS: [u8; 20] = [2, 0, 1, 0, 2, 0, 12, 0, 14, 0, 18, 0, 0, 0, 0, 0, 2, 2, 0, 1];
+    ///
+    /// let mut matcher = Matcher::open(FLATS)?;
+    /// for (channel, unit) in [(0, 3), (0, 4), (1, 4)] {
+    ///     matcher.add(0, channel, 7, 5000, 0, unit)?;
+    ///     while matcher.step(0).is_ok() {}
+    /// }
+    /// assert_eq!(matcher.match_(0)?.messages, [1, 2]);
+    /// assert_eq!(matcher.message(0)?.unit, 3);
+    /// # Ok::<(), Refusal>(())
+    /// ```
+    pub fn add(
+        &mut self,
+        sender: u16,
+        channel: u16,
+        property: u32,
+        cents: i64,
+        day: u32,
+        unit: u16,
+    ) -> Result<Answer, Refusal> {
+        Answer::from_number(host::add(&self.table, &mut self.lists, sender, channel, property, cents, day, unit))
     }
 
     /// One step of a sender.
@@ -74,7 +100,7 @@ impl Matcher {
     }
 
     pub fn message(&self, number: u16) -> Result<Message, Refusal> {
-        let mut out = [0; 7];
+        let mut out = [0; 8];
         refused(host::read_message(&self.table, &self.lists, number, &mut out))?;
         let statuses = [Status::Pending, Status::Claimed, Status::Woken, Status::Consumed];
         Ok(Message {
@@ -82,6 +108,7 @@ impl Matcher {
             property: out[1] as u32,
             cents: out[2],
             day: out[6] as u32,
+            unit: out[7] as u16,
             status: statuses[out[3] as usize],
             matched: held(out[4]),
             waker: held(out[5]),
@@ -145,7 +172,7 @@ impl Matcher {
 /// let merged = merge_tables(&FIRST, &SECOND, &[Some(0), None])?;
 /// assert_eq!(merged[12..], [0, 1, 0, 0, 0, 2, 1, 2, 0, 2, 0, 0, 1, 0, 2]);
 /// let mut matcher = Matcher::open(merged)?;
-/// matcher.add(0, 2, 7, 5000, 0)?;
+/// matcher.add(0, 2, 7, 5000, 0, 0)?;
 ///
 /// assert_eq!(merge_tables(&FIRST, &SECOND, &[Some(1), None]), Err(Refusal::ChannelMap));
 /// # Ok::<(), Refusal>(())
@@ -167,13 +194,13 @@ fn table_len(table: &[u8]) -> usize {
 }
 
 impl Call {
-    /// Kind, sender and channel; property and day; cents.
-    fn row(self) -> ([u16; 3], [u32; 2], i64) {
+    /// Kind, sender, channel and unit; property and day; cents.
+    fn row(self) -> ([u16; 4], [u32; 2], i64) {
         match self {
-            Call::Add { sender, channel, property, cents, day } => {
-                ([host::ADD, sender, channel], [property, day], cents)
+            Call::Add { sender, channel, property, cents, day, unit } => {
+                ([host::ADD, sender, channel, unit], [property, day], cents)
             }
-            Call::Step { sender } => ([host::STEP, sender, 0], [0, 0], 0),
+            Call::Step { sender } => ([host::STEP, sender, 0, 0], [0, 0], 0),
         }
     }
 }

@@ -46,7 +46,7 @@ refusals! {
     TableCounts 2 "the table's channels, chords or members are out of range"
     TableLayout 3 "the table's offsets or length are wrong"
     ChannelByte 4 "a channel's byte in the table is over 1"
-    ChordRecord 5 "a chord in the table has a wrong first member, a count not 1 to 8, or a last byte over 1"
+    ChordRecord 5 "a chord in the table has a wrong first member, a count not 1 to 8, or a last byte over 2"
     MemberCounts 6 "the member counts of the table's chords do not sum to its members"
     MemberChannel 7 "a member in the table is of a channel that the table does not have"
     NoSuchSender 8 "the sender is 32 or more"

@@ -31,6 +31,20 @@ fn merged() {
 }
 
 #[test]
+fn equal_units_are_carried() {
+    let last_byte = |byte: u8| {
+        let mut table = TABLE_P;
+        table[17] = byte;
+        table
+    };
+    for (first, second) in [(0, 2), (2, 1), (2, 2)] {
+        let merged = merge_tables(&last_byte(first), &last_byte(second), &[Some(0), Some(1)]).unwrap();
+        assert_eq!((merged[17], merged[21]), (first, second));
+    }
+    assert_eq!(merge_tables(&TABLE_P, &last_byte(3), &[Some(0), Some(1)]), Err(Refusal::ChordRecord));
+}
+
+#[test]
 fn the_longest() {
     let longest = table(16, 32, 8);
     assert_eq!(longest.len(), host::TABLE_BYTES);
@@ -81,12 +95,15 @@ fn answered_alike() {
     let mut first = Matcher::open(TABLE_P).unwrap();
     let mut merged = Matcher::open(merge_tables(&TABLE_P, &SECOND, &MAP).unwrap()).unwrap();
     for (sender, channel) in [(0, 1), (1, 0), (2, 0), (3, 1)] {
-        assert_eq!(first.add(sender, channel, 7, 5000, 0), merged.add(sender, channel, 7, 5000, 0));
+        assert_eq!(first.add(sender, channel, 7, 5000, 0, 0), merged.add(sender, channel, 7, 5000, 0, 0));
         for sender in [0, 1, 2, 3].repeat(20) {
             assert_eq!(first.step(sender), merged.step(sender));
         }
     }
     assert_eq!((first.counts(), merged.counts()), ((4, 2), (4, 2)));
     assert_eq!((first.match_(1), first.quiet()), (merged.match_(1), Ok(true)));
-    assert_eq!((first.add(4, 2, 7, 0, 0), merged.add(4, 2, 7, 0, 0).is_ok()), (Err(Refusal::NoSuchChannel), true));
+    assert_eq!(
+        (first.add(4, 2, 7, 0, 0, 0), merged.add(4, 2, 7, 0, 0, 0).is_ok()),
+        (Err(Refusal::NoSuchChannel), true)
+    );
 }
