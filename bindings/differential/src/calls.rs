@@ -15,7 +15,7 @@ impl Read {
     /// How many numbers it reads.
     pub fn len(self) -> usize {
         match self {
-            Read::Message(_) => 7,
+            Read::Message(_) => 8,
             Read::Match(_) => 11,
             Read::Reply(_) | Read::Quiet => 1,
         }

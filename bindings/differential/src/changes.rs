@@ -3,7 +3,7 @@
 use crate::invariant::senders;
 use crate::random::Random;
 use reference::board::{MESSAGES, MOST_CENTS};
-use reference::lists::{CHORDS, DAYS, MEMBERS, STATUSES, WAKERS};
+use reference::lists::{CHORDS, DAYS, MEMBERS, STATUSES, UNITS, WAKERS};
 use reference::{Lists, SENDER_NUMBERS, Sender, State, Table};
 
 /// Changes one number anywhere to any value; says in which of `PARTS`, and what.
@@ -15,16 +15,17 @@ pub fn change_any(lists: &mut Lists, random: &mut Random) -> (usize, String) {
     };
     let (at, match_at) = (place(lists.board[0], random), place(lists.board[1], random));
     let cents = random.pick(&[MOST_CENTS + 1, -MOST_CENTS - 1, i64::MIN, i64::MAX, 5]);
-    match random.below(14) {
+    match random.below(15) {
         0 => (1, put(&mut lists.bytes, at, value as u8)),
         1 => (2, put(&mut lists.bytes, STATUSES + at, value as u8)),
         2 => (3, put(&mut lists.bytes, CHORDS + match_at, value as u8)),
         3 => (4, put(&mut lists.links, at, value)),
         4 => (5, put(&mut lists.links, WAKERS + at, value)),
         5 => (6, put(&mut lists.links, MEMBERS + 8 * match_at + random.below(8), value)),
-        6 => (7, put(&mut lists.keys, at, value.into())),
-        7 => (8, put(&mut lists.keys, DAYS + at, random.pick(&[0, 1, value.into(), u32::MAX]))),
-        8 => (9, put(&mut lists.cents, at, cents)),
+        6 => (7, put(&mut lists.links, UNITS + at, random.pick(&[0, 1, value, u16::MAX]))),
+        7 => (8, put(&mut lists.keys, at, value.into())),
+        8 => (9, put(&mut lists.keys, DAYS + at, random.pick(&[0, 1, value.into(), u32::MAX]))),
+        9 => (10, put(&mut lists.cents, at, cents)),
         _ => {
             let at = random.below(lists.board.len());
             (0, put(&mut lists.board, at, value))
@@ -47,7 +48,7 @@ pub fn many_matches(lists: &mut Lists, random: &mut Random, table: &Table) {
     lists.board[1] = (MESSAGES - random.below(2)) as u16;
     let messages = usize::from(lists.board[0]).min(MESSAGES);
     lists.bytes[CHORDS..].fill_with(|| random.below(table.chord_count.into()) as u8);
-    lists.links[MEMBERS..].fill_with(|| random.below(messages) as u16);
+    lists.links[MEMBERS..UNITS].fill_with(|| random.below(messages) as u16);
 }
 
 pub fn change_message(lists: &mut Lists, random: &mut Random, table: &Table) {
@@ -56,13 +57,14 @@ pub fn change_message(lists: &mut Lists, random: &mut Random, table: &Table) {
         return;
     }
     let at = random.below(messages);
-    match random.below(7) {
+    match random.below(8) {
         0 => lists.bytes[at] = random.below(table.channel_count.into()) as u8,
         1 => lists.keys[at] = random.below(3) as u32,
         2 => lists.links[at] = random.below(matches + 1) as u16,
         3 => lists.links[WAKERS + at] = random.below(messages + 1) as u16,
         4 => lists.keys[DAYS + at] = random.below(3) as u32,
-        5 => {
+        5 => lists.links[UNITS + at] = random.below(3) as u16,
+        6 => {
             lists.bytes[STATUSES + at] = random.below(4) as u8;
             lists.links[WAKERS + at] = 1 + random.below(messages) as u16;
             lists.links[at] = matches.min(1 + random.below(MESSAGES)) as u16;

@@ -1,6 +1,6 @@
 //! How the lists of two boards differ.
 
-use reference::lists::{CHORDS, DAYS, MEMBERS, STATUSES, WAKERS};
+use reference::lists::{CHORDS, DAYS, MEMBERS, STATUSES, UNITS, WAKERS};
 use reference::{Lists, NUMBERS, Phase, SENDER_NUMBERS, Sender, State, Table};
 use std::fmt::Display;
 
@@ -27,6 +27,7 @@ fn byte_name(at: usize) -> String {
 
 fn link_name(at: usize) -> String {
     match at {
+        UNITS.. => format!("unit of message {}", at - UNITS),
         MEMBERS.. => format!("match {} place {}", (at - MEMBERS) / 8, at % 8),
         WAKERS.. => format!("waker of message {}", at - WAKERS),
         _ => format!("match of message {at}"),
@@ -42,7 +43,7 @@ fn key_name(at: usize) -> String {
 
 /// Whether the scope paper leaves that link open: a counted match's, past its chord's members.
 fn is_open(table: &Table, lists: &Lists, at: usize) -> bool {
-    let Some(place) = at.checked_sub(MEMBERS) else { return false };
+    let Some(place) = at.checked_sub(MEMBERS).filter(|_| at < UNITS) else { return false };
     let (number, matches) = (place / 8, lists.board.get(1).copied().unwrap_or(0));
     let chord = lists.bytes.get(CHORDS + number).copied().unwrap_or(u8::MAX);
     number < matches.into() && chord < table.chord_count && place % 8 >= table.chord(chord).len.into()

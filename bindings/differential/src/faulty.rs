@@ -1,18 +1,40 @@
 //! The reference with a fault put in, to see that the comparison finds it.
 
 use crate::calls::{Call, Calls, Merge, Read};
-use crate::looks::Look;
+use crate::looks::{LOOKED, Look, MISSED};
 use crate::plain_rust::Reference;
-use reference::lists::STATUSES;
-use reference::{Lists, Rows, Table};
-
-const LOOKED: u32 = 1;
+use reference::lists::{DAYS, STATUSES};
+use reference::table::HEADER;
+use reference::{Equality, Lists, Rows, Table};
 
 /// Kinds of faults by name.
-pub const FAULTS: [&str; 14] = [
-    "answer", "list", "board", "refusal", "read", "reading", "replay", "table", "merge", "law", "number", "newest",
-    "tie", "hand",
+pub const FAULTS: [&str; 20] = [
+    "answer",
+    "list",
+    "board",
+    "refusal",
+    "read",
+    "reading",
+    "replay",
+    "table",
+    "merge",
+    "law",
+    "number",
+    "newest",
+    "tie",
+    "hand",
+    "no-unit",
+    "unit-alone",
+    "unit-at-1",
+    "unit-at-0",
+    "mark",
+    "last-byte",
 ];
+
+/// Looks by another equality than the chord's: at which last byte, which one stands for it, and whether properties are
+/// left out.
+const MISJUDGED: [(&str, u8, u8, bool); 4] =
+    [("no-unit", 2, 1, false), ("unit-alone", 2, 2, true), ("unit-at-1", 1, 2, false), ("unit-at-0", 0, 2, true)];
 
 pub struct Faulty {
     inner: Reference,
@@ -28,12 +50,43 @@ impl Faulty {
     fn due(&self, fault: &str) -> bool {
         self.fault == fault && self.calls >= 1_234
     }
+
+    /// What a look answers that is made wrongly; none if the fault is no such one.
+    fn look(&mut self, table: &[u8], lists: &mut Lists, before: Lists, call: Call, answer: u32) -> Option<u32> {
+        let look = Look::before(&Table::read(table).ok()?, &before, call)?;
+        if self.fault == "mark" {
+            mark_wrongly(&look, lists, answer);
+            return None;
+        }
+        match MISJUDGED.iter().find(|(fault, ..)| *fault == self.fault) {
+            Some(&(_, byte, wrong, flat)) if look.equality as u8 == byte => {
+                *lists = before;
+                Some(self.misjudge(&with_last_byte(table, look.chord, wrong), lists, call, flat))
+            }
+            _ => look_wrongly(&self.fault, &look, lists, answer),
+        }
+    }
+
+    /// A call under another table, perhaps as if all properties were equal.
+    fn misjudge(&mut self, table: &[u8], lists: &mut Lists, call: Call, flat: bool) -> u32 {
+        let properties = lists.keys[..DAYS].to_vec();
+        if flat {
+            lists.keys[..DAYS].fill(0);
+        }
+        let answer = self.inner.call(table, lists, call);
+        lists.keys[..DAYS].copy_from_slice(&properties);
+        answer
+    }
 }
 
 impl Calls for Faulty {
     fn table_refusal(&mut self, table: &[u8]) -> u8 {
         let refusal = self.inner.table_refusal(table);
-        if self.due("table") && refusal == 5 { 6 } else { refusal }
+        match refusal {
+            5 if self.due("table") => 6,
+            0 if self.due("last-byte") && wants_units(table) => 5,
+            refusal => refusal,
+        }
     }
 
     fn open(&mut self, table: &[u8], board: &mut [u16]) -> u8 {
@@ -42,9 +95,10 @@ impl Calls for Faulty {
 
     fn call(&mut self, table: &[u8], lists: &mut Lists, call: Call) -> u32 {
         self.calls += 1;
+        let before = self.due(&self.fault).then(|| lists.clone());
         let answer = self.inner.call(table, lists, call);
-        if answer >> 16 == LOOKED && self.due(&self.fault) {
-            return look_wrongly(&self.fault, table, lists, call.sender()).unwrap_or(answer);
+        if let (Some(before), LOOKED | MISSED) = (before, answer >> 16) {
+            return self.look(table, lists, before, call, answer).unwrap_or(answer);
         }
         if self.due("list") && answer >> 16 == 3 {
             lists.bytes[STATUSES + usize::from(answer as u16)] = 0;
@@ -92,18 +146,38 @@ impl Calls for Faulty {
 
 /// Takes another message than the look took: the first that fits, the newest, the last of the oldest, or one that is
 /// older than the message in hand in its place.
-fn look_wrongly(fault: &str, table: &[u8], lists: &mut Lists, sender: usize) -> Option<u32> {
-    let look = Look::before(&Table::read(table).ok()?, lists, sender);
-    let fitting = || look.fitting.iter().copied();
+fn look_wrongly(fault: &str, look: &Look, lists: &mut Lists, answer: u32) -> Option<u32> {
     let wrong = match fault {
-        "number" if !look.of_hand => fitting().min_by_key(|it| it.number),
-        "newest" if !look.of_hand => fitting().min_by_key(|it| (!it.day, it.number)),
-        "tie" if !look.of_hand => fitting().min_by_key(|it| (it.day, !it.number)),
-        "hand" if look.of_hand => fitting().min_by_key(|it| (it.day, it.number)).filter(|it| it.day < look.taken.day),
+        _ if answer >> 16 == MISSED => None,
+        "number" if !look.of_hand => look.fitting().min_by_key(|it| it.number),
+        "newest" if !look.of_hand => look.fitting().min_by_key(|it| (!it.day, it.number)),
+        "tie" if !look.of_hand => look.fitting().min_by_key(|it| (it.day, !it.number)),
+        "hand" if look.of_hand => {
+            look.fitting().min_by_key(|it| (it.day, it.number)).filter(|it| it.day < look.hand.day)
+        }
         _ => None,
     }?;
     look.put(lists, wrong.number);
     Some(LOOKED << 16 | u32::from(wrong.number))
+}
+
+/// A claimed message of another unit marks a retry.
+fn mark_wrongly(look: &Look, lists: &mut Lists, answer: u32) {
+    let by_another = look.claimed.iter().any(|it| it.is_of_another_unit());
+    if answer >> 16 == MISSED && look.equality == Equality::Unit && by_another {
+        look.mark(lists);
+    }
+}
+
+fn with_last_byte(table: &[u8], chord: u8, byte: u8) -> Vec<u8> {
+    let mut table = table.to_vec();
+    let record = HEADER + usize::from(table[0]) + 4 * usize::from(chord);
+    table[record + 3] = byte;
+    table
+}
+
+fn wants_units(table: &[u8]) -> bool {
+    Table::read(table).is_ok_and(|table| (0..table.chord_count).any(|it| table.chord(it).equality == Equality::Unit))
 }
 
 /// The chord of a sender that is not at work is open, but not how it depends on the table.

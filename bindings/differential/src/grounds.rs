@@ -11,6 +11,9 @@ const MAP_GROUNDS: [&str; 4] = ["another length", "a channel not there", "a chan
 const COUNT_GROUNDS: [&str; 4] = ["17 channels", "more channels", "33 chords", "more chords"];
 const EDGES: [&str; 5] = ["16 channels", "32 chords", "412 bytes", "room for just the table", "room for one byte less"];
 
+/// Merges of chords that want equal units.
+const CARRYING: [&str; 2] = ["equal units of the first table", "equal units of the second table"];
+
 pub struct Ground {
     place: usize,
     pub number: u8,
@@ -109,12 +112,19 @@ impl Met {
         }
     }
 
+    /// An accepted merge, by which of its tables want equal units.
+    pub fn carrying(&mut self, tables: [bool; 2]) {
+        for (table, _) in CARRYING.iter().zip(tables).filter(|(_, wants)| *wants) {
+            self.note(table);
+        }
+    }
+
     /// What is to be met, and how often it was.
     pub fn counts(&self) -> Vec<(String, u64)> {
         let tables = PLACES[..2].iter().flat_map(|place| (1..=7).map(move |number| format!("{place} {number}")));
         let map = MAP_GROUNDS.iter().map(|ground| format!("the map: {ground}"));
         let counts = COUNT_GROUNDS.iter().map(|ground| format!("the counts: {ground}"));
-        let rest = ["the buffer", "accepted"].iter().chain(&EDGES).map(|words| words.to_string());
+        let rest = ["the buffer", "accepted"].iter().chain(&EDGES).chain(&CARRYING).map(|words| words.to_string());
         let words = tables.chain(map).chain(counts).chain(rest).chain((0..4).map(before));
         words.map(|words| (words.clone(), self.0.get(&words).copied().unwrap_or(0))).collect()
     }

@@ -2,15 +2,15 @@
 
 use crate::pair::Checked;
 use reference::board::{CLAIMED, CONSUMED, PENDING, WOKEN};
-use reference::lists::{CHORDS, DAYS, MEMBERS, STATUSES, WAKERS};
-use reference::{Lists, Phase, SENDER_NUMBERS, Sender, State, Table};
+use reference::lists::{CHORDS, DAYS, MEMBERS, STATUSES, UNITS, WAKERS};
+use reference::{Equality, Lists, Phase, SENDER_NUMBERS, Sender, Sent, State, Table};
 use std::collections::HashMap;
 
-/// The channel, property, cents and day of each message, as the adds said; and which are in a match.
+/// Each message as the adds said; and which are in a match.
 #[derive(Default)]
 pub struct Pool {
-    pub added: Vec<(u8, u32, i64, u32)>,
-    pub matched: Vec<bool>,
+    added: Vec<Sent>,
+    matched: Vec<bool>,
     matches: usize,
 }
 
@@ -18,9 +18,31 @@ pub fn senders(lists: &Lists) -> Vec<Sender> {
     lists.board[2..].chunks_exact(SENDER_NUMBERS).filter_map(Sender::from_numbers).collect()
 }
 
+/// A message's fields as the lists have them.
+pub fn sent_at(lists: &Lists, message: usize) -> Sent {
+    Sent {
+        channel: lists.bytes[message].into(),
+        property: lists.keys[message],
+        cents: lists.cents[message],
+        day: lists.keys[DAYS + message],
+        unit: lists.links[UNITS + message],
+    }
+}
+
+/// What the messages of a match have in common.
+type Common = (Option<u32>, Option<u16>);
+
+fn common(equality: Equality, sent: &Sent) -> Common {
+    match equality {
+        Equality::Any => (None, None),
+        Equality::Property => (Some(sent.property), None),
+        Equality::Unit => (Some(sent.property), Some(sent.unit)),
+    }
+}
+
 impl Pool {
-    pub fn add(&mut self, number: u16, channel: u16, property: u32, cents: i64, day: u32) -> Checked<()> {
-        self.added.push((channel as u8, property, cents, day));
+    pub fn add(&mut self, number: u16, sent: Sent) -> Checked<()> {
+        self.added.push(sent);
         self.matched.push(false);
         ensure(usize::from(number) + 1 == self.added.len(), || format!("item {number} is not the next"))
     }
@@ -35,11 +57,12 @@ impl Pool {
         for (&message, &channel) in messages.iter().zip(chord.members()) {
             ensure(!self.matched[message], || format!("message {message} is in two matches"))?;
             self.matched[message] = true;
-            ensure(self.added[message].0 == channel, || format!("message {message} is not of channel {channel}"))?;
-            let alike = self.added[message].1 == self.added[messages[0]].1;
-            ensure(alike || !chord.equal, || format!("message {message} has another property number"))?;
+            let (sent, first) = (&self.added[message], &self.added[messages[0]]);
+            ensure(sent.channel == channel.into(), || format!("message {message} is not of channel {channel}"))?;
+            let alike = common(chord.equality, sent) == common(chord.equality, first);
+            ensure(alike, || format!("message {message} has another property or unit than message {}", messages[0]))?;
         }
-        let cents: i64 = messages.iter().map(|&message| self.added[message].2).sum();
+        let cents: i64 = messages.iter().map(|&message| self.added[message].cents).sum();
         ensure(cents == read[2], || format!("match {number} reads {} cents, not {cents}", read[2]))
     }
 
@@ -61,8 +84,8 @@ impl Pool {
             }
         }
         for (message, &holding) in holders.iter().enumerate() {
-            let sent = (lists.bytes[message], lists.keys[message], lists.cents[message], lists.keys[DAYS + message]);
-            ensure(sent == self.added[message], || format!("message {message} is not as it was sent"))?;
+            let is_as_sent = sent_at(lists, message) == self.added[message];
+            ensure(is_as_sent, || format!("message {message} is not as it was sent"))?;
             let status = lists.bytes[STATUSES + message];
             let fine = match status {
                 CLAIMED => holding == 1,
@@ -80,22 +103,26 @@ impl Pool {
         let pending = |status: &u8| *status == PENDING || *status == CONSUMED;
         let statuses = &lists.bytes[STATUSES..][..self.added.len()];
         ensure(statuses.iter().all(pending), || "a quiet board has a claimed or woken message".to_string())?;
-        let mut groups: HashMap<u32, [usize; 16]> = HashMap::new();
-        let mut all = [0; 16];
-        for (sent, _) in self.added.iter().zip(&self.matched).filter(|(_, matched)| !**matched) {
-            groups.entry(sent.1).or_insert([0; 16])[usize::from(sent.0)] += 1;
-            all[usize::from(sent.0)] += 1;
-        }
+        let groups = [Equality::Any, Equality::Property, Equality::Unit].map(|equality| self.left_by(equality));
         for number in 0..table.chord_count {
             let chord = table.chord(number);
             let met = |left: &[usize; 16]| {
                 let wanted = |channel: &u8| chord.members().iter().filter(|member| *member == channel).count();
                 chord.members().iter().all(|channel| left[usize::from(*channel)] >= wanted(channel))
             };
-            let can_be_met = if chord.equal { groups.values().any(met) } else { met(&all) };
+            let can_be_met = groups[chord.equality as usize].values().any(met);
             ensure(!can_be_met, || format!("the board is quiet and chord {number} can be met"))?;
         }
         Ok(())
+    }
+
+    /// How many messages the pool has of each channel, by what a match of them would have in common.
+    fn left_by(&self, equality: Equality) -> HashMap<Common, [usize; 16]> {
+        let mut groups = HashMap::new();
+        for (sent, _) in self.added.iter().zip(&self.matched).filter(|(_, matched)| !**matched) {
+            groups.entry(common(equality, sent)).or_insert([0; 16])[usize::from(sent.channel)] += 1;
+        }
+        groups
     }
 }
 

@@ -8,7 +8,7 @@ use crate::pair::Checked;
 use crate::random::Random;
 use crate::schedule::Habits;
 use crate::strays::lent_anything;
-use reference::{Lists, Table};
+use reference::{Lists, Sent, Table};
 
 const MATCHED: u32 = 6;
 /// Where a schedule that leaves the law adds to as well.
@@ -91,8 +91,8 @@ fn play_outside(boards: &mut Boards, random: &mut Random, place: usize) -> Check
 /// The call, an add of it to one of those channels.
 fn at_channels(call: Call, channels: &[u16], random: &mut Random) -> Call {
     match call {
-        Call::Add { sender, channel, property, cents, day } if !channels.contains(&channel) => {
-            Call::Add { sender, channel: random.pick(channels), property, cents, day }
+        Call::Add { sender, sent } if !channels.contains(&sent.channel) => {
+            Call::Add { sender, sent: Sent { channel: random.pick(channels), ..sent } }
         }
         call => call,
     }

@@ -1,11 +1,15 @@
-//! A look that found a message: what else fitted, and what the days decided.
+//! A look that a step makes: what it may take, and what days and units decided.
 
-use reference::board::PENDING;
-use reference::lists::{DAYS, STATUSES};
-use reference::{Lists, Phase, SENDER_NUMBERS, Sender, Table};
+use crate::calls::Call;
+use reference::board::{CLAIMED, PENDING};
+use reference::lists::{DAYS, STATUSES, UNITS};
+use reference::{Equality, Lists, Phase, SENDER_NUMBERS, Sender, State, Table};
+
+pub const LOOKED: u32 = 1;
+pub const MISSED: u32 = 2;
 
 /// What days can decide.
-pub const DECIDED: [&str; 6] = [
+pub const BY_DAYS: [&str; 6] = [
     "an older one taken before a lower number",
     "a lower number taken of equal days",
     "a newer one passed over",
@@ -14,67 +18,165 @@ pub const DECIDED: [&str; 6] = [
     "the hand taken before an older one",
 ];
 
+/// What units can decide: for chords of equal units, then for the others.
+pub const BY_UNITS: [&str; 9] = [
+    "another unit passed over",
+    "another unit passed over and none taken",
+    "another property of the unit passed over",
+    "the first unit taken",
+    "the last unit taken",
+    "a claimed one of the unit marks a retry",
+    "a claimed one of another unit marks none",
+    "another unit taken where properties are equal",
+    "another unit taken where nothing is",
+];
+
+/// A message, and what it has as the one in hand has it.
 #[derive(Clone, Copy)]
-pub struct Dated {
+pub struct Candidate {
     pub number: u16,
     pub day: u32,
+    unit: u16,
+    same_property: bool,
+    same_unit: bool,
+}
+
+impl Candidate {
+    fn is_before(&self, other: Candidate) -> bool {
+        (self.day, self.number) < (other.day, other.number)
+    }
+
+    pub fn is_of_another_unit(&self) -> bool {
+        self.same_property && !self.same_unit
+    }
 }
 
 pub struct Look {
     sender: usize,
-    /// The member that was looked for, and whether it is the one that the message in hand fills.
+    pub chord: u8,
+    pub equality: Equality,
+    /// The member that is looked for, and whether it is the one that the message in hand fills.
     at: usize,
     pub of_hand: bool,
-    pub taken: Dated,
-    /// All that fitted, the taken one among them if it did.
-    pub fitting: Vec<Dated>,
+    pub hand: Candidate,
+    /// The mark before the look.
+    retry: bool,
+    /// Of the channel: the pending ones that are not chosen, and the claimed ones.
+    pending: Vec<Candidate>,
+    pub claimed: Vec<Candidate>,
 }
 
 impl Look {
-    /// The look that a sender has just made, which alters nothing but the sender.
-    pub fn before(table: &Table, lists: &Lists, sender: usize) -> Look {
-        let job =
-            Sender::from_numbers(&lists.board[2 + SENDER_NUMBERS * sender..][..SENDER_NUMBERS]).unwrap_or_default();
-        let chord = table.chord(job.chord);
-        let at = if let Phase::Look(next) = job.phase { usize::from(next) - 1 } else { usize::from(chord.len) - 1 };
+    /// The look that a call makes on a sound board; none if it makes none.
+    pub fn before(table: &Table, lists: &Lists, call: Call) -> Option<Look> {
+        let Call::Step { sender } = call else { return None };
+        let sender = usize::from(sender);
+        let job = Sender::from_numbers(lists.board.get(2 + SENDER_NUMBERS * sender..)?.get(..SENDER_NUMBERS)?)?;
+        let (State::Working, Phase::Look(at)) = (job.state, job.phase) else { return None };
+        let (chord, at) = (table.chord(job.chord), usize::from(at));
         let hand = usize::from(job.subject);
-        let fits = |&message: &usize| {
-            lists.bytes[message] == chord.channels[at]
-                && lists.bytes[STATUSES + message] == PENDING
-                && !job.chosen[..at].contains(&(message as u16))
-                && (!chord.equal || lists.keys[message] == lists.keys[hand])
+        let candidate = |message: usize| Candidate {
+            number: message as u16,
+            day: lists.keys[DAYS + message],
+            unit: lists.links[UNITS + message],
+            same_property: lists.keys[message] == lists.keys[hand],
+            same_unit: lists.links[UNITS + message] == lists.links[UNITS + hand],
         };
-        let dated = |message: usize| Dated { number: message as u16, day: lists.keys[DAYS + message] };
-        Look {
+        let is_of = |message: usize| lists.bytes[message] == chord.channels[at];
+        let is_free = |message: usize| !job.chosen[..at].contains(&(message as u16));
+        let with = |status: u8| {
+            let messages = 0..usize::from(lists.board[0]);
+            messages.filter(move |&it| is_of(it) && lists.bytes[STATUSES + it] == status)
+        };
+        Some(Look {
             sender,
+            chord: job.chord,
+            equality: chord.equality,
             at,
             of_hand: chord.first_of(lists.bytes[hand]) == Some(at),
-            taken: dated(job.chosen[at].into()),
-            fitting: (0..lists.board[0].into()).filter(fits).map(dated).collect(),
+            hand: candidate(hand),
+            retry: job.retry,
+            pending: with(PENDING).filter(|&it| is_free(it)).map(candidate).collect(),
+            claimed: with(CLAIMED).map(candidate).collect(),
+        })
+    }
+
+    fn fits(&self, it: &Candidate) -> bool {
+        match self.equality {
+            Equality::Any => true,
+            Equality::Property => it.same_property,
+            Equality::Unit => it.same_property && it.same_unit,
         }
     }
 
-    /// Which of `DECIDED` it is.
-    pub fn decided(&self) -> impl Iterator<Item = &'static str> {
-        let Dated { number, day } = self.taken;
-        let any = |of: &dyn Fn(&Dated) -> bool| self.fitting.iter().any(of);
-        let decided = if self.of_hand {
-            [false, false, false, false, false, any(&|it| it.day < day)]
-        } else {
-            [
-                any(&|it| it.number < number),
-                any(&|it| it.number > number && it.day == day),
-                any(&|it| it.day > day),
-                day == 0,
-                day == u32::MAX,
-                false,
-            ]
+    /// All that may be taken.
+    pub fn fitting(&self) -> impl Iterator<Item = Candidate> {
+        self.pending.iter().copied().filter(|it| self.fits(it))
+    }
+
+    /// Which of `BY_DAYS` and `BY_UNITS` it is, with that answer.
+    pub fn decided(&self, answer: u32) -> impl Iterator<Item = &'static str> {
+        let taken = self.pending.iter().copied().find(|it| answer == LOOKED << 16 | u32::from(it.number));
+        let (days, units) = match taken {
+            _ if self.of_hand => ([false, false, false, false, false, self.any_older()], [false; 9]),
+            Some(taken) => (self.by_days(taken), self.by_units(taken)),
+            None => ([false; 6], self.missed_by_units()),
         };
-        DECIDED.into_iter().zip(decided).filter(|(_, is)| *is).map(|(what, _)| what)
+        let days = BY_DAYS.into_iter().zip(days);
+        days.chain(BY_UNITS.into_iter().zip(units)).filter(|(_, is)| *is).map(|(what, _)| what)
+    }
+
+    fn any_older(&self) -> bool {
+        self.fitting().any(|it| it.day < self.hand.day)
+    }
+
+    fn by_days(&self, Candidate { number, day, .. }: Candidate) -> [bool; 6] {
+        [
+            self.fitting().any(|it| it.number < number),
+            self.fitting().any(|it| it.number > number && it.day == day),
+            self.fitting().any(|it| it.day > day),
+            day == 0,
+            day == u32::MAX,
+            false,
+        ]
+    }
+
+    fn by_units(&self, taken: Candidate) -> [bool; 9] {
+        let earlier = || self.pending.iter().filter(|it| it.is_before(taken));
+        let of_unit = [
+            earlier().any(Candidate::is_of_another_unit),
+            false,
+            earlier().any(|it| it.same_unit && !it.same_property),
+            taken.unit == 0,
+            taken.unit == u16::MAX,
+        ];
+        let mut decided = [false; 9];
+        match self.equality {
+            Equality::Unit => decided[..5].copy_from_slice(&of_unit),
+            Equality::Property => decided[7] = !taken.same_unit,
+            Equality::Any => decided[8] = !taken.same_unit,
+        }
+        decided
+    }
+
+    fn missed_by_units(&self) -> [bool; 9] {
+        let mut decided = [false; 9];
+        if self.equality == Equality::Unit {
+            let would_fit = self.claimed.iter().any(|it| self.fits(it));
+            decided[1] = self.pending.iter().any(Candidate::is_of_another_unit);
+            decided[5] = would_fit;
+            decided[6] = !would_fit && !self.retry && self.claimed.iter().any(Candidate::is_of_another_unit);
+        }
+        decided
     }
 
     /// Another message was taken.
     pub fn put(&self, lists: &mut Lists, message: u16) {
         lists.board[2 + SENDER_NUMBERS * self.sender + 13 + self.at] = message;
+    }
+
+    /// The mark is set after the look.
+    pub fn mark(&self, lists: &mut Lists) {
+        lists.board[2 + SENDER_NUMBERS * self.sender + 11] = 1;
     }
 }

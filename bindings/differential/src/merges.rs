@@ -42,7 +42,18 @@ fn compare(pair: &mut Pair, merge: &Merge, before: &[u8], met: &mut Met) -> Chec
     if refusal != 0 {
         return Err(format!("the merged table is refused {refusal}"));
     }
+    compare_last_bytes(merge, &after[..len], met)?;
     if after[len..] == before[len..] { Ok(()) } else { Err("bytes past the merged table have changed".to_string()) }
+}
+
+/// What the chords want equal is what it was, the first's and then the second's.
+fn compare_last_bytes(merge: &Merge, merged: &[u8], met: &mut Met) -> Checked<()> {
+    let read = |table| Parts::read(table).map_err(|number| format!("a table is refused {number}"));
+    let last_bytes = |parts: Parts| parts.chords.iter().map(|record| record[3]).collect::<Vec<u8>>();
+    let [first, second] = [last_bytes(read(&merge.first)?), last_bytes(read(&merge.second)?)];
+    met.carrying([&first, &second].map(|bytes| bytes.contains(&2)));
+    let merged = last_bytes(read(merged)?);
+    if merged == [first, second].concat() { Ok(()) } else { Err(format!("merged last bytes {merged:?}")) }
 }
 
 fn counts(merge: &Merge) -> Checked<[usize; 3]> {

@@ -104,8 +104,8 @@ fn numbers_read(table: &[u8], board: &Board, read: Read) -> Result<Vec<i64>, u8>
         Read::Message(number) => {
             let read = calls::message(table, board, number)?;
             let (matched, waker) = (kept(read.matched).into(), kept(read.waker).into());
-            let (channel, property, day) = (read.channel.into(), read.property.into(), read.day.into());
-            vec![channel, property, read.cents, read.status.into(), matched, waker, day]
+            let (channel, property) = (read.channel.into(), read.property.into());
+            vec![channel, property, read.cents, read.status.into(), matched, waker, read.day.into(), read.unit.into()]
         }
         Read::Match(number) => {
             let read = calls::match_(table, board, number)?;

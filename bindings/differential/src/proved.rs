@@ -2,7 +2,7 @@
 
 use crate::calls::{Call, Calls, Merge, Read};
 use gevnyusto::host;
-use reference::{Lists, Rows};
+use reference::{Lists, Rows, Sent};
 use std::mem::take;
 
 pub struct Host;
@@ -33,8 +33,8 @@ impl Calls for Host {
 
     fn call(&mut self, table: &[u8], lists: &mut Lists, call: Call) -> u32 {
         lent(lists, |lists| match call {
-            Call::Add { sender, channel, property, cents, day } => {
-                host::add(table, lists, sender, channel, property, cents, day)
+            Call::Add { sender, sent: Sent { channel, property, cents, day, unit } } => {
+                host::add(table, lists, sender, channel, property, cents, day, unit)
             }
             Call::Step { sender } => host::step(table, lists, sender),
         })

@@ -1,6 +1,7 @@
 //! Random numbers and tables, the same for the same seed.
 
-use reference::table::table_bytes;
+use reference::Equality;
+use reference::table::{HEADER, table_bytes};
 
 pub struct Random(u64);
 
@@ -45,11 +46,24 @@ pub fn random_table(random: &mut Random) -> Vec<u8> {
     let waiting = random.pick(&[0, 30, 50, 50, 70, 100]);
     let kinds: Vec<u8> = (0..channels).map(|_| random.chance(waiting).into()).collect();
     let chord = |_| {
-        let (len, equal) = (shortest + random.below(longest - shortest + 1), random.chance(40));
+        let len = shortest + random.below(longest - shortest + 1);
+        let equality = random.pick(&[Equality::Any, Equality::Property, Equality::Unit]);
         let members: Vec<u8> = (0..len).map(|_| random.below(channels) as u8).collect();
-        (members, equal)
+        (members, equality)
     };
     table_bytes(&kinds, &(0..count).map(chord).collect::<Vec<_>>())
+}
+
+/// The last byte of a chord of an accepted table becomes one of these; none without chords.
+pub const LAST_BYTES: [u8; 5] = [0, 1, 2, 3, 255];
+
+pub fn put_last_byte(table: &mut [u8], random: &mut Random) -> Option<u8> {
+    let (channels, chords) = (usize::from(table[0]), usize::from(table[2]));
+    let byte = random.pick(&LAST_BYTES);
+    (chords > 0).then(|| {
+        table[HEADER + channels + 4 * random.below(chords) + 3] = byte;
+        byte
+    })
 }
 
 /// A byte of the table changed, or its end.

@@ -9,10 +9,9 @@ use crate::random::{Random, random_table};
 use crate::strays;
 use reference::board::{MESSAGES, MOST_CENTS, PENDING};
 use reference::lists::STATUSES;
-use reference::{Lists, Rows, Sender, State, Table};
+use reference::{Lists, Rows, Sender, Sent, State, Table};
 
 const ITEM: u32 = 0;
-const LOOKED: u32 = 1;
 const MATCHED: u32 = 6;
 
 /// How the days of a schedule's messages come.
@@ -43,12 +42,16 @@ impl Days {
     }
 }
 
+/// Units that a schedule's messages have: one, few, the extremes, such as differ in their high bytes only.
+const UNITS: [&[u16]; 5] = [&[0], &[0, 1], &[0, 1, 2, 65_535], &[1, 257, 65_281], &[0, 65_535]];
+
 /// How a schedule chooses its calls.
 pub struct Habits {
     /// Senders below this are chosen while one of them can be.
     favoured: usize,
     properties: usize,
     days: Days,
+    units: &'static [u16],
     adding: usize,
     run_on: usize,
     length: usize,
@@ -74,6 +77,7 @@ impl Habits {
                 Days::Falling,
                 Days::Extreme,
             ]),
+            units: random.pick(&UNITS),
             adding: if filling { 90 } else { random.pick(&[10, 20, 35, 50]) },
             run_on: random.pick(&[0, 30, 70, 95]),
             length: if filling { 6_000 } else { random.pick(&[100, 300, 600, 1_500]) },
@@ -112,7 +116,8 @@ impl Habits {
         }
         let (sender, channel) = (random.pick(&idle) as u16, self.channel(random, table, lists));
         let (property, day) = (self.property(random), self.days.next(random, lists.board[0]));
-        Call::Add { sender, channel, property, cents: cents(random), day }
+        let unit = random.pick(self.units);
+        Call::Add { sender, sent: Sent { channel, property, cents: cents(random), day, unit } }
     }
 
     /// The favoured senders that are as wanted; if none is, any such sender.
@@ -163,8 +168,9 @@ pub fn odd_call(random: &mut Random, table: &Table) -> Call {
     let channels = u16::from(table.channel_count);
     let channel = random.pick(&[0, channels - 1, channels - 1, channels, 65_535]);
     let cents = random.pick(&[0, 1, MOST_CENTS, MOST_CENTS + 1, -MOST_CENTS - 1, i64::MAX, i64::MIN]);
-    let day = random.pick(&[0, 1, u32::MAX]);
-    if random.chance(30) { Call::Step { sender } } else { Call::Add { sender, channel, property: 0, cents, day } }
+    let (day, unit) = (random.pick(&[0, 1, u32::MAX]), random.pick(&[0, 1, u16::MAX]));
+    let sent = Sent { channel, property: 0, cents, day, unit };
+    if random.chance(30) { Call::Step { sender } } else { Call::Add { sender, sent } }
 }
 
 /// The schedule of that number, on a table of its own; with excursions to boards that it does not reach.
@@ -179,10 +185,11 @@ pub fn run(pair: &mut Pair, random: &mut Random, number: u64, most: u64) -> Chec
     for turn in 0..habits.length {
         habits.draining = turn >= habits.length - draining;
         let call = habits.choose(random, &table, &pair.ours);
+        let look = Look::before(&table, &pair.ours, call);
         let answer = pair.call(call)?;
         pair.count(answer);
-        if answer >> 16 == LOOKED {
-            Look::before(&table, &pair.ours, call.sender()).decided().for_each(|what| pair.tally.seen.note(what));
+        if let Some(look) = look {
+            look.decided(answer).for_each(|what| pair.tally.seen.note(what));
         }
         calls.push(call);
         answers.push(answer);
@@ -207,7 +214,7 @@ pub fn run(pair: &mut Pair, random: &mut Random, number: u64, most: u64) -> Chec
 fn feed(pair: &mut Pair, pool: &mut Pool, table: &Table, call: Call, answer: u32) -> Checked<()> {
     let value = answer as u16;
     match (answer >> 16, call) {
-        (ITEM, Call::Add { channel, property, cents, day, .. }) => pool.add(value, channel, property, cents, day),
+        (ITEM, Call::Add { sent, .. }) => pool.add(value, sent),
         (MATCHED, _) => {
             let (_, read) = pair.read(Read::Match(value), 11)?;
             pool.take(value, table, &read)

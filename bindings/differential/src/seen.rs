@@ -1,11 +1,12 @@
-//! Counts of what was lent to the calls, of refused calls that left it as found, and of what the days decided.
+//! Counts of what was lent to the calls, of refused calls that left it as found, and of what days and units decided.
 
-use crate::looks::DECIDED;
+use crate::looks::{BY_DAYS, BY_UNITS};
+use crate::random::LAST_BYTES;
 use std::collections::HashMap;
 
 /// The lists of a board with their parts, and the lists of a replay's calls.
 pub const LISTS: [&str; 5] = ["board", "bytes", "links", "keys", "cents"];
-pub const PARTS: [&str; 10] = [
+pub const PARTS: [&str; 11] = [
     "board",
     "channels of bytes",
     "statuses of bytes",
@@ -13,13 +14,14 @@ pub const PARTS: [&str; 10] = [
     "matches of links",
     "wakers of links",
     "members of links",
+    "units of links",
     "properties of keys",
     "days of keys",
     "cents",
 ];
 pub const ROWS: [&str; 3] = ["calls", "numbers", "amounts"];
 /// Lengths that are not those of a list.
-pub const LENGTHS: [&str; 3] = ["one longer", "one shorter", "empty"];
+pub const LENGTHS: [&str; 4] = ["one longer", "one shorter", "empty", "one part shorter"];
 /// Calls after which each list of a board is compared with what it was, number by number.
 const AS_FOUND: [&str; 4] = ["refused calls", "refused replays", "refused opens", "reads"];
 const DAMAGES: [&str; 4] = ["tables refused", "tables accepted", "numbers of no board", "numbers of no sound board"];
@@ -41,17 +43,25 @@ impl Seen {
     }
 
     /// All that may be noted, by sort.
-    pub fn counts(&self) -> [(&'static str, Vec<(String, u64)>); 5] {
+    pub fn counts(&self) -> [(&'static str, Vec<(String, u64)>); 7] {
         let lengths = |list: &&str| LENGTHS.map(|length| format!("{list} {length}"));
-        // Any property and any day is one of a sound board.
-        let unsound = PARTS.iter().filter(|part| !part.ends_with("keys")).map(|part| format!("{part} refused"));
+        // Any property, any day and any unit is one of a sound board.
+        let any_fits = |part: &str| part.ends_with("keys") || part.starts_with("units");
+        let unsound = PARTS.iter().filter(|part| !any_fits(part)).map(|part| format!("{part} refused"));
         let changed = PARTS.iter().map(|part| format!("{part} accepted")).chain(unsound);
         [
             ("every list as found", self.of(AS_FOUND.map(String::from).to_vec())),
             ("damaged", self.of(DAMAGES.map(String::from).to_vec())),
+            ("last bytes", self.of(LAST_BYTES.map(last_byte_of).to_vec())),
             ("of another length", self.of(LISTS.iter().chain(&ROWS).flat_map(lengths).collect())),
             ("one number changed", self.of(changed.collect())),
-            ("looks", self.of(DECIDED.map(String::from).to_vec())),
+            ("looks by days", self.of(BY_DAYS.map(String::from).to_vec())),
+            ("looks by units", self.of(BY_UNITS.map(String::from).to_vec())),
         ]
     }
+}
+
+/// A table with that last byte of a chord.
+pub fn last_byte_of(byte: u8) -> String {
+    format!("{byte} {}", if byte > 2 { "refused" } else { "accepted" })
 }

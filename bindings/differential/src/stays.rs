@@ -1,17 +1,38 @@
-//! What an accepted call may not alter, whatever else it does: the rows of other senders, but for their signals, and
-//! the eight numbers of every match that was recorded before it.
+//! What an accepted call may not alter, whatever else it does: the rows of other senders, but for their signals, the
+//! eight numbers of every match that was recorded before it, and what the records of messages were sent with, counted or
+//! not, but for the one that it adds.
 
-use reference::lists::MEMBERS;
+use crate::invariant::sent_at;
+use reference::board::MESSAGES;
+use reference::lists::{MEMBERS, STATUSES, UNITS};
 use reference::{Lists, SENDER_NUMBERS};
 
 /// The first of these that differs after a call of that sender.
 pub fn altered(before: &Lists, after: &Lists, caller: usize) -> Option<String> {
-    other_sender(&before.board, &after.board, caller).or_else(|| {
-        let recorded = 8 * usize::from(before.board[1]);
-        let links = |lists: &Lists| lists.links[MEMBERS..][..recorded].to_vec();
-        let (old, new) = (links(before), links(after));
-        (0..recorded).find(|&at| old[at] != new[at]).map(|at| format!("match {} place {}", at / 8, at % 8))
-    })
+    other_sender(&before.board, &after.board, caller)
+        .or_else(|| recorded_match(before, after))
+        .or_else(|| other_message(before, after))
+}
+
+fn recorded_match(before: &Lists, after: &Lists) -> Option<String> {
+    let recorded = 8 * usize::from(before.board[1]);
+    let links = |lists: &Lists| lists.links[MEMBERS..][..recorded].to_vec();
+    let (old, new) = (links(before), links(after));
+    (0..recorded).find(|&at| old[at] != new[at]).map(|at| format!("match {} place {}", at / 8, at % 8))
+}
+
+fn other_message(before: &Lists, after: &Lists) -> Option<String> {
+    let bytes = before.bytes[..STATUSES] == after.bytes[..STATUSES];
+    if bytes
+        && before.links[UNITS..] == after.links[UNITS..]
+        && before.keys == after.keys
+        && before.cents == after.cents
+    {
+        return None;
+    }
+    let added = usize::from(before.board[0])..usize::from(after.board[0]);
+    let is_kept = |at: &usize| added.contains(at) || sent_at(before, *at) == sent_at(after, *at);
+    (0..MESSAGES).find(|at| !is_kept(at)).map(|at| format!("what message {at} was sent with"))
 }
 
 fn other_sender(before: &[u16], after: &[u16], caller: usize) -> Option<String> {
@@ -24,6 +45,7 @@ fn other_sender(before: &[u16], after: &[u16], caller: usize) -> Option<String> 
 #[cfg(test)]
 mod tests {
     use super::*;
+    use reference::lists::DAYS;
 
     fn found(alter: impl Fn(&mut Lists)) -> Option<String> {
         let mut before = Lists::default();
@@ -40,5 +62,16 @@ mod tests {
         assert_eq!(found(|lists| lists.board[2 + 21 * 4 + 12] = 7), Some("sender 4 number 12".into()));
         assert_eq!(found(|lists| lists.links[MEMBERS + 7] = 7), Some("match 0 place 7".into()));
         assert_eq!(found(|lists| lists.links[MEMBERS + 8] = 7), None);
+    }
+
+    #[test]
+    fn messages_stay_as_they_were_sent() {
+        let altered = |at: usize| Some(format!("what message {at} was sent with"));
+        assert_eq!(found(|lists| lists.links[UNITS] = 7), altered(0));
+        assert_eq!(found(|lists| lists.links[UNITS + 1023] = 7), altered(1023));
+        assert_eq!(found(|lists| lists.keys[DAYS + 5] = 7), altered(5));
+        let added = |unit_at: usize| move |lists: &mut Lists| (lists.board[0], lists.links[UNITS + unit_at]) = (1, 7);
+        assert_eq!(found(added(0)), None);
+        assert_eq!(found(added(1)), altered(1));
     }
 }

@@ -5,10 +5,11 @@ use crate::changes;
 use crate::invariant::senders;
 use crate::pair::{Checked, Pair};
 use crate::plain_rust::{Reference, Verdict};
-use crate::random::{Random, damage};
+use crate::random::{Random, damage, put_last_byte};
 use crate::schedule::odd_call;
-use crate::seen::{LENGTHS, LISTS, PARTS, ROWS};
-use reference::{Lists, Rows, SENDER_NUMBERS, Table};
+use crate::seen::{LENGTHS, LISTS, PARTS, ROWS, last_byte_of};
+use reference::board::MESSAGES;
+use reference::{Lists, Rows, SENDER_NUMBERS, Sent, Table};
 
 const NO_BOARD: u32 = 17 * 65_536 + 30;
 
@@ -34,10 +35,10 @@ pub fn compare_reads(pair: &mut Pair, random: &mut Random) -> Checked<()> {
     for read in [Read::Message(message), Read::Match(number), Read::Reply(sender), Read::Quiet] {
         let (refusal, _) = pair.read(read, read.len() + random.below(2))?;
         if refusal == 0 {
-            pair.read(read, read.len() - 1)?;
+            expect_number(31, pair.read(read, read.len() - 1)?.0)?;
         }
     }
-    pair.read(Read::Message(u16::MAX), 7)?;
+    pair.read(Read::Message(u16::MAX), 8)?;
     pair.read(Read::Match(u16::MAX), 11)?;
     pair.read(Read::Reply(u16::MAX), 1)?;
     Ok(())
@@ -69,24 +70,29 @@ fn random_call(random: &mut Random, table: &Table, lists: &Lists, favoured: usiz
     } as u16;
     match random.below(20) {
         0 => odd_call(random, table),
-        1..=3 => Call::Add {
-            sender,
-            channel: random.below(table.channel_count.into()) as u16,
-            property: random.below(2) as u32,
-            cents: 1,
-            day: random.below(3) as u32,
-        },
+        1..=3 => {
+            let (channel, property) = (random.below(table.channel_count.into()) as u16, random.below(2) as u32);
+            let (day, unit) = (random.below(3) as u32, random.pick(&[0, 1, u16::MAX]));
+            Call::Add { sender, sent: Sent { channel, property, cents: 1, day, unit } }
+        }
         _ => Call::Step { sender },
     }
 }
 
 fn damaged_table(pair: &mut Pair, random: &mut Random) -> Checked<()> {
-    damage(&mut pair.table, random);
+    let last_byte = if random.chance(40) { put_last_byte(&mut pair.table, random) } else { None };
+    if last_byte.is_none() {
+        damage(&mut pair.table, random);
+    }
     let lists = pair.ours.clone();
     pair.set(&lists);
     let opened = pair.open(pair.table.clone())?;
     pair.set(&lists);
     pair.tally.seen.note(if opened == 0 { "tables accepted" } else { "tables refused" });
+    if let Some(byte) = last_byte {
+        expect_number(if byte > 2 { 5 } else { 0 }, opened)?;
+        pair.tally.seen.note(last_byte_of(byte));
+    }
     let refused = 17 * 65_536 + u32::from(opened);
     for _ in 0..3 {
         let answer = pair.call(Call::Step { sender: random.below(33) as u16 })?;
@@ -105,7 +111,7 @@ fn any_replay(pair: &mut Pair, random: &mut Random) -> Checked<()> {
     let count = random.below(40);
     let calls: Vec<Call> = (0..count).map(|_| random_call(random, &table, &pair.ours, 1)).collect();
     let mut rows = Rows::of(&calls);
-    for kind in rows.calls.iter_mut().step_by(3) {
+    for kind in rows.calls.iter_mut().step_by(4) {
         *kind = if random.chance(20) { random.next() as u16 } else { *kind };
     }
     let lists = pair.ours.clone();
@@ -116,9 +122,9 @@ fn any_replay(pair: &mut Pair, random: &mut Random) -> Checked<()> {
     pair.set(&lists);
     let (list, length) = (random.below(ROWS.len()), if count == 0 { 0 } else { random.below(LENGTHS.len()) });
     match list {
-        0 => resize(&mut rows.calls, length),
-        1 => resize(&mut rows.numbers, length),
-        _ => resize(&mut rows.amounts, length),
+        0 => resize(&mut rows.calls, length, count),
+        1 => resize(&mut rows.numbers, length, count),
+        _ => resize(&mut rows.amounts, length, count),
     }
     pair.tally.seen.note(format!("{} {}", ROWS[list], LENGTHS[length]));
     let (number, _) = pair.replay(&rows, random.pick(&[0, count, count + 1]))?;
@@ -130,11 +136,11 @@ fn another_length(pair: &mut Pair, random: &mut Random) -> Checked<()> {
     let mut lists = pair.ours.clone();
     let (list, length) = (random.below(LISTS.len()), random.below(LENGTHS.len()));
     match list {
-        0 => resize(&mut lists.board, length),
-        1 => resize(&mut lists.bytes, length),
-        2 => resize(&mut lists.links, length),
-        3 => resize(&mut lists.keys, length),
-        _ => resize(&mut lists.cents, length),
+        0 => resize(&mut lists.board, length, SENDER_NUMBERS),
+        1 => resize(&mut lists.bytes, length, MESSAGES),
+        2 => resize(&mut lists.links, length, MESSAGES),
+        3 => resize(&mut lists.keys, length, MESSAGES),
+        _ => resize(&mut lists.cents, length, MESSAGES),
     }
     let what = format!("{} {}", LISTS[list], LENGTHS[length]);
     pair.set(&lists);
@@ -144,22 +150,24 @@ fn another_length(pair: &mut Pair, random: &mut Random) -> Checked<()> {
     if opened == expected { Ok(()) } else { Err(format!("{what}: open answered {opened}")) }
 }
 
-fn resize<T: Clone + Default>(list: &mut Vec<T>, length: usize) {
-    list.resize([list.len() + 1, list.len() - 1, 0][length], T::default());
+/// Gives a list one of `LENGTHS`; its parts are of `part` numbers.
+fn resize<T: Clone + Default>(list: &mut Vec<T>, length: usize, part: usize) {
+    list.resize([list.len() + 1, list.len() - 1, 0, list.len() - part][length], T::default());
 }
 
 /// Every call is refused 30 before anything else that is wrong with it.
 fn expect_refused(pair: &mut Pair) -> Checked<()> {
     expect_no_board(pair, Call::Step { sender: 0 })?;
-    expect_no_board(pair, Call::Add { sender: 40, channel: 99, property: 0, cents: i64::MAX, day: 0 })?;
+    let sent = Sent { channel: 99, cents: i64::MAX, ..Sent::default() };
+    expect_no_board(pair, Call::Add { sender: 40, sent })?;
     for read in [Read::Message(u16::MAX), Read::Match(u16::MAX), Read::Reply(u16::MAX), Read::Quiet] {
-        expect_number(pair.read(read, 0)?.0)?;
+        expect_number(30, pair.read(read, 0)?.0)?;
     }
-    expect_number(pair.replay(&Rows::of(&[]), 0)?.0)
+    expect_number(30, pair.replay(&Rows::of(&[]), 0)?.0)
 }
 
-fn expect_number(number: u8) -> Checked<()> {
-    if number == 30 { Ok(()) } else { Err(format!("answered {number}")) }
+fn expect_number(expected: u8, number: u8) -> Checked<()> {
+    if number == expected { Ok(()) } else { Err(format!("answered {number} and not {expected}")) }
 }
 
 fn expect_no_board(pair: &mut Pair, call: Call) -> Checked<()> {
@@ -189,7 +197,7 @@ fn play_on(pair: &mut Pair, random: &mut Random, lists: &Lists, sender: usize, m
         let no_board = verdict == Verdict::NoBoard;
         pair.tally.seen.note(if no_board { "numbers of no board" } else { "numbers of no sound board" });
         expect_no_board(pair, random_call(random, &table, &pair.ours, sender))?;
-        return expect_number(pair.read(Read::Quiet, 1)?.0).map(|()| false);
+        return expect_number(30, pair.read(Read::Quiet, 1)?.0).map(|()| false);
     }
     for _ in 0..most {
         pair.call(random_call(random, &table, &pair.ours, sender))?;
