@@ -4,6 +4,7 @@ use crate::report::{Target, heading, row};
 use crate::tables;
 use crate::timing::{CALL_ROUNDS, Times, least, timed};
 use gevnyusto::host;
+use reference::Equality;
 use reference::merge::{NEW, merge};
 use std::hint::black_box;
 
@@ -12,13 +13,14 @@ const AT_ONCE: usize = 100;
 
 /// Sixteen chords of four channels out of eight.
 fn large() -> Vec<u8> {
-    let chords: Vec<_> = (0..16).map(|chord| ([0, 1, 3, 6].map(|far| (chord + far) % 8), chord % 2 == 0)).collect();
+    let equality = |chord: u8| if chord.is_multiple_of(2) { Equality::Property } else { Equality::Any };
+    let chords: Vec<_> = (0..16).map(|chord| ([0, 1, 3, 6].map(|far| (chord + far) % 8), equality(chord))).collect();
     tables::table(&[0, 0, 1, 0, 1, 0, 0, 1], &chords)
 }
 
 pub fn merges() {
     heading("6 merge of two tables", "ns", "ratio");
-    let second = tables::table(&[0, 1, 0], &[([1, 2], true)]);
+    let second = tables::table(&[0, 1, 0], &[([1, 2], Equality::Property)]);
     let small = times(tables::P, &second, &[0, NEW, NEW]);
     row("gv_merge_tables, 2 and 3 channels, a chord each", small, small.ratio(), Target::None);
     let large = times(&large(), &large(), &[0, NEW, 2, NEW, 4, NEW, 6, NEW]);

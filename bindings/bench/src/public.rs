@@ -5,7 +5,7 @@ use crate::schedule::pairs;
 use crate::tables;
 use crate::timing::{CALL_ROUNDS, Times, least, timed};
 use crate::world::{Proved, plain_call, restore};
-use reference::{Board, Call, Table, calls};
+use reference::{Board, Call, Sent, Table, calls};
 use std::hint::black_box;
 
 const RATIO: Target = Target::AtMost(1.1);
@@ -23,7 +23,7 @@ fn stepping(table: &[u8], messages: u16, kind: Kind) -> Board {
     let mut board = pairs(table, messages.saturating_sub(1));
     if messages > 0 {
         let read = Table::read(table).unwrap();
-        board.core_call(&read, Call::Add { sender: 1, channel: 1, property: 0, cents: 5, day: 0 });
+        board.core_call(&read, Call::Add { sender: 1, sent: Sent { channel: 1, cents: 5, ..Sent::default() } });
         for _ in 0..if let Kind::Look = kind { 0 } else { 2 } {
             board.core_step(&read, 1);
         }
@@ -70,7 +70,7 @@ pub fn calls_of_all_sizes() {
     }
     let table = tables::rendezvous();
     for messages in [0, 128, 512, 1023, 1024] {
-        let add = Call::Add { sender: 2, channel: 0, property: 0, cents: 5, day: 0 };
+        let add = Call::Add { sender: 2, sent: Sent { cents: 5, ..Sent::default() } };
         let name = if messages == 1024 { "add, refused" } else { "add" };
         bounded(name, messages, times(&table, &pairs(&table, messages), add));
     }

@@ -5,6 +5,7 @@ use crate::schedule::{Schedule, by_chance, in_turn};
 use crate::tables;
 use crate::timing::{REPLAY_ROUNDS, Times, least, timed};
 use crate::world::{Proved, restore};
+use reference::Equality::{Property, Unit};
 use reference::board::CONSUMED;
 use reference::{Board, Call, Phase, Rows, State, calls};
 
@@ -38,13 +39,15 @@ fn times(table: &[u8], board: &Board, rows: &Rows) -> Times {
 
 pub fn matches() {
     let side = |sender: u16, message: u16| (sender % 2, u32::from(message / 2 % 16));
-    let (pairs, triples, morning) = (tables::rendezvous(), tables::triples(), tables::morning());
+    let (pairs, triples) = (tables::rendezvous(), tables::triples());
+    let (morning, of_units) = (tables::morning(Property), tables::morning(Unit));
     let lists = [
         ("pairs, 2 senders", &pairs, in_turn(&pairs, 2, |sender, _| (sender, 0))),
         ("pairs, 32 senders, 16 properties", &pairs, in_turn(&pairs, 32, side)),
         ("triples, 3 senders", &triples, in_turn(&triples, 3, |sender, _| (sender, 0))),
-        ("contended morning, 32 senders", &morning, by_chance(&morning, 4, 0, 1)),
-        ("the same with 30 days", &morning, by_chance(&morning, 4, 30, 1)),
+        ("contended morning, 32 senders", &morning, by_chance(&morning, 4, 0, 0, 1)),
+        ("the same with 30 days", &morning, by_chance(&morning, 4, 30, 0, 1)),
+        ("the same with 30 days and 4 units", &of_units, by_chance(&of_units, 4, 30, 4, 1)),
         ("steps of idle senders, refused", &pairs, Schedule { rows: steps_of_each(256), matches: 0 }),
     ];
     let measured: Vec<_> =
@@ -73,6 +76,8 @@ enum Others {
     Absent,
     /// Of another property.
     Differing,
+    /// Of another unit.
+    OtherUnit,
     /// Consumed up to 1,000.
     At1000,
     /// Of these days, from a message's number.
@@ -92,6 +97,7 @@ fn looking(others: Others) -> Board {
         match others {
             Others::Absent => columns.channels[at] = 0,
             Others::Differing => columns.properties[at] = 1,
+            Others::OtherUnit => columns.units[at] = 1,
             Others::At1000 if at < 1000 => (columns.statuses[at], columns.matched[at]) = (CONSUMED, 1),
             Others::At1000 => {}
             Others::Dated(day) => columns.days[at] = day(at as u32),
@@ -119,10 +125,8 @@ fn look_times(table: &[u8], board: &Board, count: usize) -> Times {
 
 pub fn looks() {
     heading("4 a look over 1,024 messages", "ns", "speed");
-    // 32 chords, each of which misses at its first member
-    let missing = tables::table(&[0, 0], &[(&[1, 0][..], true); 32]);
-    // seven members to be found, then the own message
-    let finding = tables::table(&[0, 0], &[(&[1, 1, 1, 1, 1, 1, 1, 0], true)]);
+    let (missing, missing_unit) = (tables::missing(Property), tables::missing(Unit));
+    let (finding, finding_unit) = (tables::finding(Property), tables::finding(Unit));
     let rows = [
         ("missed, none of the channel (and none claimed)", &missing, Others::Absent, 32),
         ("missed, all of the channel, another property", &missing, Others::Differing, 32),
@@ -132,6 +136,11 @@ pub fn looks() {
         ("all fit, rising days", &finding, Others::Dated(|at| at), 7),
         ("all fit, falling days", &finding, Others::Dated(|at| 1024 - at), 7),
         ("all fit, days by chance", &finding, Others::Dated(|at| !at.wrapping_mul(0x9E37_79B9)), 7),
+        ("by unit: missed, all of another unit", &missing_unit, Others::OtherUnit, 32),
+        ("by unit: missed, all of another property", &missing_unit, Others::Differing, 32),
+        ("by unit: all fit, equal days", &finding_unit, Others::Dated(|_| 20_454), 7),
+        ("by unit: all fit, rising days", &finding_unit, Others::Dated(|at| at), 7),
+        ("by unit: all fit, falling days", &finding_unit, Others::Dated(|at| 1024 - at), 7),
     ];
     for (name, table, others, count) in rows {
         let figures = look_times(table, &looking(others), count);

@@ -1,7 +1,7 @@
 //! Lists of calls, made by plain Rust before anything is timed.
 
 use crate::random::Random;
-use reference::{Answer, Board, Call, Rows, State, Table};
+use reference::{Answer, Board, Call, Rows, Sent, State, Table};
 
 const MESSAGES: u16 = 1024;
 
@@ -36,7 +36,8 @@ pub fn in_turn(bytes: &[u8], senders: u16, next: impl Fn(u16, u16) -> (u16, u32)
             schedule.play(&table, &mut board, Call::Step { sender });
         } else if at.state == State::Idle && board.messages < MESSAGES {
             let (channel, property) = next(sender, board.messages);
-            schedule.play(&table, &mut board, Call::Add { sender, channel, property, cents: 5, day: 0 });
+            let sent = Sent { channel, property, cents: 5, ..Sent::default() };
+            schedule.play(&table, &mut board, Call::Add { sender, sent });
         } else {
             continue;
         }
@@ -47,8 +48,8 @@ pub fn in_turn(bytes: &[u8], senders: u16, next: impl Fn(u16, u16) -> (u16, u32)
 }
 
 /// Senders by chance, 32 of them, until the board is full and quiet; few properties, so that they compete. Each message
-/// is of one of so many days, or of day 0 without any.
-pub fn by_chance(bytes: &[u8], properties: usize, days: usize, seed: u64) -> Schedule {
+/// is of one of so many days and units, or of day or unit 0 without any.
+pub fn by_chance(bytes: &[u8], properties: usize, days: usize, units: usize, seed: u64) -> Schedule {
     let table = Table::read(bytes).unwrap();
     let (mut board, mut schedule) = (Board::default(), Schedule::default());
     let mut random = Random::new(seed);
@@ -60,8 +61,10 @@ pub fn by_chance(bytes: &[u8], properties: usize, days: usize, seed: u64) -> Sch
         } else if at.state == State::Idle && board.messages < MESSAGES {
             let channel = channel_by_chance(&table, &board, &mut random);
             let (property, cents) = (random.below(properties) as u32, random.below(200_000) as i64 - 100_000);
-            let day = if days == 0 { 0 } else { 1 + random.below(days) as u32 };
-            schedule.play(&table, &mut board, Call::Add { sender, channel, property, cents, day });
+            let mut one_of = |count: usize| if count == 0 { 0 } else { 1 + random.below(count) };
+            let (day, unit) = (one_of(days) as u32, one_of(units) as u16);
+            let sent = Sent { channel, property, cents, day, unit };
+            schedule.play(&table, &mut board, Call::Add { sender, sent });
         }
     }
     schedule.matches = board.matches;
@@ -85,7 +88,8 @@ pub fn pairs(bytes: &[u8], messages: u16) -> Board {
     let mut board = Board::default();
     for message in 0..messages {
         let sender = message % 2;
-        board.core_call(&table, Call::Add { sender, channel: sender, property: 0, cents: 5, day: 0 });
+        let sent = Sent { channel: sender, cents: 5, ..Sent::default() };
+        board.core_call(&table, Call::Add { sender, sent });
         while let Some(sender) = board.first_busy() {
             board.core_step(&table, sender);
         }

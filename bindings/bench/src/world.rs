@@ -1,7 +1,7 @@
 //! One board in both forms: the host library's lists, and plain Rust's.
 
 use gevnyusto::host;
-use reference::{Board, Call, Lists, Rows, calls};
+use reference::{Board, Call, Lists, Rows, Sent, calls};
 use std::hint::black_box;
 
 #[derive(Clone)]
@@ -27,8 +27,8 @@ impl Proved {
     pub fn call(&mut self, table: &[u8], call: Call) -> u32 {
         let lists = black_box(&mut self.lists);
         match black_box(call) {
-            Call::Add { sender, channel, property, cents, day } => {
-                host::add(table, lists, sender, channel, property, cents, day)
+            Call::Add { sender, sent: Sent { channel, property, cents, day, unit } } => {
+                host::add(table, lists, sender, channel, property, cents, day, unit)
             }
             Call::Step { sender } => host::step(table, lists, sender),
         }
@@ -52,6 +52,7 @@ pub fn restore(board: &mut Board, saved: &Board) {
     *to.channels = *from.channels;
     *to.properties = *from.properties;
     *to.days = *from.days;
+    *to.units = *from.units;
     *to.cents = *from.cents;
     *to.statuses = *from.statuses;
     *to.matched = *from.matched;
