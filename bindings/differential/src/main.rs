@@ -117,8 +117,8 @@ fn play_law(tally: &mut law::Tally, options: &Options) -> Result<(), String> {
     })
 }
 
-/// Every word and the refusals 8 to 13 must have been answered, every list damaged, and looks decided by days and units,
-/// if there were calls enough.
+/// Every word and the refusals 8 to 13 must have been answered, every list damaged, and looks decided by days and by
+/// units, if there were calls enough.
 fn missing(tally: &Tally) -> Option<String> {
     if tally.calls < COVERING {
         return None;

@@ -1,6 +1,6 @@
 //! What an accepted call may not alter, whatever else it does: the rows of other senders, but for their signals, the
-//! eight numbers of every match that was recorded before it, and what the records of messages were sent with, counted or
-//! not, but for the one that it adds.
+//! eight numbers of every match that was recorded before it, and what messages were sent with, in every record but that
+//! of a message that it adds.
 
 use crate::invariant::sent_at;
 use reference::board::MESSAGES;
@@ -22,17 +22,17 @@ fn recorded_match(before: &Lists, after: &Lists) -> Option<String> {
 }
 
 fn other_message(before: &Lists, after: &Lists) -> Option<String> {
-    let bytes = before.bytes[..STATUSES] == after.bytes[..STATUSES];
-    if bytes
-        && before.links[UNITS..] == after.links[UNITS..]
-        && before.keys == after.keys
-        && before.cents == after.cents
-    {
+    if columns_sent(before) == columns_sent(after) {
         return None;
     }
     let added = usize::from(before.board[0])..usize::from(after.board[0]);
     let is_kept = |at: &usize| added.contains(at) || sent_at(before, *at) == sent_at(after, *at);
     (0..MESSAGES).find(|at| !is_kept(at)).map(|at| format!("what message {at} was sent with"))
+}
+
+/// Channels, units, properties and days, cents.
+fn columns_sent(lists: &Lists) -> (&[u8], &[u16], &[u32], &[i64]) {
+    (&lists.bytes[..STATUSES], &lists.links[UNITS..], &lists.keys, &lists.cents)
 }
 
 fn other_sender(before: &[u16], after: &[u16], caller: usize) -> Option<String> {

@@ -7,8 +7,8 @@ use crate::numbers::NUMBERS;
 pub const STATUSES: usize = MESSAGES;
 pub const CHORDS: usize = 2 * MESSAGES;
 pub const BYTES: usize = 3 * MESSAGES;
-/// Of `links`: the matches that the messages note, from here their wakers, from here the matches' messages, from here the
-/// messages' units.
+/// Of `links`: the matches that the messages note, from here their wakers, from here the matches' messages, from here
+/// the units of messages.
 pub const WAKERS: usize = MESSAGES;
 pub const MEMBERS: usize = 2 * MESSAGES;
 pub const UNITS: usize = 10 * MESSAGES;
