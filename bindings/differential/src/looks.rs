@@ -27,8 +27,8 @@ pub const BY_UNITS: [&str; 9] = [
     "the last unit taken",
     "a claimed one of the unit marks a retry",
     "a claimed one of another unit marks none",
-    "another unit taken where properties are equal",
-    "another unit taken where nothing is",
+    "another unit taken where properties must be equal",
+    "another unit taken where nothing must be equal",
 ];
 
 /// A message, and what it has as the one in hand has it.
@@ -142,32 +142,36 @@ impl Look {
     }
 
     fn by_units(&self, taken: Candidate) -> [bool; 9] {
-        let earlier = || self.pending.iter().filter(|it| it.is_before(taken));
-        let of_unit = [
+        let is_of = |equality: Equality| self.equality == equality;
+        let earlier = || self.pending.iter().filter(|it| is_of(Equality::Unit) && it.is_before(taken));
+        [
             earlier().any(Candidate::is_of_another_unit),
             false,
             earlier().any(|it| it.same_unit && !it.same_property),
-            taken.unit == 0,
-            taken.unit == u16::MAX,
-        ];
-        let mut decided = [false; 9];
-        match self.equality {
-            Equality::Unit => decided[..5].copy_from_slice(&of_unit),
-            Equality::Property => decided[7] = !taken.same_unit,
-            Equality::Any => decided[8] = !taken.same_unit,
-        }
-        decided
+            is_of(Equality::Unit) && taken.unit == 0,
+            is_of(Equality::Unit) && taken.unit == u16::MAX,
+            false,
+            false,
+            is_of(Equality::Property) && !taken.same_unit,
+            is_of(Equality::Any) && !taken.same_unit,
+        ]
     }
 
     fn missed_by_units(&self) -> [bool; 9] {
-        let mut decided = [false; 9];
-        if self.equality == Equality::Unit {
-            let would_fit = self.claimed.iter().any(|it| self.fits(it));
-            decided[1] = self.pending.iter().any(Candidate::is_of_another_unit);
-            decided[5] = would_fit;
-            decided[6] = !would_fit && !self.retry && self.claimed.iter().any(Candidate::is_of_another_unit);
-        }
-        decided
+        let is_of_units = self.equality == Equality::Unit;
+        let of_another = |them: &[Candidate]| is_of_units && them.iter().any(Candidate::is_of_another_unit);
+        let marks = self.claimed.iter().any(|it| self.fits(it));
+        [
+            false,
+            of_another(&self.pending),
+            false,
+            false,
+            false,
+            is_of_units && marks,
+            of_another(&self.claimed) && !marks && !self.retry,
+            false,
+            false,
+        ]
     }
 
     /// Another message was taken.
