@@ -35,17 +35,18 @@ cents-back z h = toZ-ofZ w64 z (record { sfits = h })
 module _ (m : DM.MessageRead) (s : m .status ≤ 3) where
   message-spelled : messageNumbers (messageOf m)
       ≡ pos (m .channel) ∷ pos (m .property) ∷ m .cents ∷ pos (m .status) ∷ pos (m .matched) ∷ pos (m .waker) ∷
-      pos (m .day) ∷ []
+      pos (m .day) ∷ pos (m .unit) ∷ []
   unfolding messageNumbers
   message-spelled = rw (status-back (m .status) s)
 
-  pub message-put : (out : List ℤ) → 7 ≤ length out → m .channel < 256 → m .property < 4294967296
-      → mag (m .cents) < 9223372036854775808 → m .day < 4294967296 → m .matched < 65536 → m .waker < 65536
-      → set (set (set (set (set (set (set out 0 (toZ w64 (m .channel))) 1 (toZ w64 (m .property)))
+  pub message-put : (out : List ℤ) → 8 ≤ length out → m .channel < 256 → m .property < 4294967296
+      → mag (m .cents) < 9223372036854775808 → m .day < 4294967296 → m .unit < 65536 → m .matched < 65536
+      → m .waker < 65536
+      → set (set (set (set (set (set (set (set out 0 (toZ w64 (m .channel))) 1 (toZ w64 (m .property)))
       2 (toZ w64 (ofZ w64 (m .cents)))) 3 (toZ w64 (m .status))) 4 (toZ w64 (m .matched))) 5 (toZ w64 (m .waker)))
-      6 (toZ w64 (m .day))
+      6 (toZ w64 (m .day))) 7 (toZ w64 (m .unit))
       ≡ storedIn (messageNumbers (messageOf m)) out
-  message-put out h channel property cents day matched waker =
+  message-put out h channel property cents day unit matched waker =
       rw (
         message-spelled,
         number-back (m .channel) (omega arith),
@@ -55,9 +56,10 @@ module _ (m : DM.MessageRead) (s : m .status ≤ 3) where
         number-back (m .matched) (omega arith),
         number-back (m .waker) (omega arith),
         number-back (m .day) (omega arith),
+        number-back (m .unit) (omega arith),
       )
       (sets-eq (pos (m .channel) ∷ pos (m .property) ∷ m .cents ∷ pos (m .status) ∷ pos (m .matched) ∷
-      pos (m .waker) ∷ pos (m .day) ∷ []) out 0 h)
+      pos (m .waker) ∷ pos (m .day) ∷ pos (m .unit) ∷ []) out 0 h)
 
 pub one-put : (out : List ℤ) (a : ℤ) → 1 ≤ length out → set out 0 a ≡ storedIn (a ∷ []) out
 one-put out a h = sets-eq (a ∷ []) out 0 h

@@ -18,11 +18,11 @@ statusNumber claimed = 1
 statusNumber woken = 2
 statusNumber consumed = 3
 
--- a message: channel, property, cents, status, match plus 1, waker plus 1, day
+-- a message: channel, property, cents, status, match plus 1, waker plus 1, day, unit
 unfoldable pub messageNumbers : Message → List ℤ
 messageNumbers x =
     pos (x .sent .channel) ∷ pos (x .sent .property) ∷ x .sent .cents ∷ pos (statusNumber (x .status)) ∷
-    pos (x .match) ∷ pos (x .waker) ∷ pos (x .sent .day) ∷ []
+    pos (x .match) ∷ pos (x .waker) ∷ pos (x .sent .day) ∷ pos (x .sent .unit) ∷ []
 
 -- a match: chord, how many messages, cents, and eight messages, 0 past the last
 unfoldable pub matchNumbers : MatchRead → List ℤ
@@ -43,7 +43,7 @@ pub record Reading : Type 0 where
 abbrev pub ofMessage : ℕ → Reading
 ofMessage n = record {
   number = λ s h. messageNumber s h n;
-  size = 7;
+  size = 8;
   numbers = λ s h. messageNumbers (messageAnswer s h n);
 }
 

@@ -84,10 +84,11 @@ pub extern "C" fn gv_add(
     property: u32,
     amount: i64,
     day: u32,
+    unit: u16,
 ) -> u32
     ensures { λ r. ⌜ Answers (now (table .entry))
         (lists (now (board .entry)) (now (bytes .entry)) (now (links .entry)) (now (keys .entry)) (now (cents .entry)))
-        (adds sender (sent channel property amount day)) r
+        (adds sender (sent channel property amount day unit)) r
         (lists (now (board .exit)) (now (bytes .exit)) (now (links .exit)) (now (keys .exit)) (now (cents .exit))) ⌝ }
 {
     let x = Sent {
@@ -95,6 +96,7 @@ pub extern "C" fn gv_add(
         property: property,
         cents: amount,
         day: day,
+        unit: unit,
     };
     let said = calls::add(table, board, bytes, links, keys, cents, sender, x);
     plays::answer_number(said)
@@ -134,9 +136,9 @@ pub extern "C" fn gv_replay(
     )
 }
 
-// A message's seven numbers.
+// A message's eight numbers.
 fn put_message(out: &mut [i64], m: MessageRead)
-    requires { ⌜ 7 ≤ length (now out) ⌝ }
+    requires { ⌜ 8 ≤ length (now out) ⌝ }
     requires { ⌜ m .status ≤ 3 ⌝ }
     ensures { λ _. ⌜ now (out .exit) ≡ storedIn (messageNumbers (messageOf m)) (now (out .entry)) ⌝ }
 {
@@ -148,6 +150,7 @@ fn put_message(out: &mut [i64], m: MessageRead)
     out[4] = m.matched as i64;
     out[5] = m.waker as i64;
     out[6] = m.day as i64;
+    out[7] = m.unit as i64;
 }
 
 // One number.
@@ -184,7 +187,7 @@ fn put_match(out: &mut [i64], m: MatchRead)
     out[2] = cents;
 }
 
-// Reads a message: channel, property, cents, status, match plus 1, waker plus 1, day.
+// Reads a message: channel, property, cents, status, match plus 1, waker plus 1, day, unit.
 #[no_mangle]
 pub extern "C" fn gv_read_message(
     table: &[u8],
@@ -208,7 +211,7 @@ pub extern "C" fn gv_read_message(
     if number != 0 {
         return number;
     }
-    if out.len() < 7 {
+    if out.len() < 8 {
         return 31;
     }
     let m = read.message;

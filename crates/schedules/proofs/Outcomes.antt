@@ -157,9 +157,9 @@ module _ (s : List ℕ) (h : Held) (k : Call) (v w : Said) (f g : Held) (z : ref
           (omega (arith, b .keys-len))))
 
       go : columnsOf (f .columns .channels) (f .columns .keys) (f .columns .cents) (f .columns .statuses)
-          (f .columns .matched) (f .columns .wakers)
+          (f .columns .matched) (f .columns .wakers) (f .columns .units)
           ≡ columnsOf (g .columns .channels) (g .columns .keys) (g .columns .cents) (g .columns .statuses)
-          (g .columns .matched) (g .columns .wakers)
+          (g .columns .matched) (g .columns .wakers) (g .columns .units)
       go =
           cc (
             each 0 _ _ _ (a .channels-len) (b .channels-len)
@@ -174,6 +174,8 @@ module _ (s : List ℕ) (h : Held) (k : Call) (v w : Said) (f g : Held) (z : ref
                 (λ i l. ap (λ (x : Message). x .match) (message-same i l)) (p .beyond .matched) (q .beyond .matched),
             each 0 _ _ _ (a .wakers-len) (b .wakers-len)
                 (λ i l. ap (λ (x : Message). x .waker) (message-same i l)) (p .beyond .wakers) (q .beyond .wakers),
+            each 0 _ _ _ (a .units-len) (b .units-len)
+                (λ i l. ap (λ (x : Message). x .sent .unit) (message-same i l)) (p .beyond .units) (q .beyond .units),
           )
 
   chords-same : f .matches .chords ≡ g .matches .chords

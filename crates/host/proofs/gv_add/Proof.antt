@@ -15,10 +15,11 @@ use Rattle.host.proofs.gv_add.Statement.{statement}
 use Rattle.host.proofs.gv_add.Tie as tie
 
 -- cents as the machine holds them
-cents-as : {s : List ℕ} {l l′ : Lists} {w : Said} (i channel property : ℕ) (x y : ℤ) (day : ℕ) → x ≡ y
-    → Calls s l (adds i (sent channel property x day)) w l′ → Calls s l (adds i (sent channel property y day)) w l′
-cents-as {s} {l} {l′} {w} i channel property x y day e p =
-    subst (λ (z : ℤ). Calls s l (adds i (sent channel property z day)) w l′) e p
+cents-as : {s : List ℕ} {l l′ : Lists} {w : Said} (i channel property : ℕ) (x y : ℤ) (day unit : ℕ) → x ≡ y
+    → Calls s l (adds i (sent channel property x day unit)) w l′
+    → Calls s l (adds i (sent channel property y day unit)) w l′
+cents-as {s} {l} {l′} {w} i channel property x y day unit e p =
+    subst (λ (z : ℤ). Calls s l (adds i (sent channel property z day unit)) w l′) e p
 
 returns : tie.Need-returns
 returns c =
@@ -28,7 +29,7 @@ returns c =
     record {
       said = _;
       number = c .answer-number .ensures;
-      calls = cents-as (a .sender) (a .channel) (a .property) _ (a .amount) (a .day)
+      calls = cents-as (a .sender) (a .channel) (a .property) _ (a .amount) (a .day) (a .unit)
           (toZ-ofZ w64 (a .amount) (s .fits .amount)) (p .add .ensures);
     }
 

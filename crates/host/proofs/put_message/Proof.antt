@@ -1,4 +1,4 @@
--- `host::put_message` meets its contract: seven stores are the seven numbers.
+-- `host::put_message` meets its contract: eight stores are the eight numbers.
 use mathlib.Core.Path.{refl}
 use borrow.Author.Needs.{needs}
 use lib.ListN.{length-set}
@@ -25,17 +25,20 @@ slice-set-from-out-5 c = simp length-set (omega arith)
 slice-set-from-out-6 : tie.Need-slice-set-from-out-6
 slice-set-from-out-6 c = simp length-set (omega arith)
 
+slice-set-from-out-7 : tie.Need-slice-set-from-out-7
+slice-set-from-out-7 c = simp length-set (omega arith)
+
 same-length : tie.Need-same-length
 same-length c = simp length-set refl
 
 returns : tie.Need-returns
 returns c =
-    let s = c .before .before .before .before .before .before .before in
+    let s = c .before .before .before .before .before .before .before .before in
     let a = s .args in
     let g = s .good .1 .0 .1 .1 in
     message-put (a .m) (s .pre .1) (a .out .now) (s .pre .0) (omega (arith, g .0 .1)) (omega (arith, g .1 .0 .1))
-    (omega (arith, g .1 .1 .0 .1)) (omega (arith, g .1 .1 .1 .0 .1)) (omega (arith, g .1 .1 .1 .1 .1 .0 .1))
-    (omega (arith, g .1 .1 .1 .1 .1 .1 .0 .1))
+    (omega (arith, g .1 .1 .0 .1)) (omega (arith, g .1 .1 .1 .0 .1)) (omega (arith, g .1 .1 .1 .1 .0 .1))
+    (omega (arith, g .1 .1 .1 .1 .1 .1 .0 .1)) (omega (arith, g .1 .1 .1 .1 .1 .1 .1 .0 .1))
 
 pub put-message-spec : {M : Type 1} → statement M
 put-message-spec =
@@ -54,5 +57,7 @@ put-message-spec =
     slice-set-from-out-5
     (λ c. search needs)
     slice-set-from-out-6
+    (λ c. search needs)
+    slice-set-from-out-7
     same-length
     returns)
