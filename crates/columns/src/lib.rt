@@ -84,7 +84,18 @@ fn by_blocks(
             return b;
         }
         let to = skip::block_end(k, n);
-        b = in_block(channels, keys, units, statuses, k, to, want, status, b, chosen);
+        b = in_block(
+            channels,
+            keys,
+            units,
+            statuses,
+            k,
+            to,
+            want,
+            status,
+            b,
+            chosen,
+        );
         if (b != 0) & (b < 65536) {
             return b;
         }
@@ -111,10 +122,30 @@ fn least(
         (now (units .entry)) (now (statuses .entry)) want status (now (chosen .entry))) 0 0 n ⌝ }
 {
     if n - start <= 12 {
-        return weigh::least_in(channels, keys, units, statuses, start, n, want, status, chosen);
+        return weigh::least_in(
+            channels,
+            keys,
+            units,
+            statuses,
+            start,
+            n,
+            want,
+            status,
+            chosen,
+        );
     }
     let from = start - start % 64;
-    by_blocks(channels, keys, units, statuses, from, n, want, status, chosen)
+    by_blocks(
+        channels,
+        keys,
+        units,
+        statuses,
+        from,
+        n,
+        want,
+        status,
+        chosen,
+    )
 }
 
 // The oldest of the first n messages that a look takes for a member, pending and not chosen yet: its number plus 1, 0
@@ -157,6 +188,16 @@ pub fn some_claimed(
         (boardBy (now (channels .entry)) (now (keys .entry)) (now (statuses .entry)) n o .messages)) ⌝ }
 {
     let chosen = [0u16; 1];
-    let b = least(channels, keys, units, statuses, start, n, want, 1, &chosen[..0]);
+    let b = least(
+        channels,
+        keys,
+        units,
+        statuses,
+        start,
+        n,
+        want,
+        1,
+        &chosen[..0],
+    );
     b != 0
 }

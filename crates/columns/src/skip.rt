@@ -81,14 +81,7 @@ fn any_property(keys: &[u32], from: usize, to: usize, property: u32) -> bool
 }
 
 // One of them has the property and the unit.
-fn any_unit(
-    keys: &[u32],
-    units: &[u16],
-    from: usize,
-    to: usize,
-    property: u32,
-    unit: u16,
-) -> bool
+fn any_unit(keys: &[u32], units: &[u16], from: usize, to: usize, property: u32, unit: u16) -> bool
     requires { ⌜ (from ≤ to) × (to ≤ length (now keys)) × (to ≤ length (now units)) ⌝ }
     ensures { λ r. ⌜ r ≡ found (firstFrom (ofUnit (now (keys .entry)) (now (units .entry)) property unit) from
         (to - from)) ⌝ }

@@ -51,14 +51,7 @@ fn is_like(keys: &[u32], units: &[u16], n: u16, want: Want) -> bool
 }
 
 // The best rank so far, or that of message n where it is to be taken and comes before it; 0 is none.
-fn weighed(
-    keys: &[u32],
-    units: &[u16],
-    n: u16,
-    want: Want,
-    best: u64,
-    chosen: &[u16],
-) -> u64
+fn weighed(keys: &[u32], units: &[u16], n: u16, want: Want, best: u64, chosen: &[u16]) -> u64
     requires { ⌜ (daysAt + n < length (now keys)) × (n < length (now units)) ⌝ }
     ensures { λ r. ⌜ r ≡ better (taking (now (keys .entry)) (now (units .entry)) want (now (chosen .entry)) n)
         (rankOf (dayIn (now (keys .entry))) n) best ⌝ }

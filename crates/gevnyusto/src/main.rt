@@ -168,7 +168,7 @@ fn run(table: &[u8], board: &mut [u16])
         × (now board ≡ openedNumbers (now table) before)) ⌝ }
 {
     let mut bytes = [0u8; 3072];
-    let mut links = [0u16; 10240];
+    let mut links = [0u16; 11264];
     let mut keys = [0u32; 2048];
     let mut cents = [0i64; 1024];
     serve(table, board, &mut bytes, &mut links, &mut keys, &mut cents);

@@ -176,7 +176,15 @@ pub fn effect_of(
         }
         State::Blocked => {
             let matched = boards::matched(links);
-            blocked_step(table, d, n, channels, statuses, matched, boards::wakers(links))
+            blocked_step(
+                table,
+                d,
+                n,
+                channels,
+                statuses,
+                matched,
+                boards::wakers(links),
+            )
         }
     }
 }
