@@ -1,7 +1,7 @@
 -- Laws of a block that is passed over: none of it is like what is wanted, or none of it comes before the best so far.
 use mathlib.Core.Path.{_≡_, refl}
 use mathlib.Core.Logic.{_≢_, inl, inr}
-use mathlib.Core.Bool.{Bool, true, false, _&&_, _||_}
+use mathlib.Core.Bool.{Bool, true, false, _&&_, _||_, and-false}
 use mathlib.Core.List.{List}
 use Prim.Native.Nat.{ℕ, zero, suc, _+_, _-_, _%_, _<_, _≤_}
 use native.Mathlib.Omega.{arith}
@@ -9,7 +9,9 @@ use lib.Dec.{eqb, ltb}
 use lib.ListN.{getD}
 use borrow.Author.Tests.{ne-eqb, le-ltb, ltb-false}
 use Rattle.model.specs.Basics.{pick}
+use Rattle.model.specs.Tables.{agrees}
 use Rattle.table.specs.declared.Equality.the-variants as E
+use Rattle.table.specs.Equalities.{equalityIn}
 use Rattle.columns.specs.declared.Want as DW
 use Rattle.columns.specs.Firsts.{firstFrom, found, ofProperty, ofUnit, ofDayBefore, isLike, taking}
 use Rattle.columns.specs.Ranks.{dayIn, rankOf, better, leastFrom, RankBelow}
@@ -43,19 +45,20 @@ module _ (keys units : List ℕ) (want : DW.Want) (best at : ℕ) where
   abbrev NoneLike : Type 0
   NoneLike = (k : ℕ) → at ≤ k → k < at + 64 → isLike keys units want k ≡ false
 
-  pub no-property : want .equal ≡ E.Property
+  -- where the property is wanted, with the unit or without
+  pub no-property : ((u : Bool) → agrees (equalityIn (want .equal)) false u ≡ false)
       → found (firstFrom (ofProperty keys (want .property)) at (at + 64 - at)) ≡ false → NoneLike
   unfolding ofProperty isLike
   no-property q e k h l =
       let z = none-passes _ at (at + 64 - at) (not-found _ e) k h (omega arith) in
-      rw (q, z)
+      rw z (q (eqb (getD units k 0) (want .unit)))
 
   pub no-unit : want .equal ≡ E.Unit
-      → found (firstFrom (ofUnit keys units (want .property) (want .unit)) at (at + 64 - at)) ≡ false → NoneLike
+      → found (firstFrom (ofUnit units (want .unit)) at (at + 64 - at)) ≡ false → NoneLike
   unfolding ofUnit isLike
   no-unit q e k h l =
       let z = none-passes _ at (at + 64 - at) (not-found _ e) k h (omega arith) in
-      rw (q, z)
+      rw (q, z) (and-false (eqb (getD keys k 0) (want .property)))
 
   pub none-like : NoneLike → Leaves
   none-like e chosen k h l =

@@ -30,9 +30,9 @@ ofKind channels statuses wanted status k = eqb (getD channels k 0) wanted && eqb
 unfoldable pub ofProperty : List ℕ → ℕ → ℕ → Bool
 ofProperty keys property k = eqb (getD keys k 0) property
 
--- message k has the property and the unit
-unfoldable pub ofUnit : List ℕ → List ℕ → ℕ → ℕ → ℕ → Bool
-ofUnit keys units property unit k = eqb (getD keys k 0) property && eqb (getD units k 0) unit
+-- message k has the unit
+unfoldable pub ofUnit : List ℕ → ℕ → ℕ → Bool
+ofUnit units unit k = eqb (getD units k 0) unit
 
 -- message k is of a day before that day
 unfoldable pub ofDayBefore : List ℕ → ℕ → ℕ → Bool

@@ -80,22 +80,21 @@ fn any_property(keys: &[u32], from: usize, to: usize, property: u32) -> bool
     any
 }
 
-// One of them has the property and the unit.
-fn any_unit(keys: &[u32], units: &[u16], from: usize, to: usize, property: u32, unit: u16) -> bool
-    requires { ⌜ (from ≤ to) × (to ≤ length (now keys)) × (to ≤ length (now units)) ⌝ }
-    ensures { λ r. ⌜ r ≡ found (firstFrom (ofUnit (now (keys .entry)) (now (units .entry)) property unit) from
-        (to - from)) ⌝ }
+// One of them has the unit.
+fn any_unit(units: &[u16], from: usize, to: usize, unit: u16) -> bool
+    requires { ⌜ (from ≤ to) × (to ≤ length (now units)) ⌝ }
+    ensures { λ r. ⌜ r ≡ found (firstFrom (ofUnit (now (units .entry)) unit) from (to - from)) ⌝ }
 {
     let mut any = false;
     let mut i = from;
     while i < to {
-        any = any | ((keys[i] == property) & (units[i] == unit));
+        any = any | (units[i] == unit);
         i += 1;
     }
     any
 }
 
-// Whether one of the 64 messages from number `at` on is like what is wanted.
+// Whether the 64 messages from number `at` on have what is wanted to be equal: one the property, and one the unit.
 fn any_like(keys: &[u32], units: &[u16], at: usize, want: Want) -> bool
     requires { ⌜ (at + 64 ≤ length (now keys)) × (at + 64 ≤ length (now units)) ⌝ }
     ensures { λ r. ⌜ (r ≡ false → (k : ℕ) → at ≤ k → k < at + 64
@@ -105,7 +104,12 @@ fn any_like(keys: &[u32], units: &[u16], at: usize, want: Want) -> bool
     match equal {
         Equality::Any => true,
         Equality::Property => any_property(keys, at, at + 64, want.property),
-        Equality::Unit => any_unit(keys, units, at, at + 64, want.property, want.unit),
+        Equality::Unit => {
+            if !any_unit(units, at, at + 64, want.unit) {
+                return false;
+            }
+            any_property(keys, at, at + 64, want.property)
+        }
     }
 }
 
@@ -123,7 +127,7 @@ fn any_before(keys: &[u32], from: usize, to: usize, day: u32) -> bool
     any
 }
 
-// Whether one of the 64 messages from number `at` on is like what is wanted, and one comes before the best so far.
+// Whether one of the 64 messages from number `at` on may be like what is wanted and come before the best so far.
 pub fn is_worth(keys: &[u32], units: &[u16], at: usize, want: Want, best: u64) -> bool
     requires { ⌜ (daysAt + (at + 64) ≤ length (now keys)) × (at + 64 ≤ length (now units)) × (at + 64 ≤ 1024) ⌝ }
     requires { ⌜ RankBelow (dayIn (now keys)) at best ⌝ }

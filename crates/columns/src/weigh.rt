@@ -42,11 +42,13 @@ fn is_like(keys: &[u32], units: &[u16], n: u16, want: Want) -> bool
     ensures { λ r. ⌜ r ≡ isLike (now (keys .entry)) (now (units .entry)) want n ⌝ }
 {
     let k = n as usize;
+    let property = keys[k] == want.property;
+    let unit = units[k] == want.unit;
     let equal = want.equal;
     match equal {
         Equality::Any => true,
-        Equality::Property => keys[k] == want.property,
-        Equality::Unit => (keys[k] == want.property) & (units[k] == want.unit),
+        Equality::Property => property,
+        Equality::Unit => property & unit,
     }
 }
 

@@ -10,12 +10,12 @@ use Rattle.columns.proofs.skip.any_unit.Statement.{statement}
 use Rattle.columns.proofs.skip.any_unit.Tie as tie
 
 abbrev Inv-loop : tie.InvT-loop
-Inv-loop keys units from to property unit any₀ i₀ any i =
-    (i ≤ to) × (found (firstFrom (ofUnit keys units property unit) from (to - from))
-    ≡ (any || found (firstFrom (ofUnit keys units property unit) i (to - i))))
+Inv-loop units from to unit any₀ i₀ any i =
+    (i ≤ to) × (found (firstFrom (ofUnit units unit) from (to - from))
+    ≡ (any || found (firstFrom (ofUnit units unit) i (to - i))))
 
 abbrev μ-loop : tie.MeasureT-loop
-μ-loop keys units from to property unit any₀ i₀ any i = to - i
+μ-loop units from to unit any₀ i₀ any i = to - i
 
 loop-holds : tie.Need-loop-holds Inv-loop μ-loop
 loop-holds c = (search needs, refl)
@@ -23,10 +23,10 @@ loop-holds c = (search needs, refl)
 loop-again : tie.Need-loop-again Inv-loop μ-loop
 unfolding ofUnit
 loop-again c =
-    let p = c .before .before .before in
+    let p = c .before .before in
     let a = p .before .args in (
       search needs,
-      found-turn (ofUnit (a .keys .now) (a .units .now) (a .property) (a .unit)) (p .loop .any) _ (p .loop .i) (a .to)
+      found-turn (ofUnit (a .units .now) (a .unit)) (p .loop .any) _ (p .loop .i) (a .to)
           (omega arith) (p .loop .inv .1),
     )
 
@@ -42,8 +42,6 @@ any-unit-spec =
     Inv-loop
     μ-loop
     loop-holds
-    (λ c. search needs)
-    (λ c. search needs)
     (λ c. search needs)
     (λ c. search needs)
     (λ c. search needs)

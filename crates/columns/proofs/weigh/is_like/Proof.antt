@@ -10,18 +10,16 @@ returns c = rw (c .enum-told .given .1)
 
 returns-2 : tie.Need-returns-2
 unfolding isLike
-returns-2 c = rw (c .before .before .enum-told2 .given .1)
+returns-2 c = rw (c .enum-told2 .given .1)
 
 returns-3 : tie.Need-returns-3
 unfolding isLike
-returns-3 c = rw (c .before .before .before .before .enum-told3 .given .1)
+returns-3 c = rw (c .enum-told3 .given .1)
 
 pub is-like-spec : {M : Type 1} → statement M
 is-like-spec =
     tie.close
     (tie.spec
-    (λ c. search needs)
-    (λ c. search needs)
     (λ c. search needs)
     (λ c. search needs)
     (λ c. search needs)
