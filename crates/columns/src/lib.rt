@@ -40,7 +40,8 @@ fn in_block(
     chosen: &[u16],
 ) -> u64
     requires { ⌜ (from ≤ to) × (to ≤ from + 64) × (from + 64 ≤ 1024) × (isFirst best ≡ false) ⌝ }
-    requires { ⌜ Lent to (now channels) (now keys) (now units) (now statuses) × RankBelow (dayIn (now keys)) from best ⌝ }
+    requires { ⌜ Lent to (now channels) (now keys) (now units) (now statuses) ⌝ }
+    requires { ⌜ RankBelow (dayIn (now keys)) from best ⌝ }
     ensures { λ r. ⌜ r ≡ leastFrom (dayIn (now (keys .entry))) (eligible (now (channels .entry)) (now (keys .entry))
         (now (units .entry)) (now (statuses .entry)) want status (now (chosen .entry))) best from (to - from) ⌝ }
 {

@@ -132,7 +132,8 @@ pub fn is_worth(keys: &[u32], units: &[u16], at: usize, want: Want, best: u64) -
     requires { ⌜ (daysAt + (at + 64) ≤ length (now keys)) × (at + 64 ≤ length (now units)) × (at + 64 ≤ 1024) ⌝ }
     requires { ⌜ RankBelow (dayIn (now keys)) at best ⌝ }
     ensures { λ r. ⌜ (r ≡ false → (chosen : List ℕ) (k : ℕ) → at ≤ k → k < at + 64
-        → better (taking (now (keys .entry)) (now (units .entry)) want chosen k) (rankOf (dayIn (now (keys .entry))) k) best ≡ best) ⌝ }
+        → better (taking (now (keys .entry)) (now (units .entry)) want chosen k)
+        (rankOf (dayIn (now (keys .entry))) k) best ≡ best) ⌝ }
 {
     if best != 0 {
         let number = (best % 65536) as usize;

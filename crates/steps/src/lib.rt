@@ -73,7 +73,8 @@ fn job_step(
     requires { ⌜ Ready (tableOf (now table)) (now channels) (now keys) (now units) (now statuses) n count d ⌝ }
     requires { ⌜ Passed start n (now statuses) ⌝ }
     ensures { λ r. ⌜ ((o : Others) → length (o .matches) ≡ count → o .backoffs ≡ builtinBackoffs
-        → o .units ≡ now (units .entry) → effectIn (tableOf (now (table .entry))) r ≡ MS.job-step (tableOf (now (table .entry)))
+        → o .units ≡ now (units .entry) → effectIn (tableOf (now (table .entry))) r
+        ≡ MS.job-step (tableOf (now (table .entry)))
         (boardBy (now (channels .entry)) (now (keys .entry)) (now (statuses .entry)) n o)
         (senderIn (tableOf (now (table .entry))) d) (jobIn (tableOf (now (table .entry))) (d .job))
         (phaseIn (d .job .phase))) ⌝ }
@@ -154,7 +155,8 @@ pub fn effect_of(
     links: &[u16],
 ) -> Effect
     requires { ⌜ (tableRefusal (now table) ≡ 0) × (senderSteps d ≡ true) × (length (now links) ≡ linksLen) ⌝ }
-    requires { ⌜ Ready (tableOf (now table)) (now channels) (now keys) (unitsIn (now links)) (now statuses) n count d ⌝ }
+    requires { ⌜ Ready (tableOf (now table)) (now channels) (now keys) (unitsIn (now links)) (now statuses) n count
+        d ⌝ }
     requires { ⌜ Passed start n (now statuses) ⌝ }
     ensures { λ r. ⌜ ((o : Others) → length (o .matches) ≡ count → o .backoffs ≡ builtinBackoffs
         → o .matched ≡ matchedIn (now (links .entry)) → o .wakers ≡ wakersIn (now (links .entry))

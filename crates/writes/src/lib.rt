@@ -78,8 +78,8 @@ fn put_added(
         × (length (now cents) ≡ centsLen) ⌝ }
     ensures { λ _. ⌜ (now (bytes .exit)
         ≡ putIf (m .adds) (putIf (m .adds) (now (bytes .entry)) n (m .sent .channel)) (statusesAt + n) 0)
-        × (now (links .exit) ≡ putIf (m .adds) (putIf (m .adds) (putIf (m .adds) (now (links .entry)) n 0) (wakersAt + n) 0)
-        (unitsAt + n) (m .sent .unit))
+        × (now (links .exit) ≡ putIf (m .adds) (putIf (m .adds) (putIf (m .adds) (now (links .entry)) n 0)
+        (wakersAt + n) 0) (unitsAt + n) (m .sent .unit))
         × (now (keys .exit)
         ≡ putIf (m .adds) (putIf (m .adds) (now (keys .entry)) n (m .sent .property)) (daysAt + n) (m .sent .day))
         × (now (cents .exit) ≡ putIf (m .adds) (now (cents .entry)) n (m .sent .cents)) ⌝ }

@@ -1,5 +1,5 @@
 -- `columns::by_blocks` meets its contract: the least of all is the least of the best so far and what is left.
-use mathlib.Core.Bool.{false}
+use mathlib.Core.Bool.{Bool, false}
 use mathlib.Core.Logic.{inl, ⊎-elim}
 use mathlib.Core.Path.{_≡_, refl, sym, _∙_}
 use Prim.Native.Nat.{ℕ, _-_, _%_, _<_, _≤_}
@@ -29,18 +29,24 @@ start p = p .before .before .before .before .before .before
 abbrev loop : tie.After-next-block Inv-loop μ-loop → tie.At-loop Inv-loop μ-loop
 loop c = c .before .before
 
+-- the test that a look makes of a message's number
+abbrev passes : tie.Start Inv-loop μ-loop → ℕ → Bool
+passes s =
+    let a = s .args in
+    eligible (a .channels .now) (a .keys .now) (a .units .now) (a .statuses .now) (a .want) (a .status) (a .chosen .now)
+
 -- none up to number j, where no block before it has a message of the channel and of the status
 passed : (c : tie.After-next-block Inv-loop μ-loop) (j : ℕ) → let p = loop c in
     let a = start p .args in
     p .loop .at ≤ j → j ≤ a .n → j ≤ c .next-block .result
-    → let q = eligible (a .channels .now) (a .keys .now) (a .units .now) (a .statuses .now) (a .want) (a .status) (a .chosen .now) in
-    leastFrom (dayIn (a .keys .now)) q 0 (a .from) (a .n - a .from)
-    ≡ leastFrom (dayIn (a .keys .now)) q (p .loop .b) j (a .n - j)
+    → leastFrom (dayIn (a .keys .now)) (passes (start p)) 0 (a .from) (a .n - a .from)
+    ≡ leastFrom (dayIn (a .keys .now)) (passes (start p)) (p .loop .b) j (a .n - j)
 passed c j h l m =
     let p = loop c in
     let a = start p .args in
     p .loop .inv .4
-    ∙ kind-skip (a .channels .now) (a .keys .now) (a .units .now) (a .statuses .now) (a .want) (a .status) (a .chosen .now)
+    ∙ kind-skip (a .channels .now) (a .keys .now) (a .units .now) (a .statuses .now) (a .want)
+    (a .status) (a .chosen .now)
     (p .loop .b) (p .loop .at) j (a .n) h l (λ k x y. c .next-block .ensures .0 .3 k x (omega arith))
 
 -- the best so far is a message's before the block

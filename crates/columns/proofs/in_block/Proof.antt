@@ -35,7 +35,8 @@ returns-2 c =
     let e = w .word-at .ensures in
     rw (c .least-of .ensures, b .low-bits .ensures (word-fits p (a .from) _ e))
     (low-least (dayIn (a .keys .now)) p _ _
-    (kind-taking (a .channels .now) (a .keys .now) (a .units .now) (a .statuses .now) (a .want) (a .status) (a .chosen .now))
+    (kind-taking (a .channels .now) (a .keys .now) (a .units .now) (a .statuses .now) (a .want)
+    (a .status) (a .chosen .now))
     (a .best) (a .from) (a .to - a .from) _ (omega (arith, s .pre .0 .1)) e)
 
 pub in-block-spec : {M : Type 1} → statement M

@@ -39,8 +39,8 @@ loop-again c =
     let at = a .at + 4 * i in
     let x = getD (a .t1 .chords) i zeroChord in
     let m : c .more .result ≡ p .loop .next + x .len = c .more .ensures .0 in
-    let s : e .put-entry .last .0 ≡ sets (p .loop .out) at (entryBytes (p .loop .next) (x .len) (equalityIn (x .equal))) =
-    e .put-entry .ensures in
+    let bytes = entryBytes (p .loop .next) (x .len) (equalityIn (x .equal)) in
+    let s : e .put-entry .last .0 ≡ sets (p .loop .out) at bytes = e .put-entry .ensures in
     let z : a .at + 4 * (i + 1) ≡ at + 4 = omega arith in
     let f = entries-next (a .t1) i (omega arith) (p .loop .out) at (p .loop .next) in (
       search needs,

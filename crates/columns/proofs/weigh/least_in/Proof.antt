@@ -1,7 +1,7 @@
 -- `columns::weigh::least_in` meets its contract: the least of all is the least of the best so far and what is left.
-use mathlib.Core.Bool.{false}
+use mathlib.Core.Bool.{Bool, false}
 use mathlib.Core.Path.{_≡_, refl, sym, _∙_}
-use Prim.Native.Nat.{_-_, _≤_}
+use Prim.Native.Nat.{ℕ, _-_, _≤_}
 use native.Mathlib.Omega.{arith}
 use borrow.Author.Needs.{needs}
 use Rattle.columns.specs.Firsts.{eligible}
@@ -19,6 +19,15 @@ Inv-loop channels keys units statuses from n want status chosen b₀ i₀ b i =
 abbrev μ-loop : tie.MeasureT-loop
 μ-loop channels keys units statuses from n want status chosen b₀ i₀ b i = n - i
 
+abbrev start : tie.At-loop Inv-loop μ-loop → tie.Start Inv-loop μ-loop
+start p = p .before .before .before .before .before .before
+
+-- the test that a look makes of a message's number
+abbrev passes : tie.Start Inv-loop μ-loop → ℕ → Bool
+passes s =
+    let a = s .args in
+    eligible (a .channels .now) (a .keys .now) (a .units .now) (a .statuses .now) (a .want) (a .status) (a .chosen .now)
+
 loop-holds : tie.Need-loop-holds Inv-loop μ-loop
 loop-holds c = (search needs, refl, refl)
 
@@ -26,8 +35,8 @@ returns : tie.Need-returns Inv-loop μ-loop
 returns c =
     let j = c .before .judged in
     let p = c .before .before .before in
-    let a = p .before .before .before .before .before .before .args in
-    let q = eligible (a .channels .now) (a .keys .now) (a .units .now) (a .statuses .now) (a .want) (a .status) (a .chosen .now) in
+    let a = start p .args in
+    let q = passes (start p) in
     sym (p .loop .inv .2
     ∙ least-first (dayIn (a .keys .now)) q (p .loop .b) (p .loop .i) (a .n) (j .result) (omega arith) (j .ensures)
     (p .loop .inv .1) (c .if1 .taken))
@@ -36,8 +45,8 @@ loop-again : tie.Need-loop-again Inv-loop μ-loop
 loop-again c =
     let j = c .before .judged in
     let p = c .before .before .before in
-    let a = p .before .before .before .before .before .before .args in
-    let q = eligible (a .channels .now) (a .keys .now) (a .units .now) (a .statuses .now) (a .want) (a .status) (a .chosen .now) in (
+    let a = start p .args in
+    let q = passes (start p) in (
       search needs,
       c .if1 .left,
       p .loop .inv .2
@@ -48,7 +57,7 @@ loop-again c =
 returns-2 : tie.Need-returns-2 Inv-loop μ-loop
 returns-2 c =
     let p = c .before in
-    let a = p .before .before .before .before .before .before .args in
+    let a = start p .args in
     sym (p .loop .inv .2 ∙ least-end (dayIn (a .keys .now)) _ (p .loop .b) (p .loop .i) (a .n) (omega arith))
 
 pub least-in-spec : {M : Type 1} → statement M

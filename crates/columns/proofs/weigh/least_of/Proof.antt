@@ -1,4 +1,4 @@
--- `columns::weigh::least_of` meets its contract: the least of the word is the least of the best so far and the bits left.
+-- `columns::weigh::least_of` meets its contract: the least of the word is that of the best so far and the bits left.
 use mathlib.Core.Bool.{false}
 use mathlib.Core.Logic.{_≢_}
 use mathlib.Core.Path.{_≡_, refl, sym, _∙_}
@@ -33,13 +33,14 @@ low p h = lowest-bit (p .loop .w) h (p .loop .inv .0)
 turn : (c : tie.After-weighed Inv-loop μ-loop) → let p = c .before .before in
     let a = p .before .before .before .before .args in
     let t = trailingZeros 64 (p .loop .w) in
-    Turn (dayIn (a .keys .now)) (taking (a .keys .now) (a .units .now) (a .want) (a .chosen .now)) (a .at + t) (p .loop .b)
-    (c .weighed .result) 64 (p .loop .w) (a .at) t
+    Turn (dayIn (a .keys .now)) (taking (a .keys .now) (a .units .now) (a .want) (a .chosen .now)) (a .at + t)
+    (p .loop .b) (c .weighed .result) 64 (p .loop .w) (a .at) t
 turn c =
     let p = c .before .before in
     let a = p .before .before .before .before .args in
-    bit-turn (dayIn (a .keys .now)) (taking (a .keys .now) (a .units .now) (a .want) (a .chosen .now)) 64 (p .loop .w) (a .at) _
-    (p .loop .b) (c .weighed .result) (sym (c .weighed .ensures)) (c .before .loop-test .taken) (p .loop .inv .0) refl
+    bit-turn (dayIn (a .keys .now)) (taking (a .keys .now) (a .units .now) (a .want) (a .chosen .now)) 64 (p .loop .w)
+    (a .at) _ (p .loop .b) (c .weighed .result) (sym (c .weighed .ensures)) (c .before .loop-test .taken)
+    (p .loop .inv .0) refl
 
 loop-holds : tie.Need-loop-holds Inv-loop μ-loop
 loop-holds c = (search needs, c .before .before .before .pre .1, refl)
