@@ -13,7 +13,7 @@ use native.Mathlib.Omega.{arith}
 use Rattle.model.specs.Tables.{Table, size, channelAt, noChord, chordAt}
 use Rattle.model.specs.Layout.{word, chordOk, chordsOk, membersSum, chordsFrom, tableOf, countT, countR}
 use Rattle.model.specs.Layout.{chordBytes, memberBytes, countM, membersOk, tableRefusal}
-use Rattle.model.proofs.Tests.{either, all-four, both}
+use Rattle.model.proofs.Tests.{all-four, both}
 use Rattle.model.proofs.Lists.{every-nth}
 use Rattle.model.proofs.Parts.{drop-next}
 use Rattle.model.proofs.Accepted.{Accepted, accepted}

@@ -1,7 +1,7 @@
 -- The look's choice by its laws, which determine it, and what a chosen message adds.
 use mathlib.Core.Path.{refl, _≡_, _∙_, sym, ap}
 use mathlib.Core.Logic.{_≢_, ⊎-elim}
-use mathlib.Core.Bool.{true, not, Bool, _||_, false, _&&_}
+use mathlib.Core.Bool.{true, Bool, false, _&&_}
 use mathlib.Core.List.{List, _++_, _∷_, []}
 use Prim.Native.Nat.{ℕ, _<_, zero, suc}
 use borrow.Author.Tests.{eq-eqb, ne-eqb, eqb-true, eqb-false, not-true}

@@ -1,10 +1,8 @@
 -- Laws of accepted table bytes by the place of a chord: its entry, size, what it wants to be equal, and its part.
 use mathlib.Core.Path.{_≡_, refl, sym}
-use mathlib.Core.Bool.{Bool, true, false}
 use mathlib.Core.List.{List}
 use Prim.Native.Nat.{ℕ, _<_, _≤_, _+_, _*_, zero, suc}
 use borrow.Author.Tests.{lt-ltb}
-use lib.Dec.{eqb}
 use lib.ListN.{length, getD, take, drop}
 use lib.Seq.{drop-drop}
 use native.Mathlib.Nat.{not-suc-le-zero, le-of-suc-le-suc}

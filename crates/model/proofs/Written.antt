@@ -1,11 +1,11 @@
 -- Bytes written for a table: read, they are the table again, and they are accepted if the table keeps the layout's
 -- rules.
 use mathlib.Core.Path.{_≡_, refl, sym}
-use mathlib.Core.Bool.{true, Bool, false}
+use mathlib.Core.Bool.{true}
 use mathlib.Core.List.{List, [], _∷_, _++_}
 use Prim.Native.Nat.{ℕ, zero, suc, _*_, _+_, _≤_}
-use borrow.Author.Tests.{eq-eqb, leb-true, le-leb}
-use lib.Dec.{T, leb, eqb, ltb}
+use borrow.Author.Tests.{eq-eqb, leb-true}
+use lib.Dec.{T, leb, ltb}
 use lib.ListN.{length, length-append, take, drop}
 use lib.Seq.{take-append-seam, drop-append-seam, drop-drop}
 use native.Mathlib.Nat.{mod-add-div}
