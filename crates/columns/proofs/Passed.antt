@@ -31,12 +31,12 @@ consumed-kind channels statuses wanted status k e h =
     rw (e, ne-eqb 3 status (λ z. omega arith)) (and-false (eqb (getD channels k 0) wanted))
 
 -- the least of all is the least from start on
-pub passed-skip : (channels keys units statuses : List ℕ) (want : DW.Want) (status : ℕ) (chosen : List ℕ) (start n : ℕ)
-    → Passed start n statuses → status < 3
-    → let q = eligible channels keys units statuses want status chosen in
+pub passed-skip : (channels keys units statuses : List ℕ) (want : DW.Want) (chosen : List ℕ) (start n : ℕ)
+    → Passed start n statuses → want .status < 3
+    → let q = eligible channels keys units statuses want chosen in
     leastFrom (dayIn keys) q 0 0 n ≡ leastFrom (dayIn keys) q 0 start (n - start)
-passed-skip channels keys units statuses want status chosen start n p h =
+passed-skip channels keys units statuses want chosen start n p h =
     let z : n ≡ n - 0 = omega arith in
     ap (leastFrom (dayIn keys) _ 0 0) z
-    ∙ kind-skip channels keys units statuses want status chosen 0 0 start n (omega arith) (p .within)
-    (λ k l m. consumed-kind channels statuses (want .channel) status k (p .consumed k m) h)
+    ∙ kind-skip channels keys units statuses want chosen 0 0 start n (omega arith) (p .within)
+    (λ k l m. consumed-kind channels statuses (want .channel) (want .status) k (p .consumed k m) h)

@@ -29,28 +29,29 @@ module _ (keys units : List ℕ) (want : DW.Want) (chosen : List ℕ) (k : ℕ) 
   unfolding taking
   wanted-by u e f = rw (e, f)
 
-module _ (channels keys units statuses : List ℕ) (want : DW.Want) (status : ℕ) (chosen : List ℕ) where
+module _ (channels keys units statuses : List ℕ) (want : DW.Want) (chosen : List ℕ) where
   -- of another channel or status it is not eligible
-  pub other-kind : (k : ℕ) → ofKind channels statuses (want .channel) status k ≡ false
-      → eligible channels keys units statuses want status chosen k ≡ false
+  pub other-kind : (k : ℕ) → ofKind channels statuses (want .channel) (want .status) k ≡ false
+      → eligible channels keys units statuses want chosen k ≡ false
   unfolding eligible
   other-kind k e = rw e
 
   -- of both it is eligible where it is to be taken
-  pub kind-taking : (k : ℕ) → (ofKind channels statuses (want .channel) status k && taking keys units want chosen k)
-      ≡ eligible channels keys units statuses want status chosen k
+  pub kind-taking : (k : ℕ)
+      → (ofKind channels statuses (want .channel) (want .status) k && taking keys units want chosen k)
+      ≡ eligible channels keys units statuses want chosen k
   unfolding eligible
   kind-taking k = refl
 
-  pub kind-is : (k : ℕ) → ofKind channels statuses (want .channel) status k ≡ true
-      → eligible channels keys units statuses want status chosen k ≡ taking keys units want chosen k
+  pub kind-is : (k : ℕ) → ofKind channels statuses (want .channel) (want .status) k ≡ true
+      → eligible channels keys units statuses want chosen k ≡ taking keys units want chosen k
   unfolding eligible
   kind-is k e = rw e
 
   -- messages of other channels or statuses are passed over
   pub kind-skip : (b i j n : ℕ) → i ≤ j → j ≤ n
-      → ((k : ℕ) → i ≤ k → k < j → ofKind channels statuses (want .channel) status k ≡ false)
-      → let q = eligible channels keys units statuses want status chosen in
+      → ((k : ℕ) → i ≤ k → k < j → ofKind channels statuses (want .channel) (want .status) k ≡ false)
+      → let q = eligible channels keys units statuses want chosen in
       leastFrom (dayIn keys) q b i (n - i) ≡ leastFrom (dayIn keys) q b j (n - j)
   kind-skip b i j n h l e = least-skip (dayIn keys) _ b i j n h l (λ k m o. other-kind k (e k m o))
 
@@ -68,12 +69,13 @@ module _ (channels keys statuses : List ℕ) (o : Others) (n : ℕ) (want : DW.W
   unfolding messageIn alike isLike
   like-is k = rw (q .equal, q .property, q .unit, e)
 
-  free-is : (chosen : List ℕ) (k : ℕ)
-      → isFree c (want .channel) s chosen k (messageIn m k) ≡ eligible channels keys units statuses want 0 chosen k
+  free-is : want .status ≡ 0 → (chosen : List ℕ) (k : ℕ)
+      → isFree c (want .channel) s chosen k (messageIn m k) ≡ eligible channels keys units statuses want chosen k
   unfolding messageIn eligible ofKind taking
-  free-is chosen k =
-      rw (like-is k, pending-is (getD statuses k 0))
-      (go (eqb (getD channels k 0) (want .channel)) (isLike keys units want k) (eqb (getD statuses k 0) 0)
+  free-is z chosen k =
+      let p = pending-is (getD statuses k 0) ∙ ap (eqb (getD statuses k 0)) (sym z) in
+      rw (like-is k, p)
+      (go (eqb (getD channels k 0) (want .channel)) (isLike keys units want k) (eqb (getD statuses k 0) (want .status))
       (not (isIn k chosen)))
     where
       go : (a b d f : Bool) → ((a && b) && (d && f)) ≡ ((a && d) && (b && f))
@@ -82,21 +84,23 @@ module _ (channels keys statuses : List ℕ) (o : Others) (n : ℕ) (want : DW.W
       go true b true f = refl
 
   -- of the least rank of the pending ones the number
-  pub oldest-is : (chosen : List ℕ) (r : ℕ)
-      → r ≡ leastFrom (dayIn keys) (eligible channels keys units statuses want 0 chosen) 0 0 n
+  pub oldest-is : want .status ≡ 0 → (chosen : List ℕ) (r : ℕ)
+      → r ≡ leastFrom (dayIn keys) (eligible channels keys units statuses want chosen) 0 0 n
       → r % 65536
       ≡ oldest (dayAt (boardBy channels keys statuses n o)) (isFree c (want .channel) s chosen) 0 (messagesFrom m 0 n)
-  oldest-is chosen r f =
+  oldest-is z chosen r f =
       ap (λ x. x % 65536) f
-      ∙ least-oldest (dayIn keys) _ (messageIn m) (isFree c (want .channel) s chosen) (free-is chosen)
+      ∙ least-oldest (dayIn keys) _ (messageIn m) (isFree c (want .channel) s chosen) (free-is z chosen)
       (dayAt (boardBy channels keys statuses n o)) n (omega arith) (day-from m n)
 
-  claiming : (k : ℕ) → (fits c (want .channel) s (messageIn m k) && isClaimed (messageIn m k .status))
-      ≡ eligible channels keys units statuses want 1 [] k
+  claiming : want .status ≡ 1 → (k : ℕ)
+      → (fits c (want .channel) s (messageIn m k) && isClaimed (messageIn m k .status))
+      ≡ eligible channels keys units statuses want [] k
   unfolding messageIn eligible ofKind taking
-  claiming k =
-      rw (like-is k, claimed-is (getD statuses k 0))
-      (go (eqb (getD channels k 0) (want .channel)) (isLike keys units want k) (eqb (getD statuses k 0) 1))
+  claiming z k =
+      let p = claimed-is (getD statuses k 0) ∙ ap (eqb (getD statuses k 0)) (sym z) in
+      rw (like-is k, p)
+      (go (eqb (getD channels k 0) (want .channel)) (isLike keys units want k) (eqb (getD statuses k 0) (want .status)))
     where
       go : (a b d : Bool) → ((a && b) && d) ≡ ((a && d) && (b && true))
       go false b d = refl
@@ -104,10 +108,11 @@ module _ (channels keys statuses : List ℕ) (o : Others) (n : ℕ) (want : DW.W
       go true b true = refl
 
   -- there is a least rank of the claimed ones
-  pub some-claimed-is : (r : ℕ) → r ≡ leastFrom (dayIn keys) (eligible channels keys units statuses want 1 []) 0 0 n
+  pub some-claimed-is : want .status ≡ 1 → (r : ℕ)
+      → r ≡ leastFrom (dayIn keys) (eligible channels keys units statuses want []) 0 0 n
       → not (eqb r 0) ≡ someClaimed c (want .channel) s (messagesFrom m 0 n)
   unfolding someClaimed
-  some-claimed-is r f =
+  some-claimed-is z r f =
       ap (λ x. not (eqb x 0)) f
-      ∙ least-found (dayIn keys) _ (messageIn m) (λ x. fits c (want .channel) s x && isClaimed (x .status)) claiming n
-      (omega arith)
+      ∙ least-found (dayIn keys) _ (messageIn m) (λ x. fits c (want .channel) s x && isClaimed (x .status))
+      (claiming z) n (omega arith)

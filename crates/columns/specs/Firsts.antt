@@ -48,9 +48,9 @@ unfoldable pub taking : List ℕ → List ℕ → DW.Want → List ℕ → ℕ �
 taking keys units want chosen k = isLike keys units want k && not (isIn k chosen)
 
 -- message k is of the channel and of the status, and is to be taken
-unfoldable pub eligible : List ℕ → List ℕ → List ℕ → List ℕ → DW.Want → ℕ → List ℕ → ℕ → Bool
-eligible channels keys units statuses want status chosen k =
-    ofKind channels statuses (want .channel) status k && taking keys units want chosen k
+unfoldable pub eligible : List ℕ → List ℕ → List ℕ → List ℕ → DW.Want → List ℕ → ℕ → Bool
+eligible channels keys units statuses want chosen k =
+    ofKind channels statuses (want .channel) (want .status) k && taking keys units want chosen k
 
 -- rule 4.2: what chord c wants of a message beside one like s
 pub record Wants (want : DW.Want) (c : Chord) (s : Sent) : Type 0 where

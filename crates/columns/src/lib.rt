@@ -14,9 +14,11 @@ ghost use Rattle.columns.specs.Firsts.{eligible, Wants};
 ghost use Rattle.columns.specs.Ranks.{dayIn, isFirst, leastFrom, RankBelow};
 use table::Equality;
 
-// What a member of a chord wants of a message: the channel, and the property and the unit where they are to be equal.
+// What is sought for a member of a chord: a message of the channel and of the status, and of the property and the unit
+// where they are to be equal.
 pub struct Want {
     pub channel: u8,
+    pub status: u8,
     pub equal: Equality,
     pub property: u32,
     pub unit: u16,
@@ -35,7 +37,6 @@ fn in_block(
     from: u16,
     to: u16,
     want: Want,
-    status: u8,
     best: u64,
     chosen: &[u16],
 ) -> u64
@@ -43,13 +44,13 @@ fn in_block(
     requires { ⌜ Lent to (now channels) (now keys) (now units) (now statuses) ⌝ }
     requires { ⌜ RankBelow (dayIn (now keys)) from best ⌝ }
     ensures { λ r. ⌜ r ≡ leastFrom (dayIn (now (keys .entry))) (eligible (now (channels .entry)) (now (keys .entry))
-        (now (units .entry)) (now (statuses .entry)) want status (now (chosen .entry))) best from (to - from) ⌝ }
+        (now (units .entry)) (now (statuses .entry)) want (now (chosen .entry))) best from (to - from) ⌝ }
 {
     let at = from as usize;
     if !skip::is_worth(keys, units, at, want, best) {
         return best;
     }
-    let w = gather::word_at(channels, statuses, at, want.channel, status);
+    let w = gather::word_at(channels, statuses, at, want.channel, want.status);
     weigh::least_of(
         keys,
         units,
@@ -70,33 +71,21 @@ fn by_blocks(
     from: u16,
     n: u16,
     want: Want,
-    status: u8,
     chosen: &[u16],
 ) -> u64
     requires { ⌜ (from ≤ n) × (from % 64 ≡ 0) × Lent n (now channels) (now keys) (now units) (now statuses) ⌝ }
     ensures { λ r. ⌜ r ≡ leastFrom (dayIn (now (keys .entry))) (eligible (now (channels .entry)) (now (keys .entry))
-        (now (units .entry)) (now (statuses .entry)) want status (now (chosen .entry))) 0 from (n - from) ⌝ }
+        (now (units .entry)) (now (statuses .entry)) want (now (chosen .entry))) 0 from (n - from) ⌝ }
 {
     let mut b: u64 = 0;
     let mut at = from;
     while at < n {
-        let k = skip::next_block(channels, statuses, at, n, want.channel, status);
+        let k = skip::next_block(channels, statuses, at, n, want.channel, want.status);
         if n <= k {
             return b;
         }
         let to = skip::block_end(k, n);
-        b = in_block(
-            channels,
-            keys,
-            units,
-            statuses,
-            k,
-            to,
-            want,
-            status,
-            b,
-            chosen,
-        );
+        b = in_block(channels, keys, units, statuses, k, to, want, b, chosen);
         if (b != 0) & (b < 65536) {
             return b;
         }
@@ -114,43 +103,21 @@ fn least(
     start: u16,
     n: u16,
     want: Want,
-    status: u8,
     chosen: &[u16],
 ) -> u64
     requires { ⌜ Lent n (now channels) (now keys) (now units) (now statuses) ⌝ }
-    requires { ⌜ Passed start n (now statuses) × (status < 3) ⌝ }
+    requires { ⌜ Passed start n (now statuses) × (want .status < 3) ⌝ }
     ensures { λ r. ⌜ r ≡ leastFrom (dayIn (now (keys .entry))) (eligible (now (channels .entry)) (now (keys .entry))
-        (now (units .entry)) (now (statuses .entry)) want status (now (chosen .entry))) 0 0 n ⌝ }
+        (now (units .entry)) (now (statuses .entry)) want (now (chosen .entry))) 0 0 n ⌝ }
 {
     if n - start <= 12 {
-        return weigh::least_in(
-            channels,
-            keys,
-            units,
-            statuses,
-            start,
-            n,
-            want,
-            status,
-            chosen,
-        );
+        return weigh::least_in(channels, keys, units, statuses, start, n, want, chosen);
     }
     let from = start - start % 64;
-    by_blocks(
-        channels,
-        keys,
-        units,
-        statuses,
-        from,
-        n,
-        want,
-        status,
-        chosen,
-    )
+    by_blocks(channels, keys, units, statuses, from, n, want, chosen)
 }
 
-// The oldest of the first n messages that a look takes for a member, pending and not chosen yet: its number plus 1, 0
-// for none.
+// The oldest of the first n messages that is sought, pending and not chosen yet: its number plus 1, 0 for none.
 pub fn oldest(
     channels: &[u8],
     keys: &[u32],
@@ -162,17 +129,17 @@ pub fn oldest(
     chosen: &[u16],
 ) -> u16
     requires { ⌜ Lent n (now channels) (now keys) (now units) (now statuses) ⌝ }
-    requires { ⌜ Passed start n (now statuses) ⌝ }
+    requires { ⌜ Passed start n (now statuses) × (want .status ≡ 0) ⌝ }
     ensures { λ r. ⌜ (r ≤ n) × ((o : Others) (c : Chord) (s : Sent) → o .units ≡ now (units .entry) → Wants want c s
         → r ≡ oldest (dayAt (boardBy (now (channels .entry)) (now (keys .entry)) (now (statuses .entry)) n o))
         (isFree c (want .channel) s (now (chosen .entry))) 0
         (boardBy (now (channels .entry)) (now (keys .entry)) (now (statuses .entry)) n o .messages)) ⌝ }
 {
-    let b = least(channels, keys, units, statuses, start, n, want, 0, chosen);
+    let b = least(channels, keys, units, statuses, start, n, want, chosen);
     (b % 65536) as u16
 }
 
-// One of the first n messages would fit a member and is claimed, chosen or not.
+// One of the first n messages is sought and claimed, chosen or not.
 pub fn some_claimed(
     channels: &[u8],
     keys: &[u32],
@@ -183,7 +150,7 @@ pub fn some_claimed(
     want: Want,
 ) -> bool
     requires { ⌜ Lent n (now channels) (now keys) (now units) (now statuses) ⌝ }
-    requires { ⌜ Passed start n (now statuses) ⌝ }
+    requires { ⌜ Passed start n (now statuses) × (want .status ≡ 1) ⌝ }
     ensures { λ r. ⌜ ((o : Others) (c : Chord) (s : Sent) → o .units ≡ now (units .entry) → Wants want c s
         → r ≡ someClaimed c (want .channel) s
         (boardBy (now (channels .entry)) (now (keys .entry)) (now (statuses .entry)) n o .messages)) ⌝ }
@@ -197,7 +164,6 @@ pub fn some_claimed(
         start,
         n,
         want,
-        1,
         &chosen[..0],
     );
     b != 0

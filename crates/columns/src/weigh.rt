@@ -79,17 +79,16 @@ fn judged(
     statuses: &[u8],
     n: u16,
     want: Want,
-    status: u8,
     best: u64,
     chosen: &[u16],
 ) -> u64
     requires { ⌜ (n < length (now channels)) × (n < length (now statuses)) ⌝ }
     requires { ⌜ (daysAt + n < length (now keys)) × (n < length (now units)) ⌝ }
     ensures { λ r. ⌜ r ≡ better (eligible (now (channels .entry)) (now (keys .entry)) (now (units .entry))
-        (now (statuses .entry)) want status (now (chosen .entry)) n) (rankOf (dayIn (now (keys .entry))) n) best ⌝ }
+        (now (statuses .entry)) want (now (chosen .entry)) n) (rankOf (dayIn (now (keys .entry))) n) best ⌝ }
 {
     let k = n as usize;
-    if !((channels[k] == want.channel) & (statuses[k] == status)) {
+    if !((channels[k] == want.channel) & (statuses[k] == want.status)) {
         return best;
     }
     weighed(keys, units, n, want, best, chosen)
@@ -105,17 +104,16 @@ pub fn least_in(
     from: u16,
     n: u16,
     want: Want,
-    status: u8,
     chosen: &[u16],
 ) -> u64
     requires { ⌜ (from ≤ n) × Lent n (now channels) (now keys) (now units) (now statuses) ⌝ }
     ensures { λ r. ⌜ r ≡ leastFrom (dayIn (now (keys .entry))) (eligible (now (channels .entry)) (now (keys .entry))
-        (now (units .entry)) (now (statuses .entry)) want status (now (chosen .entry))) 0 from (n - from) ⌝ }
+        (now (units .entry)) (now (statuses .entry)) want (now (chosen .entry))) 0 from (n - from) ⌝ }
 {
     let mut b: u64 = 0;
     let mut i = from;
     while i < n {
-        b = judged(channels, keys, units, statuses, i, want, status, b, chosen);
+        b = judged(channels, keys, units, statuses, i, want, b, chosen);
         if (b != 0) & (b < 65536) {
             return b;
         }

@@ -23,12 +23,20 @@ use state::Phase;
 use state::Said;
 use state::Sender;
 
-// What the k-th member of the chord wants of a message beside the subject.
-fn want_of(table: &[u8], chord: u8, k: u8, keys: &[u32], units: &[u16], subject: u16) -> Want
+// What is sought for the k-th member of the chord, of a status, beside the subject.
+fn want_of(
+    table: &[u8],
+    chord: u8,
+    k: u8,
+    status: u8,
+    keys: &[u32],
+    units: &[u16],
+    subject: u16,
+) -> Want
     requires { ⌜ (tableRefusal (now table) ≡ 0) × (chord < length (tableOf (now table) .chords)) ⌝ }
     requires { ⌜ (k < MT.size (tableOf (now table)) chord) × (daysAt + subject < length (now keys))
         × (subject < length (now units)) ⌝ }
-    ensures { λ r. ⌜ (r .channel ≡ MT.channelAt (tableOf (now (table .entry))) chord k)
+    ensures { λ r. ⌜ (r .channel ≡ MT.channelAt (tableOf (now (table .entry))) chord k) × (r .status ≡ status)
         × ((s : MB.Sent) → s .property ≡ getD (now (keys .entry)) subject 0
         → s .unit ≡ getD (now (units .entry)) subject 0
         → Wants r (MT.chordAt (tableOf (now (table .entry))) chord) s) ⌝ }
@@ -40,6 +48,7 @@ fn want_of(table: &[u8], chord: u8, k: u8, keys: &[u32], units: &[u16], subject:
     let equal = table::chord_equal(table, chord);
     Want {
         channel: channel,
+        status: status,
         equal: equal,
         property: property,
         unit: unit,
@@ -72,7 +81,7 @@ fn choice(
     if chords::first_of(table, j.chord, channel) == k {
         return j.subject + 1;
     }
-    let want = want_of(table, j.chord, k, keys, units, j.subject);
+    let want = want_of(table, j.chord, k, 0, keys, units, j.subject);
     let chosen = j.chosen;
     columns::oldest(
         channels,
@@ -110,7 +119,7 @@ fn missed(
     let j = d.job;
     let at = j.subject as usize;
     let channel = channels[at];
-    let want = want_of(table, j.chord, k, keys, units, j.subject);
+    let want = want_of(table, j.chord, k, 1, keys, units, j.subject);
     let claimed = columns::some_claimed(channels, keys, units, statuses, start, n, want);
     let next = state::next_chord(table, j, channel, j.retry | claimed);
     state::works(d, next, Said::Missed, Change::None)

@@ -15,13 +15,13 @@ use Rattle.columns.proofs.by_blocks.Statement.{statement}
 use Rattle.columns.proofs.by_blocks.Tie as tie
 
 abbrev Inv-loop : tie.InvT-loop
-Inv-loop channels keys units statuses from n want status chosen b₀ at₀ b at =
+Inv-loop channels keys units statuses from n want chosen b₀ at₀ b at =
     (at ≤ n) × (at < n → at % 64 ≡ 0) × (isFirst b ≡ false) × RankBelow (dayIn keys) at b
-    × (leastFrom (dayIn keys) (eligible channels keys units statuses want status chosen) 0 from (n - from)
-    ≡ leastFrom (dayIn keys) (eligible channels keys units statuses want status chosen) b at (n - at))
+    × (leastFrom (dayIn keys) (eligible channels keys units statuses want chosen) 0 from (n - from)
+    ≡ leastFrom (dayIn keys) (eligible channels keys units statuses want chosen) b at (n - at))
 
 abbrev μ-loop : tie.MeasureT-loop
-μ-loop channels keys units statuses from n want status chosen b₀ at₀ b at = n - at
+μ-loop channels keys units statuses from n want chosen b₀ at₀ b at = n - at
 
 abbrev start : tie.At-loop Inv-loop μ-loop → tie.Start Inv-loop μ-loop
 start p = p .before .before .before .before .before .before
@@ -33,7 +33,7 @@ loop c = c .before .before
 abbrev passes : tie.Start Inv-loop μ-loop → ℕ → Bool
 passes s =
     let a = s .args in
-    eligible (a .channels .now) (a .keys .now) (a .units .now) (a .statuses .now) (a .want) (a .status) (a .chosen .now)
+    eligible (a .channels .now) (a .keys .now) (a .units .now) (a .statuses .now) (a .want) (a .chosen .now)
 
 -- none up to number j, where no block before it has a message of the channel and of the status
 passed : (c : tie.After-next-block Inv-loop μ-loop) (j : ℕ) → let p = loop c in
@@ -45,8 +45,7 @@ passed c j h l m =
     let p = loop c in
     let a = start p .args in
     p .loop .inv .4
-    ∙ kind-skip (a .channels .now) (a .keys .now) (a .units .now) (a .statuses .now) (a .want)
-    (a .status) (a .chosen .now)
+    ∙ kind-skip (a .channels .now) (a .keys .now) (a .units .now) (a .statuses .now) (a .want) (a .chosen .now)
     (p .loop .b) (p .loop .at) j (a .n) h l (λ k x y. c .next-block .ensures .0 .3 k x (omega arith))
 
 -- the best so far is a message's before the block

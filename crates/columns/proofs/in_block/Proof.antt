@@ -20,7 +20,7 @@ returns : tie.Need-returns
 unfolding eligible
 returns c =
     let a = start (c .before) .args in
-    let p = ofKind (a .channels .now) (a .statuses .now) (a .want .channel) (a .status) in
+    let p = ofKind (a .channels .now) (a .statuses .now) (a .want .channel) (a .want .status) in
     let left = c .before .is-worth .ensures (not-true _ (c .if1 .taken)) (a .chosen .now) in
     sym (least-left (dayIn (a .keys .now)) _ (a .best) (a .from) (a .to - a .from)
     (λ k h l. better-narrow (p k) _ _ (a .best) (left k h (omega arith))))
@@ -31,12 +31,11 @@ returns-2 c =
     let w = b .before in
     let s = start (w .before .before) in
     let a = s .args in
-    let p = ofKind (a .channels .now) (a .statuses .now) (a .want .channel) (a .status) in
+    let p = ofKind (a .channels .now) (a .statuses .now) (a .want .channel) (a .want .status) in
     let e = w .word-at .ensures in
     rw (c .least-of .ensures, b .low-bits .ensures (word-fits p (a .from) _ e))
     (low-least (dayIn (a .keys .now)) p _ _
-    (kind-taking (a .channels .now) (a .keys .now) (a .units .now) (a .statuses .now) (a .want)
-    (a .status) (a .chosen .now))
+    (kind-taking (a .channels .now) (a .keys .now) (a .units .now) (a .statuses .now) (a .want) (a .chosen .now))
     (a .best) (a .from) (a .to - a .from) _ (omega (arith, s .pre .0 .1)) e)
 
 pub in-block-spec : {M : Type 1} → statement M

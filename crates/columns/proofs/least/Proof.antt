@@ -12,8 +12,8 @@ returns c =
     let s = c .before .before .before .before .before .before .before in
     let a = s .args in
     c .least-in .ensures
-    ∙ sym (passed-skip (a .channels .now) (a .keys .now) (a .units .now) (a .statuses .now) (a .want)
-    (a .status) (a .chosen .now) (a .start) (a .n) (s .pre .1 .0) (s .pre .1 .1))
+    ∙ sym (passed-skip (a .channels .now) (a .keys .now) (a .units .now) (a .statuses .now) (a .want) (a .chosen .now)
+    (a .start) (a .n) (s .pre .1 .0) (s .pre .1 .1))
 
 returns-2 : tie.Need-returns-2
 returns-2 c =
@@ -21,8 +21,7 @@ returns-2 c =
     let a = s .args in
     let from = a .start - a .start % 64 in
     c .by-blocks .ensures
-    ∙ sym (passed-skip (a .channels .now) (a .keys .now) (a .units .now) (a .statuses .now) (a .want)
-    (a .status) (a .chosen .now)
+    ∙ sym (passed-skip (a .channels .now) (a .keys .now) (a .units .now) (a .statuses .now) (a .want) (a .chosen .now)
     from (a .n) (passed-less (a .start) from (a .n) (a .statuses .now) (omega arith) (s .pre .1 .0)) (s .pre .1 .1))
 
 pub least-spec : {M : Type 1} → statement M

@@ -14,7 +14,7 @@ returns c =
     let r = c .least in (
       rw (r .ensures) (least-number (dayIn (a .keys .now)) _ (a .n) (omega (arith, s .pre .0 .few))),
       λ o k x e f. oldest-is (a .channels .now) (a .keys .now) (a .statuses .now) o (a .n) (a .want) k x
-          (a .units .now) e f (s .pre .0 .few) (a .chosen .now) (r .result) (r .ensures),
+          (a .units .now) e f (s .pre .0 .few) (s .pre .1 .1) (a .chosen .now) (r .result) (r .ensures),
     )
 
 pub oldest-spec : {M : Type 1} → statement M

@@ -10,7 +10,7 @@ returns c =
     let a = s .args in
     let r = c .least in
     λ o k x e f. some-claimed-is (a .channels .now) (a .keys .now) (a .statuses .now) o (a .n) (a .want) k x
-    (a .units .now) e f (s .pre .0 .few) (r .result) (r .ensures)
+    (a .units .now) e f (s .pre .0 .few) (s .pre .1 .1) (r .result) (r .ensures)
 
 pub some-claimed-spec : {M : Type 1} → statement M
 some-claimed-spec =

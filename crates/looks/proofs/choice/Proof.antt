@@ -66,7 +66,7 @@ returns-2 c =
     (f .first-of .result) h (f .first-of .ensures) (g .result .channel) (c .oldest .result) (take (a .k) (a .j .chosen))
     (chosen-first t (a .j) (a .k) (s .pre .1 .0 .0)) (i .if1 .left) (g .ensures .0)
     (c .oldest .ensures .1 o (chordAt t (a .j .chord)) (getD (messagesFrom m 0 (a .n)) (a .j .subject) noMessage .sent)
-    e (g .ensures .1 _ (nth-property m (a .n) (a .j .subject) h)
+    e (g .ensures .2 _ (nth-property m (a .n) (a .j .subject) h)
     (nth-unit m (a .n) (a .j .subject) h ∙ ap (λ us. getD us (a .j .subject) 0) e)))
 
 pub choice-spec : {M : Type 1} → statement M

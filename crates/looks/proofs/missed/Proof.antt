@@ -26,7 +26,7 @@ returns c =
     rw (c .works .ensures)
     (missed-is t b (a .d) (a .k) (q .next-chord .result) (g .result .channel) (f .some-claimed .result) (g .ensures .0)
     (f .some-claimed .ensures o (chordAt t (j .chord)) (messageAt b (j .subject) .sent) e
-    (g .ensures .1 _ (nth-property m (a .n) (j .subject) (s .pre .1 .0 .1))
+    (g .ensures .2 _ (nth-property m (a .n) (j .subject) (s .pre .1 .0 .1))
     (nth-unit m (a .n) (j .subject) (s .pre .1 .0 .1) ∙ ap (λ us. getD us (j .subject) 0) e)))
     (q .next-chord .ensures b (nth-channel m (a .n) (j .subject) (s .pre .1 .0 .1))))
 

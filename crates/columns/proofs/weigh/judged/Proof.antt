@@ -12,21 +12,19 @@ use Rattle.columns.proofs.weigh.judged.Tie as tie
 returns : tie.Need-returns
 unfolding ofKind
 returns c =
-    let a = c .before .before .before .before .before .before .before .before .before .args in
+    let a = c .before .before .before .before .before .before .before .before .before .before .args in
     sym (better-unless _ (rankOf (dayIn (a .keys .now)) (a .n)) (a .best)
-    (other-kind (a .channels .now) (a .keys .now) (a .units .now) (a .statuses .now) (a .want)
-    (a .status) (a .chosen .now) (a .n)
+    (other-kind (a .channels .now) (a .keys .now) (a .units .now) (a .statuses .now) (a .want) (a .chosen .now) (a .n)
     (not-true _ (c .if1 .taken))))
 
 returns-2 : tie.Need-returns-2
 unfolding ofKind
 returns-2 c =
     let e = c .before in
-    let a = e .before .before .before .before .before .before .before .before .before .args in
+    let a = e .before .before .before .before .before .before .before .before .before .before .args in
     c .weighed .ensures
     ∙ ap (λ t. better t (rankOf (dayIn (a .keys .now)) (a .n)) (a .best))
-    (sym (kind-is (a .channels .now) (a .keys .now) (a .units .now) (a .statuses .now) (a .want)
-    (a .status) (a .chosen .now) (a .n)
+    (sym (kind-is (a .channels .now) (a .keys .now) (a .units .now) (a .statuses .now) (a .want) (a .chosen .now) (a .n)
     (not-false _ (e .if1 .left))))
 
 pub judged-spec : {M : Type 1} → statement M

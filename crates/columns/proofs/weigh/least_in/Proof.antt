@@ -11,13 +11,13 @@ use Rattle.columns.proofs.weigh.least_in.Statement.{statement}
 use Rattle.columns.proofs.weigh.least_in.Tie as tie
 
 abbrev Inv-loop : tie.InvT-loop
-Inv-loop channels keys units statuses from n want status chosen b₀ i₀ b i =
+Inv-loop channels keys units statuses from n want chosen b₀ i₀ b i =
     (i ≤ n) × (isFirst b ≡ false)
-    × (leastFrom (dayIn keys) (eligible channels keys units statuses want status chosen) 0 from (n - from)
-    ≡ leastFrom (dayIn keys) (eligible channels keys units statuses want status chosen) b i (n - i))
+    × (leastFrom (dayIn keys) (eligible channels keys units statuses want chosen) 0 from (n - from)
+    ≡ leastFrom (dayIn keys) (eligible channels keys units statuses want chosen) b i (n - i))
 
 abbrev μ-loop : tie.MeasureT-loop
-μ-loop channels keys units statuses from n want status chosen b₀ i₀ b i = n - i
+μ-loop channels keys units statuses from n want chosen b₀ i₀ b i = n - i
 
 abbrev start : tie.At-loop Inv-loop μ-loop → tie.Start Inv-loop μ-loop
 start p = p .before .before .before .before .before .before
@@ -26,7 +26,7 @@ start p = p .before .before .before .before .before .before
 abbrev passes : tie.Start Inv-loop μ-loop → ℕ → Bool
 passes s =
     let a = s .args in
-    eligible (a .channels .now) (a .keys .now) (a .units .now) (a .statuses .now) (a .want) (a .status) (a .chosen .now)
+    eligible (a .channels .now) (a .keys .now) (a .units .now) (a .statuses .now) (a .want) (a .chosen .now)
 
 loop-holds : tie.Need-loop-holds Inv-loop μ-loop
 loop-holds c = (search needs, refl, refl)
