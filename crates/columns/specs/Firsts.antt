@@ -52,7 +52,7 @@ unfoldable pub eligible : List ℕ → List ℕ → List ℕ → List ℕ → DW
 eligible channels keys units statuses want chosen k =
     ofKind channels statuses (want .channel) (want .status) k && taking keys units want chosen k
 
--- rule 4.2: what chord c wants of a message beside one like s
+-- rule 4.2: want is what chord c wants to be equal of a message beside one like s
 pub record Wants (want : DW.Want) (c : Chord) (s : Sent) : Type 0 where
   pub equal : c .equal ≡ equalityIn (want .equal)
   pub property : s .property ≡ want .property

@@ -94,6 +94,20 @@ fn any_unit(units: &[u16], from: usize, to: usize, unit: u16) -> bool
     any
 }
 
+// One of them is of a day before that day.
+fn any_before(keys: &[u32], from: usize, to: usize, day: u32) -> bool
+    requires { ⌜ (from ≤ to) × (daysAt + to ≤ length (now keys)) ⌝ }
+    ensures { λ r. ⌜ r ≡ found (firstFrom (ofDayBefore (now (keys .entry)) day) from (to - from)) ⌝ }
+{
+    let mut any = false;
+    let mut i = from;
+    while i < to {
+        any = any | (keys[DAYS + i] < day);
+        i += 1;
+    }
+    any
+}
+
 // Whether the 64 messages from number `at` on have what is wanted to be equal: one the property, and one the unit.
 fn any_like(keys: &[u32], units: &[u16], at: usize, want: Want) -> bool
     requires { ⌜ (at + 64 ≤ length (now keys)) × (at + 64 ≤ length (now units)) ⌝ }
@@ -111,20 +125,6 @@ fn any_like(keys: &[u32], units: &[u16], at: usize, want: Want) -> bool
             any_property(keys, at, at + 64, want.property)
         }
     }
-}
-
-// One of them is of a day before that day.
-fn any_before(keys: &[u32], from: usize, to: usize, day: u32) -> bool
-    requires { ⌜ (from ≤ to) × (daysAt + to ≤ length (now keys)) ⌝ }
-    ensures { λ r. ⌜ r ≡ found (firstFrom (ofDayBefore (now (keys .entry)) day) from (to - from)) ⌝ }
-{
-    let mut any = false;
-    let mut i = from;
-    while i < to {
-        any = any | (keys[DAYS + i] < day);
-        i += 1;
-    }
-    any
 }
 
 // Whether one of the 64 messages from number `at` on may be like what is wanted and come before the best so far.
