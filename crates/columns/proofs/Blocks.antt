@@ -35,6 +35,26 @@ module _ (day : ℕ → ℕ) (n b : ℕ) (few : n ≤ 1024) (some : b ≢ 0) whe
       let d = ltb-false (day k) (day j) (rw z at f) in
       omega arith
 
+-- none of a block passes
+none-in : (p : ℕ → Bool) (at : ℕ) → found (firstFrom p at (at + 64 - at)) ≡ false → (k : ℕ) → at ≤ k → k < at + 64
+    → p k ≡ false
+none-in p at e k h l = none-passes p at (at + 64 - at) (not-found _ e) k h (omega arith)
+
+-- a block of which none has the property, where it is wanted with the unit or without, or none the unit
+module _ (keys units : List ℕ) (want : DW.Want) (at : ℕ) where
+  abbrev NoneLike : Type 0
+  NoneLike = (k : ℕ) → at ≤ k → k < at + 64 → isLike keys units want k ≡ false
+
+  pub no-property : ((u : Bool) → agrees (equalityIn (want .equal)) false u ≡ false)
+      → found (firstFrom (ofProperty keys (want .property)) at (at + 64 - at)) ≡ false → NoneLike
+  unfolding ofProperty isLike
+  no-property q e k h l = rw (none-in _ at e k h l) (q (eqb (getD units k 0) (want .unit)))
+
+  pub no-unit : want .equal ≡ E.Unit
+      → found (firstFrom (ofUnit units (want .unit)) at (at + 64 - at)) ≡ false → NoneLike
+  unfolding ofUnit isLike
+  no-unit q e k h l = rw (q, none-in _ at e k h l) (and-false (eqb (getD keys k 0) (want .property)))
+
 -- what a block leaves: each of its messages leaves the best as it is
 module _ (keys units : List ℕ) (want : DW.Want) (best at : ℕ) where
   abbrev Leaves : Type 0
@@ -42,25 +62,7 @@ module _ (keys units : List ℕ) (want : DW.Want) (best at : ℕ) where
       (chosen : List ℕ) (k : ℕ) → at ≤ k → k < at + 64
       → better (taking keys units want chosen k) (rankOf (dayIn keys) k) best ≡ best
 
-  abbrev NoneLike : Type 0
-  NoneLike = (k : ℕ) → at ≤ k → k < at + 64 → isLike keys units want k ≡ false
-
-  -- where the property is wanted, with the unit or without
-  pub no-property : ((u : Bool) → agrees (equalityIn (want .equal)) false u ≡ false)
-      → found (firstFrom (ofProperty keys (want .property)) at (at + 64 - at)) ≡ false → NoneLike
-  unfolding ofProperty isLike
-  no-property q e k h l =
-      let z = none-passes _ at (at + 64 - at) (not-found _ e) k h (omega arith) in
-      rw z (q (eqb (getD units k 0) (want .unit)))
-
-  pub no-unit : want .equal ≡ E.Unit
-      → found (firstFrom (ofUnit units (want .unit)) at (at + 64 - at)) ≡ false → NoneLike
-  unfolding ofUnit isLike
-  no-unit q e k h l =
-      let z = none-passes _ at (at + 64 - at) (not-found _ e) k h (omega arith) in
-      rw (q, z) (and-false (eqb (getD keys k 0) (want .property)))
-
-  pub none-like : NoneLike → Leaves
+  pub none-like : NoneLike keys units want at → Leaves
   none-like e chosen k h l =
       better-unless _ (rankOf (dayIn keys) k) best (not-wanted keys units want chosen k (e k h l))
 
@@ -69,8 +71,7 @@ module _ (keys units : List ℕ) (want : DW.Want) (best at : ℕ) where
       → Leaves
   unfolding ofDayBefore
   none-before r few some e chosen k h l =
-      let z = none-passes _ at (at + 64 - at) (not-found _ e) k h (omega arith) in
-      let m = rank-later (dayIn keys) at best few some r k h z in
+      let m = rank-later (dayIn keys) at best few some r k h (none-in _ at e k h l) in
       better-later _ (rankOf (dayIn keys) k) best _ refl
       (rw (ne-eqb best 0 some, le-ltb (rankOf (dayIn keys) k) best (omega arith)))
 

@@ -63,6 +63,10 @@ fn tables() {
         2,
         b"open, member 2|L 0 673;o\nmember 2|L 0 0;y 32\n",
     );
+}
+
+// The same for the last byte of a rule, which is 2 at most.
+fn last_bytes() {
     damaged(
         20,
         17,
@@ -106,6 +110,7 @@ pub fn lines() {
         cents|L 4 1025;y 0\n",
     );
     tables();
+    last_bytes();
     damaged(20, 0, 2, b"open, P|L 0 673;o\nP|L 0 0;y 32\n");
     damaged(
         20,

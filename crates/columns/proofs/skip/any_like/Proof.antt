@@ -12,7 +12,7 @@ returns c e =
     let u = c .before in
     let q = u .before in
     let a = q .before .before .before .before .args in
-    no-unit (a .keys .now) (a .units .now) (a .want) 0 (a .at) (q .enum-told3 .given .1)
+    no-unit (a .keys .now) (a .units .now) (a .want) (a .at) (q .enum-told3 .given .1)
     (sym (u .any-unit .ensures) ∙ not-true _ (c .if1 .taken))
 
 returns-2 : tie.Need-returns-2
@@ -22,14 +22,14 @@ returns-3 : tie.Need-returns-3
 returns-3 c e =
     let q = c .before in
     let a = q .before .before .before .before .args in
-    no-property (a .keys .now) (a .units .now) (a .want) 0 (a .at) (λ u. rw (q .enum-told2 .given .1))
+    no-property (a .keys .now) (a .units .now) (a .want) (a .at) (λ u. rw (q .enum-told2 .given .1))
     (sym (c .any-property .ensures) ∙ e)
 
 returns-4 : tie.Need-returns-4
 returns-4 c e =
     let q = c .before .before .before in
     let a = q .before .before .before .before .args in
-    no-property (a .keys .now) (a .units .now) (a .want) 0 (a .at) (λ u. rw (q .enum-told3 .given .1))
+    no-property (a .keys .now) (a .units .now) (a .want) (a .at) (λ u. rw (q .enum-told3 .given .1))
     (sym (c .any-property2 .ensures) ∙ e)
 
 pub any-like-spec : {M : Type 1} → statement M
