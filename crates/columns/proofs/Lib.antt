@@ -8,4 +8,7 @@ pub mod Walks
 pub mod Passed
 pub mod Words
 pub mod Bytes
+pub mod Fits
+pub mod Told
 pub mod Blocks
+pub mod Cleared

@@ -2,7 +2,7 @@
 use mathlib.Core.Path.{_≡_, refl, ap, _∙_}
 use mathlib.Core.Logic.{_≢_, inl, inr, ⊎-elim}
 use mathlib.Core.Bool.{Bool, true, false, _||_, not}
-use Prim.Native.Nat.{ℕ, zero, suc, _+_, _%_, _<_, _≤_}
+use Prim.Native.Nat.{ℕ, zero, suc, _+_, _%_, _^_, _<_, _≤_}
 use native.Mathlib.Omega.{arith}
 use lib.Dec.{eqb, ltb}
 use borrow.Author.Tests.{ne-eqb, ltb-true, ltb-false}
@@ -13,17 +13,17 @@ use Rattle.model.proofs.Tests.{tests, tested, same?}
 use Rattle.model.proofs.Oldest.{Before, before-means, means-before}
 use Rattle.columns.specs.Columns.{listFrom}
 use Rattle.columns.specs.Firsts.{found}
-use Rattle.columns.specs.Ranks.{rankOf, better, leastFrom}
-use Rattle.columns.proofs.Ranks.{rank-above, better-unless}
+use Rattle.columns.specs.Ranks.{rankOf, noRank, better, leastFrom}
+use Rattle.columns.proofs.Ranks.{better-unless, better-taken}
 
 -- the oldest of n numbers from i on that pass, plus 1; 0 for none
 unfoldable oldestOf : (ℕ → ℕ) → (ℕ → Bool) → ℕ → ℕ → ℕ
 oldestOf day p i zero = 0
 oldestOf day p i (suc n) = pick (p i) (earlier day i (oldestOf day p (suc i) n)) (oldestOf day p (suc i) n)
 
--- the rank of what was found, a number plus 1; 0 for none
+-- the rank of what was found, a number plus 1
 abbrev rankBy : (ℕ → ℕ) → ℕ → ℕ
-rankBy day zero = 0
+rankBy day zero = noRank
 rankBy day (suc k) = rankOf day k
 
 found-earlier : (day : ℕ → ℕ) (t : Bool) (i r : ℕ) → found (pick t (earlier day i r) r) ≡ (t || found r)
@@ -101,25 +101,18 @@ rank-before day m n h l = go (ltb (rankOf day m) (rankOf day n)) refl
         (tested (isBefore day m n))
 
 -- of two ranks the lesser, and then the best so far
-better-two : (x y b : ℕ) → x ≢ 0 → better true y (better true x b) ≡ better true (pick (ltb y x) y x) b
+better-two : (x y b : ℕ) → better true y (better true x b) ≡ better true (pick (ltb y x) y x) b
 unfolding better
-better-two x y zero h = rw (ne-eqb x 0 h) (go (ltb y x))
+better-two x y b = go (ltb x b) (ltb y x) (ltb y b) refl refl refl
   where
-    go : (u : Bool) → pick u y x ≡ pick true (pick u y x) 0
-    go u = refl
-better-two x y (suc b) h =
-    let n : eqb (suc b) 0 ≡ false = ne-eqb (suc b) 0 (λ e. omega arith) in
-    rw n (go (ltb x (suc b)) (ltb y x) (ltb y (suc b)) refl refl refl)
-  where
-    go : (t u v : Bool) → ltb x (suc b) ≡ t → ltb y x ≡ u → ltb y (suc b) ≡ v
-        → pick (eqb (pick t x (suc b)) 0 || ltb y (pick t x (suc b))) y (pick t x (suc b))
-        ≡ pick (ltb (pick u y x) (suc b)) (pick u y x) (suc b)
-    go true true true e f g = rw (ne-eqb x 0 h, f, g)
+    go : (t u v : Bool) → ltb x b ≡ t → ltb y x ≡ u → ltb y b ≡ v
+        → pick (ltb y (pick t x b)) y (pick t x b) ≡ pick (ltb (pick u y x) b) (pick u y x) b
+    go true true true e f g = rw (f, g)
     go true true false e f g = absurd (omega tests)
-    go true false v e f g = rw (ne-eqb x 0 h, e, f)
-    go false true v e f g = rw (ne-eqb (suc b) 0 (λ z. omega arith), g)
+    go true false v e f g = rw (e, f)
+    go false true v e f g = rw g
     go false false true e f g = absurd (omega tests)
-    go false false false e f g = rw (ne-eqb (suc b) 0 (λ z. omega arith), e, g)
+    go false false false e f g = rw (e, g)
 
 module _ (day : ℕ → ℕ) (p : ℕ → Bool) where
   -- number i by its test t, what was found after it, and the best so far
@@ -127,9 +120,9 @@ module _ (day : ℕ → ℕ) (p : ℕ → Bool) where
       → better (found r) (rankBy day r) (better t (rankOf day i) b)
       ≡ better (found (pick t (earlier day i r) r)) (rankBy day (pick t (earlier day i r) r)) b
   rank-here false i r b h l = rw (better-unless false (rankOf day i) b refl)
-  rank-here true i zero b h l = better-unless false 0 _ refl
+  rank-here true i zero b h l = better-unless false noRank _ refl
   rank-here true i (suc m) b h l =
-      better-two (rankOf day i) (rankOf day m) b (λ e. let a = rank-above day i in omega arith)
+      better-two (rankOf day i) (rankOf day m) b
       ∙ go (isBefore day m i) (rank-before day m i (omega arith) h)
     where
       go : (u : Bool) → u ≡ ltb (rankOf day m) (rankOf day i)
@@ -147,40 +140,45 @@ module _ (day : ℕ → ℕ) (p : ℕ → Bool) where
       least-from (better (p i) (rankOf day i) b) (suc i) n (omega arith)
       ∙ rank-here (p i) i (oldestOf day p (suc i) n) b (omega arith) (omega arith)
 
-  least-all : (n : ℕ) → n ≤ 65536 → leastFrom day p 0 0 n ≡ rankBy day (oldestOf day p 0 n)
-  unfolding better
-  least-all n h = least-from 0 0 n (omega arith) ∙ go (oldestOf day p 0 n)
-    where
-      go : (r : ℕ) → better (found r) (rankBy day r) 0 ≡ rankBy day r
-      go zero = refl
-      go (suc k) = refl
-
   number-by : (r : ℕ) → r < 65536 → rankBy day r % 65536 ≡ r
   unfolding rankOf
   number-by zero h = refl
   number-by (suc k) h = omega arith
 
-  rank-found : (r : ℕ) → not (eqb (rankBy day r) 0) ≡ found r
-  rank-found zero = refl
-  rank-found (suc k) = rw (ne-eqb (rankOf day k) 0 (λ e. let a = rank-above day k in omega arith))
+  module _ (n : ℕ) (few : n < 65536) (days : (k : ℕ) → day k < 2 ^ 32) where
+    rank-some : (k : ℕ) → k < n → rankOf day k < noRank
+    unfolding rankOf
+    rank-some k h = let d = days k in omega arith
 
-  -- the number, plus 1, of the least rank of n: it is one of them
-  pub least-number : (n : ℕ) → n < 65536 → leastFrom day p 0 0 n % 65536 ≤ n
-  least-number n h =
-      let l = of-below day p 0 n in
-      rw (least-all n (omega arith), number-by (oldestOf day p 0 n) (omega arith)) (omega arith)
+    least-all : leastFrom day p noRank 0 n ≡ rankBy day (oldestOf day p 0 n)
+    least-all = least-from noRank 0 n (omega arith) ∙ go (oldestOf day p 0 n) (of-below day p 0 n)
+      where
+        go : (r : ℕ) → r ≤ 0 + n → better (found r) (rankBy day r) noRank ≡ rankBy day r
+        go zero h = better-unless false noRank noRank refl
+        go (suc k) h = better-taken true (rankOf day k) noRank refl (rank-some k (omega arith))
 
-  -- and the oldest in the list
-  pub least-oldest : (g : ℕ → Message) (f : ℕ → Message → Bool) → ((k : ℕ) → f k (g k) ≡ p k) → (other : ℕ → ℕ) (n : ℕ)
-      → n < 65536 → ((k : ℕ) → k < n → day k ≡ other k)
-      → leastFrom day p 0 0 n % 65536 ≡ oldest other f 0 (listFrom g 0 n)
-  least-oldest g f h other n l e =
-      let m = of-below day p 0 n in
-      ap (λ x. x % 65536) (least-all n (omega arith)) ∙ number-by (oldestOf day p 0 n) (omega arith)
-      ∙ same-days day p other 0 n n e (omega arith) ∙ of-list other p g f h 0 n
+    rank-found : (r : ℕ) → r ≤ 0 + n → not (eqb (rankBy day r) noRank) ≡ found r
+    rank-found zero h = refl
+    rank-found (suc k) h =
+        rw (ne-eqb (rankOf day k) noRank (λ e. let a = rank-some k (omega arith) in omega arith))
 
-  pub least-found : (g : ℕ → Message) (f : Message → Bool) → ((k : ℕ) → f (g k) ≡ p k) → (n : ℕ) → n < 65536
-      → not (eqb (leastFrom day p 0 0 n) 0) ≡ someMessage f (listFrom g 0 n)
-  least-found g f h n l =
-      ap (λ x. not (eqb x 0)) (least-all n (omega arith)) ∙ rank-found (oldestOf day p 0 n)
-      ∙ of-found day p g f h 0 n
+    -- the number, plus 1, of the least rank: it is one of them
+    pub least-number : leastFrom day p noRank 0 n % 65536 ≤ n
+    least-number =
+        let l = of-below day p 0 n in
+        rw (least-all, number-by (oldestOf day p 0 n) (omega arith)) (omega arith)
+
+    -- and the oldest in the list
+    pub least-oldest : (g : ℕ → Message) (f : ℕ → Message → Bool) → ((k : ℕ) → f k (g k) ≡ p k) → (other : ℕ → ℕ)
+        → ((k : ℕ) → k < n → day k ≡ other k)
+        → leastFrom day p noRank 0 n % 65536 ≡ oldest other f 0 (listFrom g 0 n)
+    least-oldest g f h other e =
+        let m = of-below day p 0 n in
+        ap (λ x. x % 65536) least-all ∙ number-by (oldestOf day p 0 n) (omega arith)
+        ∙ same-days day p other 0 n n e (omega arith) ∙ of-list other p g f h 0 n
+
+    pub least-found : (g : ℕ → Message) (f : Message → Bool) → ((k : ℕ) → f (g k) ≡ p k)
+        → not (eqb (leastFrom day p noRank 0 n) noRank) ≡ someMessage f (listFrom g 0 n)
+    least-found g f h =
+        ap (λ x. not (eqb x noRank)) least-all ∙ rank-found (oldestOf day p 0 n) (of-below day p 0 n)
+        ∙ of-found day p g f h 0 n

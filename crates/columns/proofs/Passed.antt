@@ -10,7 +10,7 @@ use borrow.Author.Tests.{ne-eqb}
 use Rattle.columns.specs.declared.Want as DW
 use Rattle.columns.specs.Columns.{Passed}
 use Rattle.columns.specs.Firsts.{ofKind, eligible}
-use Rattle.columns.specs.Ranks.{dayIn, leastFrom}
+use Rattle.columns.specs.Ranks.{dayIn, noRank, leastFrom}
 use Rattle.columns.proofs.Walks.{kind-skip}
 
 -- no message is below number 0
@@ -34,9 +34,9 @@ consumed-kind channels statuses wanted status k e h =
 pub passed-skip : (channels keys units statuses : List ℕ) (want : DW.Want) (chosen : List ℕ) (start n : ℕ)
     → Passed start n statuses → want .status < 3
     → let q = eligible channels keys units statuses want chosen in
-    leastFrom (dayIn keys) q 0 0 n ≡ leastFrom (dayIn keys) q 0 start (n - start)
+    leastFrom (dayIn keys) q noRank 0 n ≡ leastFrom (dayIn keys) q noRank start (n - start)
 passed-skip channels keys units statuses want chosen start n p h =
     let z : n ≡ n - 0 = omega arith in
-    ap (leastFrom (dayIn keys) _ 0 0) z
-    ∙ kind-skip channels keys units statuses want chosen 0 0 start n (omega arith) (p .within)
+    ap (leastFrom (dayIn keys) _ noRank 0) z
+    ∙ kind-skip channels keys units statuses want chosen noRank 0 start n (omega arith) (p .within)
     (λ k l m. consumed-kind channels statuses (want .channel) (want .status) k (p .consumed k m) h)

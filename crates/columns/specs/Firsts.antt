@@ -2,7 +2,7 @@
 use mathlib.Core.Path.{_≡_}
 use mathlib.Core.Bool.{Bool, true, false, _&&_, not}
 use mathlib.Core.List.{List}
-use Prim.Native.Nat.{ℕ, zero, suc, _+_}
+use Prim.Native.Nat.{ℕ, zero, suc, _+_, _%_, _<_, _≤_}
 use lib.Dec.{eqb, ltb}
 use lib.ListN.{getD}
 use Rattle.model.specs.Basics.{isIn, pick}
@@ -22,6 +22,10 @@ abbrev pub found : ℕ → Bool
 found zero = false
 found (suc k) = true
 
+-- whole blocks of 64 are passed over, from number i up to j: none of their numbers passes
+abbrev pub Skipped : (ℕ → Bool) → ℕ → ℕ → Type 0
+Skipped p i j = (i ≤ j) × (j ≤ 1024) × (j % 64 ≡ 0) × ((k : ℕ) → i ≤ k → k < j → p k ≡ false)
+
 -- message k is of the channel and of the status
 unfoldable pub ofKind : List ℕ → List ℕ → ℕ → ℕ → ℕ → Bool
 ofKind channels statuses wanted status k = eqb (getD channels k 0) wanted && eqb (getD statuses k 0) status
@@ -30,9 +34,9 @@ ofKind channels statuses wanted status k = eqb (getD channels k 0) wanted && eqb
 unfoldable pub ofProperty : List ℕ → ℕ → ℕ → Bool
 ofProperty keys property k = eqb (getD keys k 0) property
 
--- message k has the unit
-unfoldable pub ofUnit : List ℕ → ℕ → ℕ → Bool
-ofUnit units unit k = eqb (getD units k 0) unit
+-- message k has the property and the unit
+unfoldable pub ofBoth : List ℕ → List ℕ → ℕ → ℕ → ℕ → Bool
+ofBoth keys units property unit k = eqb (getD keys k 0) property && eqb (getD units k 0) unit
 
 -- message k is of a day before that day
 unfoldable pub ofDayBefore : List ℕ → ℕ → ℕ → Bool
@@ -43,14 +47,19 @@ unfoldable pub isLike : List ℕ → List ℕ → DW.Want → ℕ → Bool
 isLike keys units want k =
     agrees (equalityIn (want .equal)) (eqb (getD keys k 0) (want .property)) (eqb (getD units k 0) (want .unit))
 
--- message k is like what is wanted, and is not chosen
-unfoldable pub taking : List ℕ → List ℕ → DW.Want → List ℕ → ℕ → Bool
-taking keys units want chosen k = isLike keys units want k && not (isIn k chosen)
+-- message k fits: it is of the channel and of the status, and like what is wanted
+unfoldable pub fitting : List ℕ → List ℕ → List ℕ → List ℕ → DW.Want → ℕ → Bool
+fitting channels keys units statuses want k =
+    ofKind channels statuses (want .channel) (want .status) k && isLike keys units want k
 
--- message k is of the channel and of the status, and is to be taken
+-- message k is not chosen
+unfoldable pub unchosen : List ℕ → ℕ → Bool
+unchosen chosen k = not (isIn k chosen)
+
+-- message k fits, and is not chosen
 unfoldable pub eligible : List ℕ → List ℕ → List ℕ → List ℕ → DW.Want → List ℕ → ℕ → Bool
 eligible channels keys units statuses want chosen k =
-    ofKind channels statuses (want .channel) (want .status) k && taking keys units want chosen k
+    fitting channels keys units statuses want k && unchosen chosen k
 
 -- rule 4.2: want is what chord c wants to be equal of a message beside one like s
 pub record Wants (want : DW.Want) (c : Chord) (s : Sent) : Type 0 where

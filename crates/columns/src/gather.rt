@@ -1,25 +1,36 @@
-// Sixty-four messages' yes or no as a word, a bit each.
+// Sixty-four messages' yes or no as a word, a bit each: whether it fits.
 ghost use mathlib.Core.Path.{_≡_};
 ghost use Prim.Native.Nat.{ℕ, _+_, _%_, _^_, _<_, _≤_};
 ghost use lib.ListN.{length, getD};
-ghost use Rattle.columns.specs.Firsts.{ofKind};
-ghost use Rattle.columns.specs.Words.{bit, wordFrom, placed, Marks, wordOf};
+ghost use Rattle.columns.specs.Firsts.{firstFrom, found, fitting};
+ghost use Rattle.columns.specs.Words.{bit, isOne, wordFrom, placed, Marks, wordOf};
+use crate::Want;
+use crate::fit;
 
-// Sixty-four messages' yes or no, a byte each at its place among eight: message at + i is of the channel and of the
-// status.
-fn marks(channels: &[u8], statuses: &[u8], at: usize, wanted: u8, status: u8) -> [u8; 64]
-    requires { ⌜ (at + 64 ≤ length (now channels)) × (at + 64 ≤ length (now statuses)) ⌝ }
-    ensures { λ r. ⌜ ((k : ℕ) → k < 64
-        → getD r k 0 ≡ placed (ofKind (now (channels .entry)) (now (statuses .entry)) wanted status (at + k)) k) ⌝ }
+// One of the bytes is 1.
+fn any_one(y: &[u8; 64]) -> bool
+    ensures { λ r. ⌜ r ≡ found (firstFrom (isOne (now (y .entry))) 0 64) ⌝ }
 {
-    let mut y = [0u8; 64];
+    let mut any = false;
     let mut i = 0;
     while i < 64 {
-        let yes = (channels[at + i] == wanted) & (statuses[at + i] == status);
-        y[i] = (yes as u8) << (i % 8);
+        any = any | (y[i] == 1);
         i += 1;
     }
-    y
+    any
+}
+
+// Of each byte whether it is 1, at its place among eight.
+fn marks(y: &[u8; 64]) -> [u8; 64]
+    ensures { λ r. ⌜ ((k : ℕ) → k < 64 → getD r k 0 ≡ placed (isOne (now (y .entry)) k) k) ⌝ }
+{
+    let mut z = [0u8; 64];
+    let mut i = 0;
+    while i < 64 {
+        z[i] = ((y[i] == 1) as u8) << (i % 8);
+        i += 1;
+    }
+    z
 }
 
 // Eight of such bytes, from number `at` on, as a byte.
@@ -57,14 +68,27 @@ fn word_of(y: &[u8; 64]) -> u64
     w
 }
 
-// Sixty-four messages' yes or no as a word: bit i is whether message at + i is of the channel and of the status.
-pub fn word_at(channels: &[u8], statuses: &[u8], at: usize, wanted: u8, status: u8) -> u64
-    requires { ⌜ (at + 64 ≤ length (now channels)) × (at + 64 ≤ length (now statuses)) ⌝ }
-    ensures { λ r. ⌜ r ≡ wordFrom
-        (λ k. bit (ofKind (now (channels .entry)) (now (statuses .entry)) wanted status k)) at 64 ⌝ }
+// Sixty-four messages' yes or no as a word: bit i is whether message at + i fits. That it is 0 is told before it is
+// made.
+pub fn word_at(
+    channels: &[u8],
+    keys: &[u32],
+    units: &[u16],
+    statuses: &[u8],
+    at: usize,
+    want: Want,
+) -> u64
+    requires { ⌜ (at + 64 ≤ length (now channels)) × (at + 64 ≤ length (now keys))
+        × (at + 64 ≤ length (now units)) × (at + 64 ≤ length (now statuses)) ⌝ }
+    ensures { λ r. ⌜ r ≡ wordFrom (λ k. bit (fitting (now (channels .entry)) (now (keys .entry)) (now (units .entry))
+        (now (statuses .entry)) want k)) at 64 ⌝ }
 {
-    let y = marks(channels, statuses, at, wanted, status);
-    word_of(&y)
+    let y = fit::bytes_at(channels, keys, units, statuses, at, want);
+    if !any_one(&y) {
+        return 0;
+    }
+    let z = marks(&y);
+    word_of(&z)
 }
 
 // The lowest n of a word's bits.

@@ -1,17 +1,18 @@
 // What a look reads of the lent messages: a column for each field, the first n messages of them.
+mod clear;
+mod fit;
 mod gather;
 mod skip;
 mod weigh;
 
 ghost use mathlib.Core.Path.{_≡_};
 ghost use Prim.Native.Nat.{_+_, _-_, _%_, _<_, _≤_};
-ghost use mathlib.Core.Bool.{false};
 ghost use Rattle.model.specs.Tables.{Chord};
 ghost use Rattle.model.specs.Boards.{Sent};
 ghost use Rattle.model.specs.Looks.{isFree, oldest, someClaimed, dayAt};
 ghost use Rattle.columns.specs.Columns.{Lent, Passed, Others, boardBy};
 ghost use Rattle.columns.specs.Firsts.{eligible, Wants};
-ghost use Rattle.columns.specs.Ranks.{dayIn, isFirst, leastFrom, RankBelow};
+ghost use Rattle.columns.specs.Ranks.{dayIn, noRank, leastFrom, RankBelow};
 use table::Equality;
 
 // What is sought for a member of a chord: a message of the channel and of the status, and of the property and the unit
@@ -27,6 +28,9 @@ pub struct Want {
 // Where the days begin among the keys.
 pub const DAYS: usize = 1024;
 
+// No message's rank, above them all.
+pub const NO_RANK: u64 = 281474976710656;
+
 // The best rank so far, or the least of the eligible messages of a block, by its word; the block is passed over where
 // none of it is worth a visit.
 fn in_block(
@@ -40,26 +44,22 @@ fn in_block(
     best: u64,
     chosen: &[u16],
 ) -> u64
-    requires { ⌜ (from ≤ to) × (to ≤ from + 64) × (from + 64 ≤ 1024) × (isFirst best ≡ false) ⌝ }
+    requires { ⌜ (from ≤ to) × (to ≤ from + 64) × (from + 64 ≤ 1024) × (65536 ≤ best) ⌝ }
     requires { ⌜ Lent to (now channels) (now keys) (now units) (now statuses) ⌝ }
     requires { ⌜ RankBelow (dayIn (now keys)) from best ⌝ }
     ensures { λ r. ⌜ r ≡ leastFrom (dayIn (now (keys .entry))) (eligible (now (channels .entry)) (now (keys .entry))
         (now (units .entry)) (now (statuses .entry)) want (now (chosen .entry))) best from (to - from) ⌝ }
 {
     let at = from as usize;
-    if !skip::is_worth(keys, units, at, want, best) {
+    if !skip::is_worth(keys, at, best) {
         return best;
     }
-    let w = gather::word_at(channels, statuses, at, want.channel, want.status);
-    weigh::least_of(
-        keys,
-        units,
-        gather::low_bits(w, to - from),
-        from,
-        want,
-        best,
-        chosen,
-    )
+    let w = gather::word_at(channels, keys, units, statuses, at, want);
+    if w == 0 {
+        return best;
+    }
+    let u = clear::without_chosen(w, at, chosen);
+    weigh::least_of(keys, gather::low_bits(u, to - from), at, best)
 }
 
 // The least rank of the eligible of the first n messages, block by block from number `from` on, where a block begins.
@@ -75,18 +75,18 @@ fn by_blocks(
 ) -> u64
     requires { ⌜ (from ≤ n) × (from % 64 ≡ 0) × Lent n (now channels) (now keys) (now units) (now statuses) ⌝ }
     ensures { λ r. ⌜ r ≡ leastFrom (dayIn (now (keys .entry))) (eligible (now (channels .entry)) (now (keys .entry))
-        (now (units .entry)) (now (statuses .entry)) want (now (chosen .entry))) 0 from (n - from) ⌝ }
+        (now (units .entry)) (now (statuses .entry)) want (now (chosen .entry))) noRank from (n - from) ⌝ }
 {
-    let mut b: u64 = 0;
+    let mut b = NO_RANK;
     let mut at = from;
     while at < n {
-        let k = skip::next_block(channels, statuses, at, n, want.channel, want.status);
+        let k = skip::block_from(channels, statuses, at, n, want, b);
         if n <= k {
             return b;
         }
         let to = skip::block_end(k, n);
         b = in_block(channels, keys, units, statuses, k, to, want, b, chosen);
-        if (b != 0) & (b < 65536) {
+        if b < 65536 {
             return b;
         }
         at = to;
@@ -108,9 +108,9 @@ fn least(
     requires { ⌜ Lent n (now channels) (now keys) (now units) (now statuses) ⌝ }
     requires { ⌜ Passed start n (now statuses) × (want .status < 3) ⌝ }
     ensures { λ r. ⌜ r ≡ leastFrom (dayIn (now (keys .entry))) (eligible (now (channels .entry)) (now (keys .entry))
-        (now (units .entry)) (now (statuses .entry)) want (now (chosen .entry))) 0 0 n ⌝ }
+        (now (units .entry)) (now (statuses .entry)) want (now (chosen .entry))) noRank 0 n ⌝ }
 {
-    if n - start <= 12 {
+    if n - start <= 24 {
         return weigh::least_in(channels, keys, units, statuses, start, n, want, chosen);
     }
     let from = start - start % 64;
@@ -166,5 +166,5 @@ pub fn some_claimed(
         want,
         &chosen[..0],
     );
-    b != 0
+    b != NO_RANK
 }

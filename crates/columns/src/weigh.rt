@@ -1,14 +1,14 @@
 // The least rank of messages that are tried one by one, or by the bits of a word.
 ghost use mathlib.Core.Path.{_≡_};
 ghost use Prim.Native.Nat.{_+_, _-_, _<_, _≤_};
-ghost use mathlib.Core.Bool.{false};
 ghost use lib.ListN.{length};
 ghost use Rattle.model.specs.Basics.{isIn};
 ghost use Rattle.columns.specs.Columns.{Lent, daysAt};
-ghost use Rattle.columns.specs.Firsts.{isLike, taking, eligible};
-ghost use Rattle.columns.specs.Ranks.{dayIn, rankOf, better, isFirst, leastFrom};
+ghost use Rattle.columns.specs.Firsts.{isLike, unchosen, eligible};
+ghost use Rattle.columns.specs.Ranks.{dayIn, rankOf, noRank, better, leastFrom};
 ghost use Rattle.columns.specs.Words.{leastBit};
 use crate::DAYS;
+use crate::NO_RANK;
 use crate::Want;
 use table::Equality;
 
@@ -26,22 +26,36 @@ fn is_in(x: u16, s: &[u16]) -> bool
     false
 }
 
-// A message's rank in the order of days and numbers, never 0.
-fn rank(keys: &[u32], n: u16) -> u64
-    requires { ⌜ daysAt + n < length (now keys) ⌝ }
-    ensures { λ r. ⌜ r ≡ rankOf (dayIn (now (keys .entry))) n ⌝ }
+// A message's rank in the order of days and numbers.
+fn rank(keys: &[u32], k: usize) -> u64
+    requires { ⌜ (daysAt + k < length (now keys)) × (k < 1024) ⌝ }
+    ensures { λ r. ⌜ r ≡ rankOf (dayIn (now (keys .entry))) k ⌝ }
 {
-    let k = n as usize;
     let day = keys[DAYS + k];
-    (day as u64) * 65536 + ((n as u64) + 1)
+    (day as u64) * 65536 + ((k as u64) + 1)
 }
 
-// Whether message n is like what is wanted.
-fn is_like(keys: &[u32], units: &[u16], n: u16, want: Want) -> bool
-    requires { ⌜ (n < length (now keys)) × (n < length (now units)) ⌝ }
-    ensures { λ r. ⌜ r ≡ isLike (now (keys .entry)) (now (units .entry)) want n ⌝ }
+// The best rank so far, or that of message k where it is not chosen and comes before it.
+fn weighed(keys: &[u32], k: usize, best: u64, chosen: &[u16]) -> u64
+    requires { ⌜ (daysAt + k < length (now keys)) × (k < 1024) ⌝ }
+    ensures { λ r. ⌜ r
+        ≡ better (unchosen (now (chosen .entry)) k) (rankOf (dayIn (now (keys .entry))) k) best ⌝ }
 {
-    let k = n as usize;
+    let r = rank(keys, k);
+    if best <= r {
+        return best;
+    }
+    if is_in(k as u16, chosen) {
+        return best;
+    }
+    r
+}
+
+// Whether message k is like what is wanted.
+fn is_like(keys: &[u32], units: &[u16], k: usize, want: Want) -> bool
+    requires { ⌜ (k < length (now keys)) × (k < length (now units)) ⌝ }
+    ensures { λ r. ⌜ r ≡ isLike (now (keys .entry)) (now (units .entry)) want k ⌝ }
+{
     let property = keys[k] == want.property;
     let unit = units[k] == want.unit;
     let equal = want.equal;
@@ -52,26 +66,7 @@ fn is_like(keys: &[u32], units: &[u16], n: u16, want: Want) -> bool
     }
 }
 
-// The best rank so far, or that of message n where it is to be taken and comes before it; 0 is none.
-fn weighed(keys: &[u32], units: &[u16], n: u16, want: Want, best: u64, chosen: &[u16]) -> u64
-    requires { ⌜ (daysAt + n < length (now keys)) × (n < length (now units)) ⌝ }
-    ensures { λ r. ⌜ r ≡ better (taking (now (keys .entry)) (now (units .entry)) want (now (chosen .entry)) n)
-        (rankOf (dayIn (now (keys .entry))) n) best ⌝ }
-{
-    if !is_like(keys, units, n, want) {
-        return best;
-    }
-    let r = rank(keys, n);
-    if !((best == 0) | (r < best)) {
-        return best;
-    }
-    if is_in(n, chosen) {
-        return best;
-    }
-    r
-}
-
-// The same where message n is of the channel and of the status as well.
+// The same where message n is of the channel and of the status, and like what is wanted.
 fn judged(
     channels: &[u8],
     keys: &[u32],
@@ -82,8 +77,7 @@ fn judged(
     best: u64,
     chosen: &[u16],
 ) -> u64
-    requires { ⌜ (n < length (now channels)) × (n < length (now statuses)) ⌝ }
-    requires { ⌜ (daysAt + n < length (now keys)) × (n < length (now units)) ⌝ }
+    requires { ⌜ (n < 1024) × Lent n (now channels) (now keys) (now units) (now statuses) ⌝ }
     ensures { λ r. ⌜ r ≡ better (eligible (now (channels .entry)) (now (keys .entry)) (now (units .entry))
         (now (statuses .entry)) want (now (chosen .entry)) n) (rankOf (dayIn (now (keys .entry))) n) best ⌝ }
 {
@@ -91,7 +85,10 @@ fn judged(
     if !((channels[k] == want.channel) & (statuses[k] == want.status)) {
         return best;
     }
-    weighed(keys, units, n, want, best, chosen)
+    if !is_like(keys, units, k, want) {
+        return best;
+    }
+    weighed(keys, k, best, chosen)
 }
 
 // The least rank of the eligible messages of the numbers `from` up to `n`, one by one; none after one of day 0 comes
@@ -108,13 +105,13 @@ pub fn least_in(
 ) -> u64
     requires { ⌜ (from ≤ n) × Lent n (now channels) (now keys) (now units) (now statuses) ⌝ }
     ensures { λ r. ⌜ r ≡ leastFrom (dayIn (now (keys .entry))) (eligible (now (channels .entry)) (now (keys .entry))
-        (now (units .entry)) (now (statuses .entry)) want (now (chosen .entry))) 0 from (n - from) ⌝ }
+        (now (units .entry)) (now (statuses .entry)) want (now (chosen .entry))) noRank from (n - from) ⌝ }
 {
-    let mut b: u64 = 0;
+    let mut b = NO_RANK;
     let mut i = from;
     while i < n {
         b = judged(channels, keys, units, statuses, i, want, b, chosen);
-        if (b != 0) & (b < 65536) {
+        if b < 65536 {
             return b;
         }
         i += 1;
@@ -123,27 +120,20 @@ pub fn least_in(
 }
 
 // The best rank so far, or the least of the messages of a word, by its bits.
-pub fn least_of(
-    keys: &[u32],
-    units: &[u16],
-    word: u64,
-    at: u16,
-    want: Want,
-    best: u64,
-    chosen: &[u16],
-) -> u64
-    requires { ⌜ (at + 64 ≤ 1024) × (daysAt + (at + 64) ≤ length (now keys)) × (at + 64 ≤ length (now units)) ⌝ }
-    requires { ⌜ isFirst best ≡ false ⌝ }
-    ensures { λ r. ⌜ r ≡ leastBit (dayIn (now (keys .entry)))
-        (taking (now (keys .entry)) (now (units .entry)) want (now (chosen .entry))) word best at 64 ⌝ }
+pub fn least_of(keys: &[u32], word: u64, at: usize, best: u64) -> u64
+    requires { ⌜ (at + 64 ≤ 1024) × (daysAt + (at + 64) ≤ length (now keys)) × (65536 ≤ best) ⌝ }
+    ensures { λ r. ⌜ r ≡ leastBit (dayIn (now (keys .entry))) word best at 64 ⌝ }
 {
     let mut b = best;
     let mut w = word;
     while w != 0 {
         let t = u64::trailing_zeros(w);
-        b = weighed(keys, units, at + (t as u16), want, b, chosen);
-        if (b != 0) & (b < 65536) {
-            return b;
+        let r = rank(keys, at + (t as usize));
+        if r < b {
+            if r < 65536 {
+                return r;
+            }
+            b = r;
         }
         w = w & (w - 1);
     }

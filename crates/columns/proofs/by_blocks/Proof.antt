@@ -6,7 +6,7 @@ use Prim.Native.Nat.{ℕ, _-_, _%_, _<_, _≤_}
 use native.Mathlib.Omega.{arith}
 use borrow.Author.Needs.{needs}
 use Rattle.columns.specs.Firsts.{eligible}
-use Rattle.columns.specs.Ranks.{dayIn, isFirst, leastFrom, RankBelow}
+use Rattle.columns.specs.Ranks.{dayIn, noRank, leastFrom, RankBelow}
 use Rattle.columns.proofs.Blocks.{below-more, block-below}
 use Rattle.columns.proofs.Messages.{lent-less}
 use Rattle.columns.proofs.Ranks.{least-here, least-later, least-end}
@@ -16,8 +16,8 @@ use Rattle.columns.proofs.by_blocks.Tie as tie
 
 abbrev Inv-loop : tie.InvT-loop
 Inv-loop channels keys units statuses from n want chosen b₀ at₀ b at =
-    (at ≤ n) × (at < n → at % 64 ≡ 0) × (isFirst b ≡ false) × RankBelow (dayIn keys) at b
-    × (leastFrom (dayIn keys) (eligible channels keys units statuses want chosen) 0 from (n - from)
+    (at ≤ n) × (at < n → at % 64 ≡ 0) × (65536 ≤ b) × RankBelow (dayIn keys) at b
+    × (leastFrom (dayIn keys) (eligible channels keys units statuses want chosen) noRank from (n - from)
     ≡ leastFrom (dayIn keys) (eligible channels keys units statuses want chosen) b at (n - at))
 
 abbrev μ-loop : tie.MeasureT-loop
@@ -26,7 +26,7 @@ abbrev μ-loop : tie.MeasureT-loop
 abbrev start : tie.At-loop Inv-loop μ-loop → tie.Start Inv-loop μ-loop
 start p = p .before .before .before .before .before .before
 
-abbrev loop : tie.After-next-block Inv-loop μ-loop → tie.At-loop Inv-loop μ-loop
+abbrev loop : tie.After-block-from Inv-loop μ-loop → tie.At-loop Inv-loop μ-loop
 loop c = c .before .before
 
 -- the test that a look makes of a message's number
@@ -36,33 +36,33 @@ passes s =
     eligible (a .channels .now) (a .keys .now) (a .units .now) (a .statuses .now) (a .want) (a .chosen .now)
 
 -- none up to number j, where no block before it has a message of the channel and of the status
-passed : (c : tie.After-next-block Inv-loop μ-loop) (j : ℕ) → let p = loop c in
+passed : (c : tie.After-block-from Inv-loop μ-loop) (j : ℕ) → let p = loop c in
     let a = start p .args in
-    p .loop .at ≤ j → j ≤ a .n → j ≤ c .next-block .result
-    → leastFrom (dayIn (a .keys .now)) (passes (start p)) 0 (a .from) (a .n - a .from)
+    p .loop .at ≤ j → j ≤ a .n → j ≤ c .block-from .result
+    → leastFrom (dayIn (a .keys .now)) (passes (start p)) noRank (a .from) (a .n - a .from)
     ≡ leastFrom (dayIn (a .keys .now)) (passes (start p)) (p .loop .b) j (a .n - j)
 passed c j h l m =
     let p = loop c in
     let a = start p .args in
     p .loop .inv .4
     ∙ kind-skip (a .channels .now) (a .keys .now) (a .units .now) (a .statuses .now) (a .want) (a .chosen .now)
-    (p .loop .b) (p .loop .at) j (a .n) h l (λ k x y. c .next-block .ensures .0 .3 k x (omega arith))
+    (p .loop .b) (p .loop .at) j (a .n) h l (λ k x y. c .block-from .ensures .3 k x (omega arith))
 
 -- the best so far is a message's before the block
-below : (c : tie.After-next-block Inv-loop μ-loop) → let p = loop c in
-    RankBelow (dayIn (start p .args .keys .now)) (c .next-block .result) (p .loop .b)
+below : (c : tie.After-block-from Inv-loop μ-loop) → let p = loop c in
+    RankBelow (dayIn (start p .args .keys .now)) (c .block-from .result) (p .loop .b)
 below c =
     let p = loop c in
-    below-more (dayIn (start p .args .keys .now)) (p .loop .at) (c .next-block .result) (p .loop .b)
-    (c .next-block .ensures .0 .0) (p .loop .inv .3)
+    below-more (dayIn (start p .args .keys .now)) (p .loop .at) (c .block-from .result) (p .loop .b)
+    (c .block-from .ensures .0) (p .loop .inv .3)
 
 loop-holds : tie.Need-loop-holds Inv-loop μ-loop
 loop-holds c =
     let s = c .before .before .before .before .before in
-    (s .pre .0, λ l. s .pre .1, refl, inl refl, refl)
+    (s .pre .0, λ l. s .pre .1, search needs, inl refl, refl)
 
-next-block-requires : tie.Need-next-block-requires Inv-loop μ-loop
-next-block-requires c κs =
+block-from-requires : tie.Need-block-from-requires Inv-loop μ-loop
+block-from-requires c κs =
     let p = c .before in
     let l = start p .pre .2 in
     ((p .loop .inv .1 (omega arith), search needs, l .few), (l .channels-all, l .statuses-all))
@@ -84,7 +84,7 @@ in-block-requires c κs =
     let p = loop k in
     let s = start p in
     let l = s .pre .2 in
-    let m = k .next-block .ensures .0 .2 in (
+    let m = k .block-from .ensures .2 in (
       (search needs, search needs, omega (arith, l .few), p .loop .inv .2),
       (lent-less (c .block-end .result) (s .args .n) (omega arith) l, below k),
     )
@@ -96,8 +96,8 @@ returns-2 c =
     let k = e .before .before in
     let p = loop k in
     let a = start p .args in
-    sym (passed k (k .next-block .result) (omega arith) (omega arith) (omega arith)
-    ∙ least-here (dayIn (a .keys .now)) _ (p .loop .b) (k .next-block .result) (e .block-end .result) (a .n)
+    sym (passed k (k .block-from .result) (omega arith) (omega arith) (omega arith)
+    ∙ least-here (dayIn (a .keys .now)) _ (p .loop .b) (k .block-from .result) (e .block-end .result) (a .n)
     (f .in-block .result) (omega arith) (omega arith) (f .in-block .ensures) (p .loop .inv .2) (c .if2 .taken))
 
 loop-less : tie.Need-loop-less Inv-loop μ-loop
@@ -110,8 +110,8 @@ loop-again c =
     let k = e .before .before in
     let p = loop k in
     let a = start p .args in
-    let at = k .next-block .result in
-    let m = k .next-block .ensures .0 .2 in (
+    let at = k .block-from .result in
+    let m = k .block-from .ensures .2 in (
       search needs,
       λ l. ⊎-elim (λ z. absurd (omega arith)) (λ z. omega arith) (e .block-end .ensures .3),
       c .if2 .left,
@@ -135,7 +135,7 @@ by-blocks-spec =
     Inv-loop
     μ-loop
     loop-holds
-    next-block-requires
+    block-from-requires
     returns
     block-end-requires
     in-block-requires

@@ -1,33 +1,30 @@
 -- `columns::gather::marks` meets its contract: the bytes below i are written.
 use mathlib.Core.Path.{_≡_}
-use Prim.Native.Nat.{ℕ, _+_, _-_, _<_, _≤_}
+use Prim.Native.Nat.{ℕ, _-_, _<_, _≤_}
 use native.Mathlib.Omega.{arith}
 use lib.ListN.{length, getD}
 use borrow.Author.Needs.{needs}
-use Rattle.columns.specs.Firsts.{ofKind}
-use Rattle.columns.specs.Words.{bit, placed}
 use Rattle.model.proofs.Walks.{set-more}
+use Rattle.columns.specs.Words.{bit, isOne, placed}
 use Rattle.columns.proofs.Bytes.{placed-is}
 use Rattle.columns.proofs.gather.marks.Statement.{statement}
 use Rattle.columns.proofs.gather.marks.Tie as tie
 
 abbrev Inv-loop : tie.InvT-loop
-Inv-loop channels statuses at wanted status y₀ i₀ y i =
-    (i ≤ 64) × (length y ≡ 64)
-    × ((k : ℕ) → k < i → getD y k 0 ≡ placed (ofKind channels statuses wanted status (at + k)) k)
+Inv-loop y z₀ i₀ z i = (i ≤ 64) × (length z ≡ 64) × ((k : ℕ) → k < i → getD z k 0 ≡ placed (isOne y k) k)
 
 abbrev μ-loop : tie.MeasureT-loop
-μ-loop channels statuses at wanted status y₀ i₀ y i = 64 - i
+μ-loop y z₀ i₀ z i = 64 - i
 
 loop-again : tie.Need-loop-again Inv-loop μ-loop
-unfolding bit ofKind
+unfolding bit isOne
 loop-again c =
-    let p = c .before .before .before in
+    let p = c .before .before in
     let a = p .before .args in (
       search needs,
       search needs,
-      set-more (λ k. placed (ofKind (a .channels .now) (a .statuses .now) (a .wanted) (a .status) (a .at + k)) k)
-          (p .loop .y) (p .loop .i) _ 0 (omega arith) (placed-is _ (p .loop .i)) (p .loop .inv .2),
+      set-more (λ k. placed (isOne (a .y .now) k) k) (p .loop .z) (p .loop .i) _ 0 (omega arith)
+          (placed-is _ (p .loop .i)) (p .loop .inv .2),
     )
 
 returns : tie.Need-returns Inv-loop μ-loop
@@ -39,9 +36,6 @@ marks-spec =
     (tie.spec
     Inv-loop
     μ-loop
-    (λ c. search needs)
-    (λ c. search needs)
-    (λ c. search needs)
     (λ c. search needs)
     (λ c. search needs)
     (λ c. search needs)

@@ -1,32 +1,23 @@
 -- `columns::skip::next_block` meets its contract: the blocks so far have no such message.
-use mathlib.Core.Bool.{false}
-use mathlib.Core.Logic.{inl, inr}
-use mathlib.Core.Path.{_≡_, sym, _∙_}
-use Prim.Native.Nat.{ℕ, _+_, _-_, _%_, _<_, _≤_}
+use mathlib.Core.Path.{sym, _∙_}
+use Prim.Native.Nat.{_+_, _-_}
 use native.Mathlib.Omega.{arith}
 use borrow.Author.Needs.{needs}
 use Rattle.model.proofs.Tests.{by-range}
-use Rattle.columns.specs.Firsts.{ofKind}
+use Rattle.columns.specs.Firsts.{Skipped, ofKind}
 use Rattle.columns.proofs.Firsts.{not-found, none-passes}
 use Rattle.columns.proofs.skip.next_block.Statement.{statement}
 use Rattle.columns.proofs.skip.next_block.Tie as tie
 
 abbrev Inv-loop : tie.InvT-loop
 Inv-loop channels statuses from n wanted status at₀ at =
-    (from ≤ at) × (at ≤ 1024) × (at % 64 ≡ 0)
-    × ((k : ℕ) → from ≤ k → k < at → ofKind channels statuses wanted status k ≡ false)
+    Skipped (ofKind channels statuses wanted status) from at
 
 abbrev μ-loop : tie.MeasureT-loop
 μ-loop channels statuses from n wanted status at₀ at = n - at
 
 loop-holds : tie.Need-loop-holds Inv-loop μ-loop
 loop-holds c = (search needs, search needs, search needs, λ k h l. absurd (omega arith))
-
-returns : tie.Need-returns Inv-loop μ-loop
-returns c =
-    let p = c .before .before .before in
-    let e : p .loop .at + 64 - p .loop .at ≡ 64 = omega arith in
-    (p .loop .inv, inr (rw (← e) (sym (c .before .any-in .ensures) ∙ c .if1 .taken)))
 
 loop-again : tie.Need-loop-again Inv-loop μ-loop
 loop-again c =
@@ -39,9 +30,6 @@ loop-again c =
       λ k h l. by-range k at (p .loop .inv .3 k h) (λ m. none k m (omega arith)),
     )
 
-returns-2 : tie.Need-returns-2 Inv-loop μ-loop
-returns-2 c = (c .before .loop .inv, inl (search needs))
-
 pub next-block-spec : {M : Type 1} → statement M
 next-block-spec =
     tie.close
@@ -52,8 +40,8 @@ next-block-spec =
     (λ c. search needs)
     (λ c. search needs)
     (λ c κs. search needs)
-    returns
+    (λ c. c .before .before .before .loop .inv)
     (λ c. search needs)
     (λ c. search needs)
     loop-again
-    returns-2)
+    (λ c. c .before .loop .inv))

@@ -5,15 +5,15 @@ use Prim.Native.Nat.{ℕ, _-_, _≤_}
 use native.Mathlib.Omega.{arith}
 use borrow.Author.Needs.{needs}
 use Rattle.columns.specs.Firsts.{eligible}
-use Rattle.columns.specs.Ranks.{dayIn, isFirst, leastFrom}
+use Rattle.columns.specs.Ranks.{dayIn, noRank, leastFrom}
 use Rattle.columns.proofs.Ranks.{least-step, least-end, least-first}
 use Rattle.columns.proofs.weigh.least_in.Statement.{statement}
 use Rattle.columns.proofs.weigh.least_in.Tie as tie
 
 abbrev Inv-loop : tie.InvT-loop
 Inv-loop channels keys units statuses from n want chosen b₀ i₀ b i =
-    (i ≤ n) × (isFirst b ≡ false)
-    × (leastFrom (dayIn keys) (eligible channels keys units statuses want chosen) 0 from (n - from)
+    (i ≤ n) × (65536 ≤ b)
+    × (leastFrom (dayIn keys) (eligible channels keys units statuses want chosen) noRank from (n - from)
     ≡ leastFrom (dayIn keys) (eligible channels keys units statuses want chosen) b i (n - i))
 
 abbrev μ-loop : tie.MeasureT-loop
@@ -29,7 +29,7 @@ passes s =
     eligible (a .channels .now) (a .keys .now) (a .units .now) (a .statuses .now) (a .want) (a .chosen .now)
 
 loop-holds : tie.Need-loop-holds Inv-loop μ-loop
-loop-holds c = (search needs, refl, refl)
+loop-holds c = (search needs, search needs, refl)
 
 returns : tie.Need-returns Inv-loop μ-loop
 returns c =

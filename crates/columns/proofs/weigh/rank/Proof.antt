@@ -8,7 +8,7 @@ use Rattle.columns.proofs.weigh.rank.Statement.{statement}
 use Rattle.columns.proofs.weigh.rank.Tie as tie
 
 returns : tie.Need-returns
-returns c = let a = c .before .args in rank-is (a .keys .now) (a .n) _ refl
+returns c = let a = c .before .args in rank-is (a .keys .now) (a .k) _ refl
 
 pub rank-spec : {M : Type 1} → statement M
 rank-spec =
@@ -17,8 +17,8 @@ rank-spec =
     (λ c. search needs)
     (λ c. search needs)
     (λ c. search needs)
-    (λ c. omega (arith, c .shared-slice-known .given (1024 + c .before .args .n)))
-    (λ c. omega (arith, c .shared-slice-known .given (1024 + c .before .args .n)))
+    (λ c. omega (arith, c .shared-slice-known .given (1024 + c .before .args .k)))
+    (λ c. omega (arith, c .shared-slice-known .given (1024 + c .before .args .k)))
     (λ c. search needs)
-    (λ c. omega (arith, c .shared-slice-known .given (1024 + c .before .args .n)))
+    (λ c. omega (arith, c .shared-slice-known .given (1024 + c .before .args .k)))
     returns)
