@@ -14,6 +14,7 @@ pub mod lists;
 pub mod look;
 pub mod merge;
 pub mod numbers;
+pub mod one_by_one;
 pub mod sound;
 pub mod step;
 pub mod table;

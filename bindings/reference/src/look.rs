@@ -1,4 +1,4 @@
-//! Finding messages: sixty-four at a time over the columns, then inside the sixty-four.
+//! Finding messages by words: of sixty-four messages a bit each, set where the message fits.
 
 use crate::board::{CLAIMED, Columns, MESSAGES, PENDING};
 use crate::table::Equality;
@@ -21,116 +21,110 @@ impl Columns {
         let mut best = NONE;
         for block in 0..blocks(count) {
             let may_be_older = best == NONE || any_before(part(&self.days, block), (best >> 16) as u32);
-            let is_first = may_be_older
-                && self.visit(block, count, wanted, PENDING, |message| {
-                    let key = self.key(message);
-                    if key < best && !chosen.contains(&message) {
-                        best = key;
-                    }
-                    best >> 16 == 0
-                });
-            if is_first {
-                break;
+            let word = if may_be_older { self.word(block, count, wanted, PENDING) } else { 0 };
+            if word != 0 {
+                best = self.oldest_of(block, word & !word_of(chosen, block), best);
+                if best >> 16 == 0 {
+                    break;
+                }
             }
         }
         (best != NONE).then_some(best as u16)
     }
 
     pub fn any_claimed(&self, count: u16, wanted: Wanted) -> bool {
-        (0..blocks(count)).any(|block| self.visit(block, count, wanted, CLAIMED, |_| true))
+        (0..blocks(count)).any(|block| self.word(block, count, wanted, CLAIMED) != 0)
     }
 
-    /// Shows the messages of a block that fit, in order, until one is enough; whether one was.
+    /// The least key, day and number as one number, of the best so far and of the word's messages.
     #[inline(always)]
-    fn visit(
-        &self,
-        block: usize,
-        count: u16,
-        wanted: Wanted,
-        status: u8,
-        mut is_enough: impl FnMut(u16) -> bool,
-    ) -> bool {
-        let (kinds, states) = (part(&self.channels, block), part(&self.statuses, block));
-        any_of_64(kinds, states, wanted.channel, status)
-            && self.may_have_alike(block, wanted)
-            && visit_64(kinds, states, wanted.channel, status, |at| {
-                let message = 64 * block as u16 + at;
-                message < count && self.is_alike(message, wanted) && is_enough(message)
-            })
+    fn oldest_of(&self, block: usize, mut word: u64, mut best: u64) -> u64 {
+        while word != 0 {
+            let message = 64 * block + word.trailing_zeros() as usize;
+            let key = u64::from(self.days[message]) << 16 | message as u64;
+            if key < best {
+                best = key;
+                if best >> 16 == 0 {
+                    break;
+                }
+            }
+            word &= word - 1;
+        }
+        best
     }
 
-    /// Whether one of the block has the wanted unit, and one the wanted property.
+    /// Which of the block's messages fit and have that status.
     #[inline(always)]
-    fn may_have_alike(&self, block: usize, wanted: Wanted) -> bool {
-        (wanted.equality != Equality::Unit || any_equal(part(&self.units, block), wanted.unit))
-            && (wanted.equality == Equality::Any || any_equal(part(&self.properties, block), wanted.property))
-    }
-
-    #[inline(always)]
-    fn is_alike(&self, message: u16, wanted: Wanted) -> bool {
-        let at = usize::from(message);
-        (wanted.equality == Equality::Any || self.properties[at] == wanted.property)
-            && (wanted.equality != Equality::Unit || self.units[at] == wanted.unit)
-    }
-
-    /// Day and number as one number.
-    fn key(&self, message: u16) -> u64 {
-        u64::from(self.days[message as usize]) << 16 | u64::from(message)
+    fn word(&self, block: usize, count: u16, wanted: Wanted, status: u8) -> u64 {
+        let mut fits = [255; 64];
+        keep_equal(&mut fits, part(&self.channels, block), wanted.channel);
+        keep_equal(&mut fits, part(&self.statuses, block), status);
+        if !any(&fits) {
+            return 0;
+        }
+        if wanted.equality != Equality::Any {
+            keep_equal(&mut fits, part(&self.properties, block), wanted.property);
+        }
+        if wanted.equality == Equality::Unit {
+            keep_equal(&mut fits, part(&self.units, block), wanted.unit);
+        }
+        if !any(&fits) {
+            return 0;
+        }
+        let counted = 64.min(usize::from(count) - 64 * block);
+        bits(&fits) & u64::MAX >> (64 - counted)
     }
 }
 
 fn blocks(count: u16) -> usize {
-    (count as usize).div_ceil(64)
+    usize::from(count).div_ceil(64)
 }
 
 fn part<T>(column: &[T; MESSAGES], block: usize) -> &[T; 64] {
     &column.as_chunks().0[block]
 }
 
-/// Whether one of the sixty-four has that channel and status.
-fn any_of_64(channels: &[u8; 64], statuses: &[u8; 64], channel: u8, status: u8) -> bool {
-    let mut any = 0;
-    for inside in 0..64 {
-        any |= u8::from(channels[inside] == channel) & u8::from(statuses[inside] == status);
+/// Keeps the bytes of the numbers that are equal to that one, sixteen at a time, as they fill a vector.
+#[inline(always)]
+fn keep_equal<T: Copy + PartialEq>(fits: &mut [u8; 64], numbers: &[T; 64], number: T) {
+    for (fits, &numbers) in fits.as_chunks_mut().0.iter_mut().zip(numbers.as_chunks().0) {
+        keep_equal_of_16(fits, numbers, number);
     }
-    any != 0
 }
 
-fn any_equal<T: Copy + PartialEq>(numbers: &[T; 64], number: T) -> bool {
-    numbers.iter().fold(false, |any, &other| any | (other == number))
+/// The numbers are a copy, which the compiler knows to lie apart from the bytes.
+#[inline(always)]
+fn keep_equal_of_16<T: Copy + PartialEq>(fits: &mut [u8; 16], numbers: [T; 16], number: T) {
+    for (fit, other) in fits.iter_mut().zip(numbers) {
+        *fit &= if other == number { 255 } else { 0 };
+    }
+}
+
+#[inline(always)]
+fn any(bytes: &[u8; 64]) -> bool {
+    bytes.iter().fold(0, |any, &byte| any | byte) != 0
+}
+
+/// A bit for each byte, which is 0 or 255: of eight bytes each keeps a bit of its own, and a product's top byte has the
+/// sum of them.
+#[inline(always)]
+fn bits(bytes: &[u8; 64]) -> u64 {
+    let mut word = 0;
+    for (at, eight) in bytes.as_chunks().0.iter().enumerate() {
+        let each_its_own = u64::from_le_bytes(*eight) & 0x8040_2010_0804_0201;
+        word |= each_its_own.wrapping_mul(0x0101_0101_0101_0101) >> 56 << (8 * at);
+    }
+    word
+}
+
+/// Those of the messages that are of the block.
+#[inline(always)]
+fn word_of(messages: &[u16], block: usize) -> u64 {
+    let of_block = messages.iter().filter(|&&message| usize::from(message) / 64 == block);
+    of_block.fold(0, |word, message| word | 1 << (message % 64))
 }
 
 /// Whether one of the days is before that day; without a way out, so that many are compared at a time.
 fn any_before(days: &[u32; 64], day: u32) -> bool {
     days.iter().fold(false, |any, &other| any | (other < day))
-}
-
-/// Shows those of the sixty-four with that channel and status, in order, eight bytes at a time, until one is enough.
-#[inline(always)]
-fn visit_64(
-    channels: &[u8; 64],
-    statuses: &[u8; 64],
-    channel: u8,
-    status: u8,
-    mut is_enough: impl FnMut(u16) -> bool,
-) -> bool {
-    let (channel, status) = (u64::from_le_bytes([channel; 8]), u64::from_le_bytes([status; 8]));
-    let (kinds, states) = (channels.as_chunks::<8>().0, statuses.as_chunks::<8>().0);
-    for (eight, (kinds, states)) in kinds.iter().zip(states).enumerate() {
-        let mut hits = zero_bytes((u64::from_le_bytes(*kinds) ^ channel) | (u64::from_le_bytes(*states) ^ status));
-        while hits != 0 {
-            let at = (8 * eight) as u16 + (hits.trailing_zeros() / 8) as u16;
-            if is_enough(at) {
-                return true;
-            }
-            hits &= hits - 1;
-        }
-    }
-    false
-}
-
-/// The top bit of each byte that is 0.
-fn zero_bytes(bytes: u64) -> u64 {
-    const LOW: u64 = u64::from_le_bytes([0x7F; 8]);
-    !(((bytes & LOW) + LOW) | bytes | LOW)
 }

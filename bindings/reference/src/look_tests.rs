@@ -1,9 +1,9 @@
-//! The looks against plain ones, over random columns.
+//! The looks by words against those one by one, over random columns, and at the edges.
 
-use crate::Columns;
-use crate::board::{CLAIMED, MESSAGES, PENDING};
+use crate::board::{CLAIMED, MESSAGES};
 use crate::look::Wanted;
 use crate::table::Equality;
+use crate::{Columns, one_by_one};
 
 struct Random(u64);
 
@@ -36,33 +36,57 @@ fn columns(random: &mut Random) -> Columns {
     columns
 }
 
-fn fits(columns: &Columns, wanted: Wanted, status: u8, at: usize) -> bool {
-    columns.channels[at] == wanted.channel
-        && columns.statuses[at] == status
-        && (wanted.equality == Equality::Any || columns.properties[at] == wanted.property)
-        && (wanted.equality != Equality::Unit || columns.units[at] == wanted.unit)
+const COUNTS: [u16; 10] = [0, 1, 10, 13, 63, 64, 65, 500, 1023, 1024];
+const EQUALITIES: [Equality; 3] = [Equality::Any, Equality::Property, Equality::Unit];
+
+fn wanted(equality: Equality) -> Wanted {
+    Wanted { channel: 0, equality, property: 0, unit: 0 }
 }
 
-fn plain(columns: &Columns, count: u16, wanted: Wanted, chosen: &[u16]) -> Option<u16> {
-    let free = |&at: &u16| fits(columns, wanted, PENDING, at.into()) && !chosen.contains(&at);
-    (0..count).filter(free).min_by_key(|&at| (columns.days[usize::from(at)], at))
+/// Eight looks, each with those found before it chosen.
+fn compare(columns: &Columns, count: u16, wanted: Wanted, random: &mut Random) {
+    assert_eq!(columns.any_claimed(count, wanted), one_by_one::any_claimed(columns, count, wanted));
+    let mut chosen = Vec::new();
+    for _ in 0..8 {
+        let found = columns.oldest_pending(count, wanted, &chosen);
+        assert_eq!(found, one_by_one::oldest_pending(columns, count, wanted, &chosen));
+        chosen.push(found.unwrap_or(random.below(1024) as u16));
+    }
 }
 
 #[test]
-fn as_plain_looks() {
+fn as_one_by_one() {
     let mut random = Random(1);
     for _ in 0..4_000 {
-        let columns = columns(&mut random);
-        let count = random.pick(&[0, 1, 63, 64, 65, 500, 1023, 1024]);
-        let equality = random.pick(&[Equality::Any, Equality::Property, Equality::Unit]);
-        let wanted = Wanted { channel: 0, equality, property: 0, unit: random.pick(&[0, u16::MAX]) };
-        let claimed = (0..count).any(|at| fits(&columns, wanted, CLAIMED, at.into()));
-        assert_eq!(columns.any_claimed(count, wanted), claimed);
-        let mut chosen = Vec::new();
-        for _ in 0..8 {
-            let found = columns.oldest_pending(count, wanted, &chosen);
-            assert_eq!(found, plain(&columns, count, wanted, &chosen));
-            chosen.push(found.unwrap_or(random.below(1024) as u16));
+        let (columns, count) = (columns(&mut random), random.pick(&COUNTS));
+        let wanted = Wanted { unit: random.pick(&[0, u16::MAX]), ..wanted(random.pick(&EQUALITIES)) };
+        compare(&columns, count, wanted, &mut random);
+    }
+}
+
+#[test]
+fn property_and_unit_of_one_message() {
+    let mut columns = Columns::default();
+    (0..MESSAGES).for_each(|at| (columns.properties[at], columns.units[at]) = (at as u32 % 2, 1 - at as u16 % 2));
+    for at in 0..MESSAGES {
+        let (mut one, count) = (columns.clone(), COUNTS[at % COUNTS.len()]);
+        (one.properties[at], one.units[at]) = (0, 0);
+        for (columns, fitting) in [(&columns, None), (&one, (at < count.into()).then_some(at as u16))] {
+            assert_eq!(columns.oldest_pending(count, wanted(Equality::Unit), &[]), fitting);
+            assert_eq!(one_by_one::oldest_pending(columns, count, wanted(Equality::Unit), &[]), fitting);
         }
+    }
+}
+
+#[test]
+fn none_past_the_count() {
+    for (count, equality) in COUNTS.into_iter().flat_map(|count| EQUALITIES.map(|equality| (count, equality))) {
+        let mut columns = Columns::default();
+        columns.channels[..count.into()].fill(1);
+        assert_eq!(columns.oldest_pending(count, wanted(equality), &[]), None);
+        columns.statuses.fill(CLAIMED);
+        assert!(!columns.any_claimed(count, wanted(equality)));
+        columns.channels[usize::from(count).saturating_sub(1)] = 0;
+        assert_eq!(columns.any_claimed(count, wanted(equality)), count > 0);
     }
 }
