@@ -1,10 +1,13 @@
 //! Times the proved host library and program beside plain Rust, prints the table and draws the cost of a step.
 //!
 //! `bench FOLDER PROGRAM`: the folder for inputs and the chart, and the proved program; plain Rust's `play` stands
-//! beside this one.
+//! beside this one. `bench instructions` counts the looks' instructions; for that it runs itself under valgrind as
+//! `bench looks SIDE ROW TIMES`, without a clock.
 
 mod chart;
 mod font;
+mod instructions;
+mod looks;
 mod merges;
 mod png;
 mod program;
@@ -19,7 +22,7 @@ mod world;
 
 use chart::Line;
 use public::Kind;
-use std::path::{Path, PathBuf};
+use std::path::Path;
 use std::{env, fs, io};
 use timing::Times;
 
@@ -50,19 +53,33 @@ fn draw_cost(path: &Path) -> io::Result<()> {
     chart::draw(path, "cost of a public step, all tests included", &lines)
 }
 
-fn main() -> io::Result<()> {
-    let arguments: Vec<PathBuf> = env::args_os().skip(1).map(PathBuf::from).collect();
-    let [folder, proved] = &arguments[..] else { return Err(io::Error::other("bench FOLDER PROGRAM")) };
+/// All that is timed.
+fn time(folder: &Path, proved: &Path) -> io::Result<()> {
     fs::create_dir_all(folder)?;
     let plain = env::current_exe()?.with_file_name("play");
     public::calls_of_all_sizes();
     replays::matches();
     program::lines(&fs::canonicalize(proved)?, &plain, folder)?;
-    replays::looks();
+    looks::looks();
     public::soundness();
     merges::merges();
     let chart = folder.join("cost.png");
     draw_cost(&chart)?;
     println!("\nchart: {}", chart.display());
     Ok(())
+}
+
+fn main() -> io::Result<()> {
+    let arguments: Vec<String> = env::args().skip(1).collect();
+    let arguments: Vec<&str> = arguments.iter().map(String::as_str).collect();
+    let number = |text: &str| text.parse().map_err(io::Error::other);
+    match arguments[..] {
+        ["instructions"] => instructions::table(),
+        ["looks", side, row, times] => {
+            instructions::play(side, number(row)?, number(times)?);
+            Ok(())
+        }
+        [folder, proved] => time(folder.as_ref(), proved.as_ref()),
+        _ => Err(io::Error::other("bench FOLDER PROGRAM, or bench instructions")),
+    }
 }

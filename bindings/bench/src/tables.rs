@@ -33,3 +33,8 @@ pub fn missing(equality: Equality) -> Vec<u8> {
 pub fn finding(equality: Equality) -> Vec<u8> {
     table(&[0, 0], &[(&[1, 1, 1, 1, 1, 1, 1, 0], equality)])
 }
+
+/// Two leaving channels and 32 chords; a message of the first looks for seven of the second in each.
+pub fn mixing() -> Vec<u8> {
+    table(&[0, 0], &[([1, 1, 1, 1, 1, 1, 1, 0], Property); 32])
+}
