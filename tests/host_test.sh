@@ -109,10 +109,14 @@ crate_tests
 try "the comparison, compiled" crates build -p differential
 try "a million calls and 200,000 merges compared" "$differential" --calls 1000000 --merges 200000
 sed 's/^/  /' "$work/said"
-# Every word is answered in these 2,000 calls, and days and units decide all that they can.
-try "the comparison under valgrind" careful "$differential" --calls 2000 --merges 1000 --seed 246
+# Every word is answered in these 2,000 calls, and days and units decide all that they can; in those 4,000 calls words
+# of sixty-four messages do.
+try "the comparison under valgrind" careful "$differential" --calls 2000 --merges 1000 --seed 576
+try "looks by words under valgrind" careful "$differential" --calls 4000 --merges 0 --seed 1238
 for fault in list refusal read reading merge law number newest tie hand \
-    no-unit unit-alone unit-at-1 unit-at-0 mark last-byte; do
+    no-unit unit-alone unit-at-1 unit-at-0 mark last-byte \
+    past-the-count lowest-bit zero-word next-bit last-bit whole-word mark-past \
+    half-property half-unit; do
     try "a fault put in: $fault" finds "$fault"
 done
 

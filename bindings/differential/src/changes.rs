@@ -2,7 +2,7 @@
 
 use crate::invariant::senders;
 use crate::random::Random;
-use reference::board::{MESSAGES, MOST_CENTS};
+use reference::board::{CLAIMED, MESSAGES, MOST_CENTS, PENDING};
 use reference::lists::{CHORDS, DAYS, MEMBERS, STATUSES, UNITS, WAKERS};
 use reference::{Lists, SENDER_NUMBERS, Sender, State, Table};
 
@@ -41,6 +41,15 @@ fn place(count: u16, random: &mut Random) -> usize {
 fn put<T: std::fmt::Display + Copy>(numbers: &mut [T], at: usize, value: T) -> String {
     numbers[at] = value;
     format!("at {at} changed to {value}")
+}
+
+/// Channels, statuses, units, properties and days as messages have them, most of them pending and many of them old.
+pub fn put_leftovers(lists: &mut Lists, random: &mut Random) {
+    lists.bytes[..STATUSES].fill_with(|| random.pick(&[0, 0, 1, 1, 2, 3]));
+    lists.bytes[STATUSES..CHORDS].fill_with(|| random.pick(&[PENDING, PENDING, PENDING, CLAIMED]));
+    lists.links[UNITS..].fill_with(|| random.pick(&[0, 1, u16::MAX]));
+    lists.keys[..DAYS].fill_with(|| random.below(3) as u32);
+    lists.keys[DAYS..].fill_with(|| random.below(4) as u32);
 }
 
 /// As many matches as a board takes, or one fewer.

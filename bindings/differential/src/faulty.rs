@@ -1,14 +1,16 @@
 //! The reference with a fault put in, to see that the comparison finds it.
 
 use crate::calls::{Call, Calls, Merge, Read};
-use crate::looks::{LOOKED, Look, MISSED};
+use crate::looks::{Candidate, LOOKED, Look, MISSED};
 use crate::plain_rust::Reference;
-use reference::lists::{DAYS, STATUSES};
+use crate::words::{BLOCK, Blocks};
+use reference::board::WOKEN;
+use reference::lists::{DAYS, STATUSES, UNITS, WAKERS};
 use reference::table::HEADER;
 use reference::{Equality, Lists, Rows, Table};
 
 /// Kinds of faults by name.
-pub const FAULTS: [&str; 20] = [
+pub const FAULTS: [&str; 29] = [
     "answer",
     "list",
     "board",
@@ -29,6 +31,15 @@ pub const FAULTS: [&str; 20] = [
     "unit-at-0",
     "mark",
     "last-byte",
+    "past-the-count",
+    "lowest-bit",
+    "zero-word",
+    "next-bit",
+    "last-bit",
+    "whole-word",
+    "mark-past",
+    "half-property",
+    "half-unit",
 ];
 
 /// Looks by another equality than the chord's: at which last byte, which one stands for it, and whether properties are
@@ -54,9 +65,13 @@ impl Faulty {
     /// What a look answers that is made wrongly; none if the fault is no such one.
     fn look(&mut self, table: &[u8], lists: &mut Lists, before: Lists, call: Call, answer: u32) -> Option<u32> {
         let look = Look::before(&Table::read(table).ok()?, &before, call)?;
-        if self.fault == "mark" {
-            mark_wrongly(&look, lists, answer);
-            return None;
+        if answer >> 16 == MISSED {
+            mark_wrongly(&self.fault, &look, lists);
+        }
+        let unseen = unseen(&self.fault, &look);
+        if !unseen.is_empty() || self.fault.starts_with("half-") {
+            *lists = before;
+            return Some(self.call_seeing_less(&unseen, table, lists, call));
         }
         match MISJUDGED.iter().find(|(fault, ..)| *fault == self.fault) {
             Some(&(_, byte, wrong, flat)) if look.equality as u8 == byte => {
@@ -75,6 +90,23 @@ impl Faulty {
         }
         let answer = self.inner.call(table, lists, call);
         lists.keys[..DAYS].copy_from_slice(&properties);
+        answer
+    }
+
+    /// A look while those pending messages are woken ones, and of properties or units there are the low halves only.
+    fn call_seeing_less(&mut self, unseen: &[usize], table: &[u8], lists: &mut Lists, call: Call) -> u32 {
+        let Lists { bytes, links, keys, .. } = lists.clone();
+        for message in unseen {
+            lists.bytes[STATUSES + message] = WOKEN;
+            lists.links[WAKERS + message] = 1;
+        }
+        match self.fault.as_str() {
+            "half-property" => lists.keys[..DAYS].iter_mut().for_each(|property| *property &= 0xFFFF),
+            "half-unit" => lists.links[UNITS..].iter_mut().for_each(|unit| *unit &= 0xFF),
+            _ => {}
+        }
+        let answer = self.inner.call(table, lists, call);
+        (lists.bytes, lists.links, lists.keys) = (bytes, links, keys);
         answer
     }
 }
@@ -144,27 +176,51 @@ impl Calls for Faulty {
     }
 }
 
-/// Takes another message than the look took: the first that fits, the newest, the last of the oldest, or one that is
-/// older than the message in hand in its place.
+/// Takes another message than the look took: the first that fits, the newest, the last of the oldest, one past the
+/// count, the first of its block, or one that is older than the message in hand in its place.
 fn look_wrongly(fault: &str, look: &Look, lists: &mut Lists, answer: u32) -> Option<u32> {
+    let oldest = |it: &Candidate| (it.day, it.number);
+    let past = || look.pending_past.iter().copied().filter(|it| look.fits(it));
     let wrong = match fault {
         _ if answer >> 16 == MISSED => None,
-        "number" if !look.of_hand => look.fitting().min_by_key(|it| it.number),
-        "newest" if !look.of_hand => look.fitting().min_by_key(|it| (!it.day, it.number)),
-        "tie" if !look.of_hand => look.fitting().min_by_key(|it| (it.day, !it.number)),
-        "hand" if look.of_hand => {
-            look.fitting().min_by_key(|it| (it.day, it.number)).filter(|it| it.day < look.hand.day)
-        }
+        "hand" if look.of_hand => look.fitting().min_by_key(oldest).filter(|it| it.day < look.hand.day),
+        _ if look.of_hand => None,
+        "number" => look.fitting().min_by_key(|it| it.number),
+        "newest" => look.fitting().min_by_key(|it| (!it.day, it.number)),
+        "tie" => look.fitting().min_by_key(|it| (it.day, !it.number)),
+        "past-the-count" => look.fitting().chain(past()).min_by_key(oldest),
+        "lowest-bit" => look.fitting().find(|it| it.block() == answer as u16 / BLOCK),
         _ => None,
     }?;
     look.put(lists, wrong.number);
     Some(LOOKED << 16 | u32::from(wrong.number))
 }
 
-/// A claimed message of another unit marks a retry.
-fn mark_wrongly(look: &Look, lists: &mut Lists, answer: u32) {
-    let by_another = look.claimed.iter().any(|it| it.is_of_another_unit());
-    if answer >> 16 == MISSED && look.equality == Equality::Unit && by_another {
+/// Those that fit and are not seen: all after the first block of which none fits, the second of each block, the last of
+/// each block, or all of a last block that is whole.
+fn unseen(fault: &str, look: &Look) -> Vec<usize> {
+    let blocks = Blocks::of(look);
+    let zero = (blocks.fitting | blocks.chosen).trailing_ones() as u16;
+    let second = |block: u16| look.fitting().filter(|it| it.block() == block).nth(1);
+    let is_unseen = |it: &Candidate| match fault {
+        _ if look.of_hand => false,
+        "zero-word" => it.block() > zero,
+        "next-bit" => second(it.block()).is_some_and(|second| second.number == it.number),
+        "last-bit" => it.number % BLOCK == BLOCK - 1,
+        "whole-word" => look.count == (it.block() + 1) * BLOCK,
+        _ => false,
+    };
+    look.fitting().filter(is_unseen).map(|it| it.number.into()).collect()
+}
+
+/// A message that marks no retry marks one: a claimed one of another unit, or one past the count.
+fn mark_wrongly(fault: &str, look: &Look, lists: &mut Lists) {
+    let marks = match fault {
+        "mark" => look.equality == Equality::Unit && look.claimed.iter().any(Candidate::is_of_another_unit),
+        "mark-past" => look.claimed_past.iter().any(|it| look.fits(it)),
+        _ => false,
+    };
+    if marks {
         look.mark(lists);
     }
 }

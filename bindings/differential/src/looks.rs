@@ -1,9 +1,11 @@
-//! A look that a step makes: what it may take, and what days and units decided.
+//! A look that a step makes: what it may take, and what days, units and words decided.
 
 use crate::calls::Call;
+use crate::words::{self, BLOCK, BY_WORDS};
 use reference::board::{CLAIMED, PENDING};
 use reference::lists::{DAYS, STATUSES, UNITS};
 use reference::{Equality, Lists, Phase, SENDER_NUMBERS, Sender, State, Table};
+use std::ops::Range;
 
 pub const LOOKED: u32 = 1;
 pub const MISSED: u32 = 2;
@@ -37,22 +39,43 @@ pub struct Candidate {
     pub number: u16,
     pub day: u32,
     unit: u16,
-    same_property: bool,
-    same_unit: bool,
+    pub same_property: bool,
+    pub same_unit: bool,
+    /// It has another property, but with the same low half.
+    pub same_half: bool,
 }
 
 impl Candidate {
-    fn is_before(&self, other: Candidate) -> bool {
+    fn beside(lists: &Lists, hand: usize, message: usize) -> Candidate {
+        let (ours, theirs) = (lists.keys[hand], lists.keys[message]);
+        let unit = lists.links[UNITS + message];
+        Candidate {
+            number: message as u16,
+            day: lists.keys[DAYS + message],
+            unit,
+            same_property: ours == theirs,
+            same_unit: unit == lists.links[UNITS + hand],
+            same_half: ours != theirs && ours as u16 == theirs as u16,
+        }
+    }
+
+    pub fn is_before(&self, other: Candidate) -> bool {
         (self.day, self.number) < (other.day, other.number)
     }
 
     pub fn is_of_another_unit(&self) -> bool {
         self.same_property && !self.same_unit
     }
+
+    pub fn block(&self) -> u16 {
+        self.number / BLOCK
+    }
 }
 
 pub struct Look {
     sender: usize,
+    /// How many messages the board has.
+    pub count: u16,
     pub chord: u8,
     pub equality: Equality,
     /// The member that is looked for, and whether it is the one that the message in hand fills.
@@ -60,10 +83,14 @@ pub struct Look {
     pub of_hand: bool,
     pub hand: Candidate,
     /// The mark before the look.
-    retry: bool,
-    /// Of the channel: the pending ones that are not chosen, and the claimed ones.
-    pending: Vec<Candidate>,
+    pub retry: bool,
+    /// Of the channel: the pending ones that are not chosen, those that are, and the claimed ones.
+    pub pending: Vec<Candidate>,
+    pub chosen: Vec<Candidate>,
     pub claimed: Vec<Candidate>,
+    /// What would be pending and claimed ones, past the count in its block.
+    pub pending_past: Vec<Candidate>,
+    pub claimed_past: Vec<Candidate>,
 }
 
 impl Look {
@@ -75,33 +102,33 @@ impl Look {
         let (State::Working, Phase::Look(at)) = (job.state, job.phase) else { return None };
         let (chord, at) = (table.chord(job.chord), usize::from(at));
         let hand = usize::from(job.subject);
-        let candidate = |message: usize| Candidate {
-            number: message as u16,
-            day: lists.keys[DAYS + message],
-            unit: lists.links[UNITS + message],
-            same_property: lists.keys[message] == lists.keys[hand],
-            same_unit: lists.links[UNITS + message] == lists.links[UNITS + hand],
-        };
+        let candidate = |message: usize| Candidate::beside(lists, hand, message);
         let is_of = |message: usize| lists.bytes[message] == chord.channels[at];
         let is_free = |message: usize| !job.chosen[..at].contains(&(message as u16));
-        let with = |status: u8| {
-            let messages = 0..usize::from(lists.board[0]);
+        let count = lists.board[0];
+        let with = |status: u8, messages: Range<u16>| {
+            let messages = messages.map(usize::from);
             messages.filter(move |&it| is_of(it) && lists.bytes[STATUSES + it] == status)
         };
+        let past = || count..count.next_multiple_of(BLOCK);
         Some(Look {
             sender,
+            count,
             chord: job.chord,
             equality: chord.equality,
             at,
             of_hand: chord.first_of(lists.bytes[hand]) == Some(at),
             hand: candidate(hand),
             retry: job.retry,
-            pending: with(PENDING).filter(|&it| is_free(it)).map(candidate).collect(),
-            claimed: with(CLAIMED).map(candidate).collect(),
+            pending: with(PENDING, 0..count).filter(|&it| is_free(it)).map(candidate).collect(),
+            chosen: with(PENDING, 0..count).filter(|&it| !is_free(it)).map(candidate).collect(),
+            claimed: with(CLAIMED, 0..count).map(candidate).collect(),
+            pending_past: with(PENDING, past()).map(candidate).collect(),
+            claimed_past: with(CLAIMED, past()).map(candidate).collect(),
         })
     }
 
-    fn fits(&self, it: &Candidate) -> bool {
+    pub fn fits(&self, it: &Candidate) -> bool {
         match self.equality {
             Equality::Any => true,
             Equality::Property => it.same_property,
@@ -109,12 +136,17 @@ impl Look {
         }
     }
 
+    /// Whether it would fit if properties were their low halves only.
+    pub fn fits_by_half(&self, it: &Candidate) -> bool {
+        self.equality != Equality::Any && self.fits(&Candidate { same_property: it.same_half, ..*it })
+    }
+
     /// All that may be taken.
     pub fn fitting(&self) -> impl Iterator<Item = Candidate> {
         self.pending.iter().copied().filter(|it| self.fits(it))
     }
 
-    /// Which of `BY_DAYS` and `BY_UNITS` it is, with that answer.
+    /// Which of `BY_DAYS`, `BY_UNITS` and `BY_WORDS` it is, with that answer.
     pub fn decided(&self, answer: u32) -> impl Iterator<Item = &'static str> {
         let taken = self.pending.iter().copied().find(|it| answer == LOOKED << 16 | u32::from(it.number));
         let (days, units) = match taken {
@@ -122,8 +154,9 @@ impl Look {
             Some(taken) => (self.by_days(taken), self.by_units(taken)),
             None => ([false; 6], self.missed_by_units()),
         };
-        let days = BY_DAYS.into_iter().zip(days);
-        days.chain(BY_UNITS.into_iter().zip(units)).filter(|(_, is)| *is).map(|(what, _)| what)
+        let (days, units) = (BY_DAYS.into_iter().zip(days), BY_UNITS.into_iter().zip(units));
+        let words = BY_WORDS.into_iter().zip(words::decided(self, taken));
+        days.chain(units).chain(words).filter(|(_, is)| *is).map(|(what, _)| what)
     }
 
     fn any_older(&self) -> bool {

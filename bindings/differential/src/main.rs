@@ -4,7 +4,7 @@
 //!
 //! Random schedules, with excursions to sound boards that no schedule reaches, to damaged lists and tables, and to
 //! lists of another length. From 100,000 calls on, every word, the refusals 8 to 13, every sort of damage and looks
-//! that days and units decide must occur.
+//! that days, units and words of sixty-four messages decide must occur.
 //!
 //! Then merges of random tables, whole and damaged, and for every hundred of them two schedules that are played under a
 //! table and under a merged one: one inside request 1's law, which is answered alike, and one that leaves it. From
@@ -31,6 +31,7 @@ mod schedule;
 mod seen;
 mod stays;
 mod strays;
+mod words;
 
 use calls::Calls;
 use grounds::Met;
@@ -42,8 +43,9 @@ use std::process::ExitCode;
 
 const HELP: &str = "\
 usage: differential [--calls N] [--merges N] [--seed S] [--fault KIND]
-From 100,000 calls on, every word, the refusals 8 to 13, every sort of damage and looks that days and units decide must
-occur; from 100,000 merges on, every ground of a refusal and answers that differ outside the law.";
+From 100,000 calls on, every word, the refusals 8 to 13, every sort of damage and looks that days, units and words of
+sixty-four messages decide must occur; from 100,000 merges on, every ground of a refusal and answers that differ outside
+the law.";
 
 /// So many calls are enough for every word to occur, so many merges for every ground.
 const COVERING: u64 = 100_000;
@@ -117,8 +119,8 @@ fn play_law(tally: &mut law::Tally, options: &Options) -> Result<(), String> {
     })
 }
 
-/// Every word and the refusals 8 to 13 must have been answered, every list damaged, and looks decided by days and by
-/// units, if there were calls enough.
+/// Every word and the refusals 8 to 13 must have been answered, every list damaged, and looks decided by days, by units
+/// and by words, if there were calls enough.
 fn missing(tally: &Tally) -> Option<String> {
     if tally.calls < COVERING {
         return None;

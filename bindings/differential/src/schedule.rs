@@ -9,7 +9,7 @@ use crate::random::{Random, random_table};
 use crate::strays;
 use reference::board::{MESSAGES, MOST_CENTS, PENDING};
 use reference::lists::STATUSES;
-use reference::{Lists, Rows, Sender, Sent, State, Table};
+use reference::{Equality, Lists, Rows, Sender, Sent, State, Table};
 
 const ITEM: u32 = 0;
 const MATCHED: u32 = 6;
@@ -44,12 +44,16 @@ impl Days {
 
 /// Units that a schedule's messages have: one, few, the extremes, such as differ in their high bytes only.
 const UNITS: [&[u16]; 5] = [&[0], &[0, 1], &[0, 1, 2, 65_535], &[1, 257, 65_281], &[0, 65_535]];
+/// The same where a board is filled and units must be equal, so that few fit.
+const SEVERAL: [&[u16]; 3] = [&[0, 1], &[0, 1, 2, 65_535], &[0, 1, 2, 3, 257, 258, 259, 65_281, 65_534, 65_535]];
 
 /// How a schedule chooses its calls.
 pub struct Habits {
     /// Senders below this are chosen while one of them can be.
     favoured: usize,
     properties: usize,
+    /// How far apart the properties are.
+    apart: u32,
     days: Days,
     units: &'static [u16],
     adding: usize,
@@ -57,6 +61,8 @@ pub struct Habits {
     length: usize,
     /// Adds of leaving messages, until the board is full.
     filling: bool,
+    /// The first chord wants equal units.
+    by_unit: bool,
     last: usize,
     /// Steps only, until the board is quiet.
     pub draining: bool,
@@ -64,10 +70,16 @@ pub struct Habits {
 
 impl Habits {
     pub fn new(random: &mut Random, number: u64) -> Habits {
-        let filling = number % 12 == 1;
+        let (filling, by_unit) = (number % 12 == 1, number % 24 == 13);
+        let properties: &[usize] = match (filling, by_unit) {
+            (_, true) => &[3, 10, 30],
+            (true, _) => &[1, 3, 30, 300],
+            _ => &[1, 2, 2, 3, 5],
+        };
         Habits {
             favoured: random.pick(&[2, 3, 6, 12, 32]),
-            properties: random.pick(&[1, 2, 2, 3, 5]),
+            properties: random.pick(properties),
+            apart: random.pick(&[1, 1, 1, 256, 65_536, 16_777_216]),
             days: random.pick(&[
                 Days::None,
                 Days::Equal,
@@ -77,25 +89,30 @@ impl Habits {
                 Days::Falling,
                 Days::Extreme,
             ]),
-            units: random.pick(&UNITS),
+            units: random.pick(if by_unit { &SEVERAL } else { &UNITS[..] }),
             adding: if filling { 90 } else { random.pick(&[10, 20, 35, 50]) },
             run_on: random.pick(&[0, 30, 70, 95]),
             length: if filling { 6_000 } else { random.pick(&[100, 300, 600, 1_500]) },
             filling,
+            by_unit,
             last: 0,
             draining: false,
         }
     }
 
-    /// A table; to be filled, a board wants few chords and a channel that lets its senders go.
+    /// A table; to be filled, a board wants one or two chords and a channel that lets its senders go.
     fn table(&self, random: &mut Random) -> Vec<u8> {
         loop {
             let table = random_table(random);
-            let fillable = |table: Table| table.chord_count <= 2 && leaving(&table).next().is_some();
-            if !self.filling || Table::read(&table).is_ok_and(fillable) {
+            if !self.filling || Table::read(&table).is_ok_and(|table| self.can_fill(&table)) {
                 return table;
             }
         }
+    }
+
+    fn can_fill(&self, table: &Table) -> bool {
+        let few = (1..=2).contains(&table.chord_count) && leaving(table).next().is_some();
+        few && (!self.by_unit || table.chord(0).equality == Equality::Unit)
     }
 
     pub fn choose(&mut self, random: &mut Random, table: &Table, lists: &Lists) -> Call {
@@ -150,7 +167,7 @@ impl Habits {
     }
 
     fn property(&self, random: &mut Random) -> u32 {
-        if random.chance(2) { u32::MAX } else { random.below(self.properties) as u32 }
+        if random.chance(2) { u32::MAX } else { self.apart.wrapping_mul(random.below(self.properties) as u32) }
     }
 }
 

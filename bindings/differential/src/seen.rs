@@ -1,7 +1,9 @@
-//! Counts of what was lent to the calls, of refused calls that left it as found, and of what days and units decided.
+//! Counts of what was lent to the calls, of refused calls that left it as found, and of what days, units and words
+//! decided.
 
 use crate::looks::{BY_DAYS, BY_UNITS};
 use crate::random::LAST_BYTES;
+use crate::words::BY_WORDS;
 use std::collections::HashMap;
 
 /// The lists of a board with their parts, and the lists of a replay's calls.
@@ -43,7 +45,7 @@ impl Seen {
     }
 
     /// All that may be noted, by sort.
-    pub fn counts(&self) -> [(&'static str, Vec<(String, u64)>); 7] {
+    pub fn counts(&self) -> [(&'static str, Vec<(String, u64)>); 8] {
         let lengths = |list: &&str| LENGTHS.map(|length| format!("{list} {length}"));
         // Any property, any day and any unit is one of a sound board.
         let any_fits = |part: &str| part.ends_with("keys") || part.starts_with("units");
@@ -57,6 +59,7 @@ impl Seen {
             ("one number changed", self.of(changed.collect())),
             ("looks by days", self.of(BY_DAYS.map(String::from).to_vec())),
             ("looks by units", self.of(BY_UNITS.map(String::from).to_vec())),
+            ("looks by words", self.of(BY_WORDS.map(String::from).to_vec())),
         ]
     }
 }

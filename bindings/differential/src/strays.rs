@@ -13,15 +13,19 @@ use reference::{Lists, Rows, SENDER_NUMBERS, Sent, Table};
 
 const NO_BOARD: u32 = 17 * 65_536 + 30;
 
-/// An opened board's lent lists may hold anything.
+/// An opened board's lent lists may hold anything: zeros, what could be messages, any numbers.
 pub fn lent_anything(random: &mut Random) -> Lists {
     let mut lists = Lists::default();
-    if random.chance(50) {
-        lists.board.fill_with(|| random.next() as u16);
-        lists.bytes.fill_with(|| random.next() as u8);
-        lists.links.fill_with(|| random.next() as u16);
-        lists.keys.fill_with(|| random.next() as u32);
-        lists.cents.fill_with(|| random.next() as i64);
+    match random.below(4) {
+        0 => {}
+        1 => changes::put_leftovers(&mut lists, random),
+        _ => {
+            lists.board.fill_with(|| random.next() as u16);
+            lists.bytes.fill_with(|| random.next() as u8);
+            lists.links.fill_with(|| random.next() as u16);
+            lists.keys.fill_with(|| random.next() as u32);
+            lists.cents.fill_with(|| random.next() as i64);
+        }
     }
     lists
 }
