@@ -29,13 +29,13 @@ module _ (channels keys units statuses : List ℕ) (want : DW.Want) (chosen : Li
   unfolding eligible
   unfit k e = rw e
 
-  -- of another channel or status it does not fit
+  -- nor is one of another channel or status
   pub other-kind : (k : ℕ) → ofKind channels statuses (want .channel) (want .status) k ≡ false
       → eligible channels keys units statuses want chosen k ≡ false
   unfolding eligible fitting
   other-kind k e = rw e
 
-  -- nor is it where it is unlike what is wanted
+  -- nor one unlike what is wanted
   pub other-like : (k : ℕ) → isLike keys units want k ≡ false
       → eligible channels keys units statuses want chosen k ≡ false
   unfolding eligible fitting
