@@ -16,11 +16,16 @@ use Rattle.state.specs.declared.Sender as DD
 use Rattle.state.specs.Views.{senderIn}
 use Rattle.boards.specs.Boards.{HeldBoard, boardIn}
 use Rattle.boards.proofs.SenderLaws.{set-sender}
-use Rattle.adds.proofs.MessageLaws.{Room, keyed, message-added}
+use Rattle.adds.proofs.MessageLaws.{Room, keyed, close-kept, message-added}
 
 -- the board with sender i and one message more
 abbrev pub withMessage : HeldBoard → ℕ → DD.Sender → HeldBoard
-withMessage b i d = record { messages = b .messages + 1; matches = b .matches; senders = set (b .senders) i d }
+withMessage b i d = record {
+  messages = b .messages + 1;
+  matches = b .matches;
+  senders = set (b .senders) i d;
+  closed = b .closed;
+}
 
 module _ (t : Table) (b : HeldBoard) (i : ℕ) (x : Sent) (d : DD.Sender) (c : Columns) (m : MatchColumns)
     (room : Room c (b .messages)) where
@@ -53,6 +58,7 @@ module _ (t : Table) (b : HeldBoard) (i : ℕ) (x : Sent) (d : DD.Sender) (c : C
     e7,
     add-one n,
     message-added c n x room,
+    close-kept (c .keys) n (x .property) (x .day) (room .few),
     set-sender t (b .senders) i d,
     f is channel-is,
     length-messages c 0 n,

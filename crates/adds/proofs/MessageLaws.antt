@@ -9,6 +9,7 @@ use Rattle.model.specs.Boards.{Sent}
 use Rattle.model.specs.Adds.{newMessage}
 use Rattle.columns.specs.Columns.{Columns, daysAt, messageIn, messagesFrom}
 use Rattle.columns.proofs.ListFrom.{added-from}
+use Rattle.boards.specs.Layout.{closeDayAt}
 
 -- columns long enough for message n
 pub record Room (c : Columns) (n : ℕ) : Type 0 where
@@ -34,6 +35,11 @@ module _ (keys : List ℕ) (n property day : ℕ) where
   day-new : daysAt + n < length keys → getD (keyed keys n property day) (daysAt + n) 0 ≡ day
   day-new h =
       getD-set-same (set keys n property) (daysAt + n) day 0 (omega (arith, length-set keys n property))
+
+  pub close-kept : n < 1024 → getD (keyed keys n property day) closeDayAt 0 ≡ getD keys closeDayAt 0
+  close-kept h =
+      getD-set-other (set keys n property) (daysAt + n) closeDayAt day 0 (λ z. omega arith)
+      ∙ getD-set-other keys n closeDayAt property 0 (λ z. omega arith)
 
   module _ (j : ℕ) (h : j < n) where
     property-kept : getD (keyed keys n property day) j 0 ≡ getD keys j 0

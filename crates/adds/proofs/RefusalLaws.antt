@@ -1,6 +1,7 @@
 -- The refusals of an add, by what the code reads of the board.
 use mathlib.Core.Path.{_≡_}
 use Prim.Native.Nat.{ℕ}
+use lib.Dec.{leb}
 use lib.ListN.{getD, List·getD-map}
 use Rattle.model.specs.Tables.{Table}
 use Rattle.model.specs.Boards.{Sent}
@@ -10,13 +11,13 @@ use Rattle.columns.specs.MatchColumns.{MatchColumns}
 use Rattle.columns.proofs.Messages.{length-messages}
 use Rattle.state.specs.Views.{senderIn, idleIs}
 use Rattle.state.proofs.StateLaws.{idle-is}
-use Rattle.boards.specs.Boards.{HeldBoard, boardIn}
-use Rattle.boards.specs.Boards.{zeroSender}
+use Rattle.boards.specs.Boards.{HeldBoard, boardIn, closedIn, zeroSender}
 use Rattle.adds.specs.Refusals.{refusalBy}
 
 pub refusal-is : (t : Table) (b : HeldBoard) (c : Columns) (m : MatchColumns) (i : ℕ) (x : Sent)
     → addRefusal t (boardIn t b c m) i x
-    ≡ refusalBy t i (idleIs (getD (b .senders) i zeroSender .state)) (x .channel) (x .cents) (b .messages)
+    ≡ refusalBy t i (idleIs (getD (b .senders) i zeroSender .state)) (leb (closedIn b (c .keys)) (x .day))
+    (x .channel) (x .cents) (b .messages)
 unfolding addRefusal
 refusal-is t b c m i x =
     let d = getD (b .senders) i zeroSender in

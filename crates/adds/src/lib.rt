@@ -19,10 +19,11 @@ fn amount_ok(x: i64) -> bool
     (-999999999999 <= x) & (x <= 999999999999)
 }
 
-// The first refusal of an add of x by sender i, idle or not, to a board of n messages, in the order checked, or 0.
-pub fn add_refusal(table: &[u8], i: u16, idle: bool, x: Sent, n: u16) -> u8
+// The first refusal of an add of x by sender i, idle or not, timely or of a closed day, to a board of n messages, in
+// the order checked, or 0.
+pub fn add_refusal(table: &[u8], i: u16, idle: bool, timely: bool, x: Sent, n: u16) -> u8
     requires { ⌜ tableRefusal (now table) ≡ 0 ⌝ }
-    ensures { λ r. ⌜ r ≡ refusalBy (tableOf (now (table .entry))) i idle (x .channel) (x .cents) n ⌝ }
+    ensures { λ r. ⌜ r ≡ refusalBy (tableOf (now (table .entry))) i idle timely (x .channel) (x .cents) n ⌝ }
 {
     if i >= 32 {
         return 8;
@@ -32,6 +33,9 @@ pub fn add_refusal(table: &[u8], i: u16, idle: bool, x: Sent, n: u16) -> u8
     }
     if x.channel >= (table::channels_len(table) as u16) {
         return 10;
+    }
+    if !timely {
+        return 19;
     }
     if !amount_ok(x.cents) {
         return 11;

@@ -22,7 +22,8 @@ use Rattle.model.specs.Steps.{consume-step, consumedTo, consumedEnd, tell-step,
 use Rattle.model.specs.Steps.{signal-step, pass-end-step, passEndBy, backoff-step, job-step, resume-step, resumeBy}
 use Rattle.model.specs.Steps.{blockedStep, stateStep, senderStep, stepBy, more, withMatched}
 use Rattle.model.specs.Adds.{added, addRefusal, newSender}
-use Rattle.model.specs.Pools.{Call, adds, steps, answerTo, addAnswer, stepAnswer, afterAll}
+use Rattle.model.specs.Closes.{closeRefusal}
+use Rattle.model.specs.Pools.{Call, adds, steps, closes, answerTo, addAnswer, stepAnswer, closeAnswer, afterAll}
 use Rattle.model.proofs.Tests.{same?, never}
 use Rattle.model.proofs.Jobs.{pass-by, job-end-by}
 use Rattle.model.proofs.Words.{isRecord}
@@ -215,6 +216,11 @@ call-bounded t b (steps i) ok v f = go (stepBy t b i) (step-owes t b i v) (step-
         let r = x .1 .recorded .subject n m z .1 in
         omega (arith, r .all, ok .chord-some (m .chord) (r .selection .chord-in)))
         f
+call-bounded t b (closes day) ok v f = go (closeRefusal b day)
+  where
+    go : (r : ℕ) → Bounded (closeAnswer b day r .board)
+    go zero = record { rests = f .rests; table = f .table; matches = f .matches }
+    go (suc r) = f
 
 pub all-bounded : (t : Table) (cs : List Call) (b : Board) → TableOk t → Inv t b → Bounded b → Bounded (afterAll t b cs)
 all-bounded t [] b ok v f = f

@@ -1,7 +1,9 @@
 -- What is held of a board beside its columns, and with them the model's board.
-use mathlib.Core.Bool.{false}
+use mathlib.Core.Bool.{Bool, false}
 use mathlib.Core.List.{List, [], map}
-use Prim.Native.Nat.{ℕ}
+use Prim.Native.Nat.{ℕ, suc}
+use lib.ListN.{getD}
+use Rattle.model.specs.Basics.{pick}
 use Rattle.model.specs.Tables.{Table}
 use Rattle.model.specs.Boards.{Board, builtinBackoffs}
 use Rattle.columns.specs.Columns.{Columns, messagesFrom}
@@ -10,12 +12,22 @@ use Rattle.state.specs.declared.Phase.the-variants as P
 use Rattle.state.specs.declared.State.the-variants as S
 use Rattle.state.specs.declared.Sender as DD
 use Rattle.state.specs.Views.{senderIn}
+use Rattle.boards.specs.Layout.{closeDayAt}
 
--- the board without its columns: how many messages and matches there are, and the senders
+-- the board without its columns: how many messages and matches there are, the senders, and whether a day is closed
 pub record HeldBoard : Type 0 where
   pub messages : ℕ
   pub matches : ℕ
   pub senders : List DD.Sender
+  pub closed : Bool
+
+-- rule 9.8: the close day plus 1; 0 where no day is closed
+abbrev pub closedBy : Bool → ℕ → ℕ
+closedBy closed day = pick closed (suc day) 0
+
+-- the close day is the number behind the days
+abbrev pub closedIn : HeldBoard → List ℕ → ℕ
+closedIn b keys = closedBy (b .closed) (getD keys closeDayAt 0)
 
 -- rule 1.11: the board of these counts, senders and columns; its backoff table is the built-in one (rule 1.9)
 abbrev pub boardIn : Table → HeldBoard → Columns → MatchColumns → Board
@@ -24,6 +36,7 @@ boardIn t b c m = record {
   matches = matchesFrom t m 0 (b .matches);
   senders = map (senderIn t) (b .senders);
   backoffs = builtinBackoffs;
+  closed = closedIn b (c .keys);
 }
 
 -- what the code reads past the last sender

@@ -12,9 +12,12 @@ use Rattle.columns.specs.Columns.{Columns, columnsOf, daysAt}
 use Rattle.columns.specs.MatchColumns.{MatchColumns, matchesOf}
 use Rattle.boards.specs.Parts.{part}
 
--- board: 0 messages, 1 matches, then 21 numbers for each of 32 senders
+-- board: 0 messages, 1 matches, then 21 numbers for each of 32 senders, 674 whether a day is closed
+abbrev pub closedAt : ℕ
+closedAt = 674
+
 abbrev pub boardLen : ℕ
-boardLen = 674
+boardLen = 675
 
 -- bytes: 0 channels, 1,024 statuses, 2,048 the matches' chords
 abbrev pub statusesAt : ℕ
@@ -40,9 +43,12 @@ unitsAt = 10240
 abbrev pub linksLen : ℕ
 linksLen = 11264
 
--- keys: 0 properties, 1,024 days
+-- keys: 0 properties, 1,024 days, 2,048 the close day
+abbrev pub closeDayAt : ℕ
+closeDayAt = 2048
+
 abbrev pub keysLen : ℕ
-keysLen = 2048
+keysLen = 2049
 
 -- cents: 0 cents
 abbrev pub centsLen : ℕ

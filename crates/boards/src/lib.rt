@@ -6,13 +6,13 @@ ghost use Rattle.boards.specs.Layout.{channelsIn, statusesIn, chordsIn, 
 ghost use Rattle.boards.specs.Layout.{unitsIn};
 
 // Lengths, and the places of columns that are not the first of their list.
-pub const BOARD_LEN: usize = 674;
+pub const BOARD_LEN: usize = 675;
 
 pub const BYTES_LEN: usize = 3072;
 
 pub const LINKS_LEN: usize = 11264;
 
-pub const KEYS_LEN: usize = 2048;
+pub const KEYS_LEN: usize = 2049;
 
 pub const CENTS_LEN: usize = 1024;
 
@@ -25,6 +25,10 @@ pub const WAKERS: usize = 1024;
 pub const MEMBERS: usize = 2048;
 
 pub const UNITS: usize = 10240;
+
+pub const CLOSED: usize = 674;
+
+pub const CLOSE_DAY: usize = 2048;
 
 // A message as it is added.
 pub struct Sent {

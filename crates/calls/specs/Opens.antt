@@ -1,4 +1,5 @@
 -- Open (rule 6.3): the numbers of an empty board (rule 1.10); the other lists may hold anything.
+use mathlib.Core.Bool.{false}
 use mathlib.Core.List.{List}
 use Prim.Native.Nat.{ℕ}
 use lib.Dec.{eqb}
@@ -12,7 +13,7 @@ use Rattle.rows.specs.Fresh.{freshSender}
 use Rattle.calls.specs.Reads.{answered}
 
 abbrev pub freshBoard : HeldBoard
-freshBoard = record { messages = 0; matches = 0; senders = replicate 32 freshSender }
+freshBoard = record { messages = 0; matches = 0; senders = replicate 32 freshSender; closed = false }
 
 -- rule 6.3: the table's refusal, then 30 for numbers of another length than a board's
 unfoldable pub openNumber : List ℕ → List ℕ → ℕ

@@ -4,7 +4,7 @@ ghost use Prim.Native.Nat.{_<_, _≤_};
 ghost use lib.ListN.{length, getD, drop, replicate};
 ghost use Rattle.model.specs.Tables.{Table};
 ghost use Rattle.model.specs.Boards.{noMessage};
-ghost use Rattle.model.specs.Pools.{noRead, quiet, adds, steps};
+ghost use Rattle.model.specs.Pools.{noRead, quiet, adds, steps, closes};
 ghost use Rattle.columns.specs.Columns.{Columns, columnsOf, messageIn};
 ghost use Rattle.columns.specs.MatchColumns.{MatchColumns};
 ghost use Rattle.boards.specs.Boards.{boardIn};
@@ -156,6 +156,29 @@ pub fn step(
         &[0, 0],
         &[0],
     )
+}
+
+// A close of the days up to one.
+pub fn close(
+    table: &[u8],
+    board: &mut [u16],
+    bytes: &[u8],
+    links: &[u16],
+    keys: &mut [u32],
+    cents: &[i64],
+    day: u32,
+) -> Said
+    ensures { λ r. ⌜ Calls (now (table .entry))
+        (lists (now (board .entry)) (now (bytes .entry)) (now (links .entry)) (now (keys .entry)) (now (cents .entry)))
+        (closes day) (saidIn r)
+        (lists (now (board .exit)) (now (bytes .entry)) (now (links .entry)) (now (keys .exit))
+        (now (cents .entry))) ⌝ }
+{
+    let number = refusals::board_refusal(table, board, bytes, links, keys, cents);
+    if number != 0 {
+        return Said::Refused(number);
+    }
+    plays::close(board, keys, day)
 }
 
 // The first refusal of a replay: that of every board call, then 30 for lists of calls that have not as many rows, then

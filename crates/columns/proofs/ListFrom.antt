@@ -35,7 +35,7 @@ module _ {A : Type 0} (f : ℕ → A) where
       let e : n - i ≡ 0 = omega arith in
       rw e
 
-  same-from : (g : ℕ → A) (i n : ℕ) → ((j : ℕ) → j < i + n → g j ≡ f j) → listFrom g i n ≡ listFrom f i n
+  pub same-from : (g : ℕ → A) (i n : ℕ) → ((j : ℕ) → j < i + n → g j ≡ f j) → listFrom g i n ≡ listFrom f i n
   same-from g i zero e = refl
   same-from g i (suc n) e = cc (e i (omega arith), same-from g (suc i) n (λ j l. e j (omega arith)))
 

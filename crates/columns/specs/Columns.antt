@@ -6,7 +6,7 @@ use lib.IntN.{ℤ, pos}
 use lib.ListN.{getD, length}
 use Rattle.model.specs.Boards.{Status, pending, claimed, woken, consumed, Message, Match, Sender, Board}
 
--- keys: the properties, then the days
+-- keys: the properties, then the days; what stands behind them is no message's
 pub record Columns : Type 0 where
   pub channels : List ℕ
   pub keys : List ℕ
@@ -69,6 +69,7 @@ pub record Others : Type 0 where
   pub matches : List Match
   pub senders : List Sender
   pub backoffs : List ℕ
+  pub closed : ℕ
 
 abbrev pub columnsBy : List ℕ → List ℕ → List ℕ → Others → Columns
 columnsBy channels keys statuses o =
@@ -81,6 +82,7 @@ boardBy channels keys statuses n o = record {
   matches = o .matches;
   senders = o .senders;
   backoffs = o .backoffs;
+  closed = o .closed;
 }
 
 -- the columns that a look reads, of 1,024 records, n of which are messages

@@ -48,8 +48,8 @@ fn next_block(channels: &[u8], statuses: &[u8], from: u16, n: u16, wanted: u8, s
 pub fn block_from(channels: &[u8], statuses: &[u8], from: u16, n: u16, want: Want, best: u64) -> u16
     requires { ⌜ (from % 64 ≡ 0) × (from ≤ n) × (n ≤ 1024) ⌝ }
     requires { ⌜ (1024 ≤ length (now channels)) × (1024 ≤ length (now statuses)) ⌝ }
-    ensures { λ r. ⌜ Skipped (ofKind (now (channels .entry)) (now (statuses .entry)) (want .channel) (want .status)) from
-        r ⌝ }
+    ensures { λ r. ⌜ Skipped
+        (ofKind (now (channels .entry)) (now (statuses .entry)) (want .channel) (want .status)) from r ⌝ }
 {
     if best != NO_RANK {
         return from;

@@ -169,7 +169,7 @@ fn run(table: &[u8], board: &mut [u16])
 {
     let mut bytes = [0u8; 3072];
     let mut links = [0u16; 11264];
-    let mut keys = [0u32; 2048];
+    let mut keys = [0u32; 2049];
     let mut cents = [0i64; 1024];
     serve(table, board, &mut bytes, &mut links, &mut keys, &mut cents);
 }
@@ -178,7 +178,7 @@ fn main() {
     let mut file = [0u8; 413];
     let n = load(&mut file);
     let table = &file[..n];
-    let mut board = [0u16; 674];
+    let mut board = [0u16; 675];
     let number = calls::open(table, &mut board);
     if number != 0 {
         refuse(number);

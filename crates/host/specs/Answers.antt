@@ -1,4 +1,4 @@
--- What a call (rules 6.4 and 6.5) answers to a host, as one number.
+-- What a call (rules 6.4, 6.5 and 9.8) answers to a host, as one number.
 use mathlib.Core.Path.{_≡_}
 use mathlib.Core.List.{List}
 use Prim.Native.Nat.{ℕ}

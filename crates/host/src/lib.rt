@@ -6,7 +6,7 @@ ghost use lib.IntN.{pos};
 ghost use lib.ListN.{length, drop, replicate};
 ghost use lib.Seq.{paste};
 ghost use Rattle.model.specs.Layout.{tableRefusal};
-ghost use Rattle.model.specs.Pools.{adds, steps};
+ghost use Rattle.model.specs.Pools.{adds, steps, closes};
 ghost use Rattle.merging.specs.Merges.{mergeWriteRefusal, mergeWritten};
 ghost use Rattle.boards.specs.Calls.{sent};
 ghost use Rattle.boards.specs.Layout.{lists};
@@ -99,6 +99,27 @@ pub extern "C" fn gv_add(
         unit: unit,
     };
     let said = calls::add(table, board, bytes, links, keys, cents, sender, x);
+    plays::answer_number(said)
+}
+
+// A close of the days up to one.
+#[no_mangle]
+pub extern "C" fn gv_close(
+    table: &[u8],
+    board: &mut [u16],
+    bytes: &[u8],
+    links: &[u16],
+    keys: &mut [u32],
+    cents: &[i64],
+    day: u32,
+) -> u32
+    ensures { λ r. ⌜ Answers (now (table .entry))
+        (lists (now (board .entry)) (now (bytes .entry)) (now (links .entry)) (now (keys .entry)) (now (cents .entry)))
+        (closes day) r
+        (lists (now (board .exit)) (now (bytes .entry)) (now (links .entry)) (now (keys .exit))
+        (now (cents .entry))) ⌝ }
+{
+    let said = calls::close(table, board, bytes, links, keys, cents, day);
     plays::answer_number(said)
 }
 

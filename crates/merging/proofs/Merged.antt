@@ -11,7 +11,7 @@ use native.Mathlib.Omega.{arith}
 use Rattle.model.specs.Basics.{isIn, every}
 use Rattle.model.specs.Tables.{Chord, Table, noChord, isSync}
 use Rattle.model.specs.Boards.{emptyBoard}
-use Rattle.model.specs.Pools.{Call, adds, steps, matchReads}
+use Rattle.model.specs.Pools.{Call, adds, steps, closes, matchReads}
 use Rattle.model.proofs.Tests.{both, neither}
 use Rattle.model.proofs.SoundKept.{empty-sound}
 use Rattle.model.proofs.AcceptedChords.{TableOk}
@@ -53,6 +53,7 @@ module _ (t u : Table) (ms : List ℕ) (ok : TableOk t) where
   calls-own (adds i x ∷ cs) e =
       let p = both {t = ownChannel t u ms (x .channel)} e in (own-is (x .channel) (p .0), calls-own cs (p .1))
   calls-own (steps i ∷ cs) e = (tt, calls-own cs e)
+  calls-own (closes day ∷ cs) e = (tt, calls-own cs e)
 
   pub same-schedule : (rests : List ℕ) (cs : List Call) → every (addsTo (ownChannel t u ms)) cs ≡ true
       → Same-schedule t (mergedTable t u ms) rests cs

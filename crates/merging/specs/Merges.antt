@@ -9,7 +9,7 @@ use Rattle.model.specs.Basics.{allOf, pick, every, isIn, unless, firstOf, flag}
 use Rattle.model.specs.Tables.{Chord, Table}
 use Rattle.model.specs.Layout.{tableRefusal, tableOf, tableBytes, writtenMembers}
 use Rattle.model.specs.Boards.{emptyBoard}
-use Rattle.model.specs.Pools.{Call, adds, steps, history, matchReads}
+use Rattle.model.specs.Pools.{Call, adds, steps, closes, history, matchReads}
 use Rattle.model.specs.Demands.{boardAfter}
 
 -- rule 9.2: 255 for a new channel, else the first's channel that it becomes
@@ -105,6 +105,7 @@ ownChannel t u ms x = ltb x (length (t .kinds)) && not (namedBy x (mergedChords 
 abbrev pub addsTo : (ℕ → Bool) → Call → Bool
 addsTo f (adds i x) = f (x .channel)
 addsTo f (steps i) = true
+addsTo f (closes day) = true
 
 -- rule 9.4: the same answers and the same board, so that every read of it is the same
 pub record Same-schedule (t v : Table) (rests : List ℕ) (cs : List Call) : Type 0 where

@@ -18,7 +18,7 @@ use Rattle.model.specs.Effects.{none, turn, Change, records, signals, ma
 use Rattle.model.specs.Jobs.{newPass}
 use Rattle.model.specs.Steps.{more, resumed}
 use Rattle.model.specs.Holdings.{Holds}
-use Rattle.model.specs.Adds.{added, newSender, newMessage, centsOk, addRefusal}
+use Rattle.model.specs.Adds.{added, newSender, newMessage, centsOk, dayOpen, addRefusal}
 use Rattle.model.specs.Demands.{Same-but-signal}
 use Rattle.model.proofs.Tests.{same?, never, tests, unless-none}
 use Rattle.model.proofs.Lists.{nth-isIn}
@@ -211,6 +211,7 @@ add-accepted t b i x e =
     let p = unless-none (ltb i 32) 7 _ e in
     let q = unless-none (isIdle (senderAt b i .state)) 8 _ (p .1) in
     let r = unless-none (ltb (x .channel) (length (t .kinds))) 9 _ (q .1) in
-    let s = unless-none (centsOk (x .cents)) 10 _ (r .1) in
+    let o = unless-none (dayOpen b (x .day)) 18 _ (r .1) in
+    let s = unless-none (centsOk (x .cents)) 10 _ (o .1) in
     let u = unless-none (ltb (length (b .messages)) 1024) 11 _ (s .1) in
     (ltb-true _ _ (p .0), is-idle _ (q .0), ltb-true _ _ (r .0), s .0, ltb-true _ _ (u .0))

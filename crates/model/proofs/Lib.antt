@@ -54,6 +54,7 @@ pub mod Quiet
 pub mod PoolLaws
 pub mod Cents
 pub mod PoolMeets
+pub mod Closes
 pub mod PoolRun
 pub mod Schedule
 pub mod SoundFacts
@@ -65,6 +66,7 @@ pub mod SoundJobs
 pub mod SoundKept
 -- Beside the demand
 pub mod StepFrame
+pub mod StaysClosed
 pub mod QuietExactly
 pub mod NoChords
 pub mod Samples

@@ -18,7 +18,9 @@ use Rattle.model.specs.Jobs.{passFrom, job-end}
 use Rattle.model.specs.Steps.{restsThen, passEndBy, more, job-step, pass-end-step, backoff-step, resumeBy}
 use Rattle.model.specs.Steps.{stepBy, resume-step, blockedStep, stateStep, senderStep}
 use Rattle.model.specs.Adds.{added, addRefusal}
-use Rattle.model.specs.Pools.{Call, answerTo, adds, addAnswer, steps, stepAnswer, afterAll, history}
+use Rattle.model.specs.Closes.{closeRefusal}
+use Rattle.model.specs.Pools.{Call, answerTo, adds, addAnswer, steps, stepAnswer, closes, closeAnswer, afterAll}
+use Rattle.model.specs.Pools.{history}
 use Rattle.model.specs.Demands.{boardAfter}
 use Rattle.model.proofs.Tests.{and}
 use Rattle.model.proofs.Jobs.{pass-by, job-end-by}
@@ -131,6 +133,11 @@ module _ (t : Table) (chordless : t .chords ≡ []) where
       go : (o : Outcome) → MatchlessBy o → NoneMatched (stepAnswer b i o .board)
       go (refused f) m = v
       go (does e) m = applied-none b i e v m
+  call-none b (closes day) v = go (closeRefusal b day)
+    where
+      go : (f : ℕ) → NoneMatched (closeAnswer b day f .board)
+      go zero = v
+      go (suc f) = v
 
   not-matched : (b : Board) (c : Call) → NoneMatched b → not (eqb (wordOf (answerTo t b c .said)) 6) ≡ true
   not-matched b (adds i x) v = go (addRefusal t b i x)
@@ -143,6 +150,11 @@ module _ (t : Table) (chordless : t .chords ≡ []) where
       go : (o : Outcome) → MatchlessBy o → OutcomeSpeaks o → not (eqb (wordOf (stepAnswer b i o .said)) 6) ≡ true
       go (refused f) m s = refl
       go (does e) m s = ap not (s .matched ∙ m .0)
+  not-matched b (closes day) v = go (closeRefusal b day)
+    where
+      go : (f : ℕ) → not (eqb (wordOf (closeAnswer b day f .said)) 6) ≡ true
+      go zero = refl
+      go (suc f) = refl
 
   all-none : (cs : List Call) (b : Board) → NoneMatched b → NoneMatched (afterAll t b cs)
   all-none [] b v = v

@@ -13,6 +13,7 @@ use Rattle.model.specs.Steps.{look-step, claim-step, revert-step, consum
 use Rattle.model.specs.Steps.{skip, free-step, signal-step, more, pass-end-step, backoff-step, resume-step}
 use Rattle.model.specs.Steps.{stepBy}
 use Rattle.model.specs.Adds.{addRefusal, added}
+use Rattle.model.specs.Closes.{closeRefusal}
 use Rattle.model.specs.Samples.{outcome, samples, expected, shownBy, tableP, scheduleP, shownP, Retries-rest}
 
 -- to unfold this is to unfold every definition that a run computes with
@@ -20,7 +21,7 @@ unfoldable pub opened : ℕ
 unfolding isSync firstSync wakes naming word countsOk offsetsOk kindsOk chordOk membersOk tableRefusal tableOf
     builtinBackoffs backoffAt amount messagesAfter matchesAfter sendersAfter apply passFrom alike isBefore oldest
     someClaimed choice look-step claim-step revert-step job-end consume-step tell-step wokenOf wake-step skip free-step
-    signal-step more pass-end-step backoff-step resume-step stepBy addRefusal added
+    signal-step more pass-end-step backoff-step resume-step stepBy addRefusal added closeRefusal
 opened = 0
 
 pub m-items : map outcome samples ≡ map expected samples

@@ -13,9 +13,10 @@ use Rattle.model.specs.Effects.{Outcome, refused, does}
 use Rattle.model.specs.Steps.{stepBy}
 use Rattle.model.specs.Holdings.{Holds}
 use Rattle.model.specs.Adds.{addRefusal}
+use Rattle.model.specs.Closes.{closeRefusal}
 use Rattle.model.specs.Sound.{owns}
-use Rattle.model.specs.Pools.{Pool, emptyPool, Call, answerTo, adds, addAnswer, steps, stepAnswer, played}
-use Rattle.model.specs.Pools.{matchReads, afterAll, playedAll, history}
+use Rattle.model.specs.Pools.{Pool, emptyPool, Call, answerTo, adds, addAnswer, steps, stepAnswer, closes, played}
+use Rattle.model.specs.Pools.{closeAnswer, matchReads, afterAll, playedAll, history}
 use Rattle.model.specs.Demands.{boardAfter, poolAfter, finalReads}
 use Rattle.model.proofs.Tests.{never}
 use Rattle.model.proofs.AcceptedChords.{TableOk}
@@ -29,6 +30,7 @@ use Rattle.model.proofs.StepBy.{step-owes, OutcomeOwes}
 use Rattle.model.proofs.PoolMeets.{PoolOk}
 use Rattle.model.proofs.PoolRun.{pool-entered, step-pool}
 use Rattle.model.proofs.Adds as A
+use Rattle.model.proofs.Closes as C
 
 -- the empty board, and the empty pool beside it
 pub all-idle : (rests : List ℕ) (i : ℕ) → senderAt (emptyBoard rests) i ≡ idleSender
@@ -118,6 +120,11 @@ call-inv t b (steps i) v = go (stepBy t b i) (step-owes t b i v)
     go : (o : Outcome) → OutcomeOwes t b i o → Inv t (stepAnswer b i o .board)
     go (refused f) x = v
     go (does e) x = call-keeps v (step-call t b i e (x .0) v (x .1))
+call-inv t b (closes day) v = go (closeRefusal b day)
+  where
+    go : (f : ℕ) → Inv t (closeAnswer b day f .board)
+    go zero = C.closed-inv t b day v
+    go (suc f) = v
 
 call-grows : (t : Table) (b : Board) (c : Call) → Inv t b → Grows b (answerTo t b c .board)
 call-grows t b (adds i x) v = go (addRefusal t b i x) refl
@@ -130,6 +137,11 @@ call-grows t b (steps i) v = go (stepBy t b i) (step-owes t b i v)
     go : (o : Outcome) → OutcomeOwes t b i o → Grows b (stepAnswer b i o .board)
     go (refused f) x = grows-refl b
     go (does e) x = grows (step-passage b i e (omega (arith, x .0, v .senders)) (x .1 .lawful))
+call-grows t b (closes day) v = go (closeRefusal b day)
+  where
+    go : (f : ℕ) → Grows b (closeAnswer b day f .board)
+    go zero = C.closed-grows b day
+    go (suc f) = grows-refl b
 
 call-pool : (t : Table) (last b : Board) (p : Pool) (c : Call) → Inv t b → PoolOk t last b p
     → Grows (answerTo t b c .board) last
@@ -147,6 +159,11 @@ call-pool t last b p (steps i) v ok = go (stepBy t b i) (step-owes t b i v) (ste
         → PoolOk t last (stepAnswer b i o .board) (played t (matchReads t last) p (steps i) (stepAnswer b i o .said))
     go (refused f) x m g = ok
     go (does e) x m g = step-pool t last b p ok i e v (x .0) (x .1) g (m .matched)
+call-pool t last b p (closes day) v ok = go (closeRefusal b day)
+  where
+    go : (f : ℕ) → Grows (closeAnswer b day f .board) last → PoolOk t last (closeAnswer b day f .board) p
+    go zero g = C.closed-pool t last b p day ok
+    go (suc f) g = ok
 
 -- a list of calls
 pub all-inv : (t : Table) (cs : List Call) (b : Board) → Inv t b → Inv t (afterAll t b cs)

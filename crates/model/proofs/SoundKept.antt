@@ -14,8 +14,9 @@ use Rattle.model.specs.Boards.{consumed, idle, State, messageAt, working
 use Rattle.model.specs.Effects.{Outcome, refused, does, Effect}
 use Rattle.model.specs.Steps.{resumed, resumeBy, blockedStep, resume-step, stateStep, senderStep, stepBy}
 use Rattle.model.specs.Adds.{centsOk, added, newMessage, newSender, addRefusal}
+use Rattle.model.specs.Closes.{closeRefusal, closedTo}
 use Rattle.model.specs.Sound.{sound, senderOk}
-use Rattle.model.specs.Pools.{stepAnswer, addAnswer, adds, steps}
+use Rattle.model.specs.Pools.{stepAnswer, addAnswer, closeAnswer, adds, steps, closes}
 use Rattle.model.specs.Demands.{Sound-kept}
 use Rattle.model.proofs.Tests.{tests, same?}
 use Rattle.model.proofs.Lists.{snoc-all}
@@ -185,6 +186,28 @@ add-sound t b i x s = go (addRefusal t b i x) refl
         facts-sound (added-kept t b i x (sound-facts t b s) (a .0) (a .2) (a .3) (a .4))
     go (suc n) e = s
 
+closed-sound : (t : Table) (b : Board) (day : ℕ) → sound t b ≡ true → sound t (closedTo b day) ≡ true
+closed-sound t b day e = facts-sound (record {
+  senders-all = s .senders-all;
+  messages-few = s .messages-few;
+  matches-few = s .matches-few;
+  message-at = λ n m. message-wider t g (s .message-at n m);
+  match-at = λ k m. match-wider t g (s .match-at k m);
+  sender-at = λ j. sender-wider t g (s .sender-at j);
+  own-apart = s .own-apart;
+})
+  where
+    s : SoundBoard t b
+    s = sound-facts t b e
+
+    g : Wider b (closedTo b day)
+    g = record { messages-more = omega arith; matches-more = omega arith; kept = λ n m. refl }
+
 pub call-sound : Sound-kept
 call-sound t b (adds i x) s = add-sound t b i x s
 call-sound t b (steps i) s = step-sound t b i s
+call-sound t b (closes day) s = go (closeRefusal b day)
+  where
+    go : (f : ℕ) → sound t (closeAnswer b day f .board) ≡ true
+    go zero = closed-sound t b day s
+    go (suc f) = s

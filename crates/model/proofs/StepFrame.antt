@@ -1,5 +1,6 @@
 -- What a call leaves as it was, for every table and every board: a step alters one message, its sender and signals, and
--- records one match, at most; an add alters its sender and no message that was there; a refusal alters nothing.
+-- records one match, at most; an add alters its sender and no message that was there; a close alters the close day; a
+-- refusal alters nothing.
 use mathlib.Core.Path.{_≡_, refl, ap, sym, subst, subst⁻¹, _∙_}
 use mathlib.Core.Logic.{_≢_}
 use mathlib.Core.Bool.{false}
@@ -15,13 +16,15 @@ use Rattle.model.specs.Effects.{Change, none, turn, records, signals, me
 use Rattle.model.specs.Effects.{Effect, apply, refused, Outcome, does, Said, wordOf, Refused}
 use Rattle.model.specs.Steps.{stepBy}
 use Rattle.model.specs.Adds.{added, addRefusal, newMessage}
-use Rattle.model.specs.Pools.{answerTo, steps, stepAnswer, adds, addAnswer, Call}
-use Rattle.model.specs.Demands.{Same-but-signal, Step-frame, Add-frame, Frame}
+use Rattle.model.specs.Closes.{closeRefusal}
+use Rattle.model.specs.Pools.{answerTo, steps, stepAnswer, adds, addAnswer, closes, closeAnswer, Call}
+use Rattle.model.specs.Demands.{Same-but-signal, Step-frame, Add-frame, Close-frame, Frame}
 use Rattle.model.proofs.Tests.{never}
 use Rattle.model.proofs.Written.{t, ms}
 use Rattle.model.proofs.Words.{step-speaks, OutcomeSpeaks}
 use Rattle.model.proofs.Frame.{senders-each, like, sents-after, messages-count, unaltered}
 use Rattle.model.proofs.PoolMeets.{as-sent, count}
+use Rattle.model.proofs.Closes.{close-accepted}
 
 -- the message that a change turns, 0 for none, and the matches that it records
 touched : Change → ℕ
@@ -79,6 +82,7 @@ step-applied b i e = record {
       (getD-set-other (b .senders) i j (e .sender) idleSender ne)
       (but-signals (e .change) (set (b .senders) i (e .sender)) j);
   backoffs = refl;
+  closed = refl;
 }
 
 step-refused : (b : Board) (i : ℕ) → Step-frame b b i
@@ -92,6 +96,7 @@ step-refused b i = record {
   at-most-one = omega arith;
   other-senders = λ j ne. unaltered _;
   backoffs = refl;
+  closed = refl;
 }
 
 step-frame : (t : Table) (b : Board) (i : ℕ) → Step-frame b (answerTo t b (steps i) .board) i
@@ -113,6 +118,7 @@ add-frame t b i x = go (addRefusal t b i x)
       matches = refl;
       other-senders = λ j ne. getD-set-other (b .senders) i j _ idleSender ne;
       backoffs = refl;
+      closed = refl;
     }
     go (suc f) = record {
       appended = [];
@@ -121,6 +127,26 @@ add-frame t b i x = go (addRefusal t b i x)
       matches = refl;
       other-senders = λ j ne. refl;
       backoffs = refl;
+      closed = refl;
+    }
+
+close-frame : (t : Table) (b : Board) (day : ℕ) → Close-frame b (answerTo t b (closes day) .board)
+close-frame t b day = go (closeRefusal b day) refl
+  where
+    go : (f : ℕ) → closeRefusal b day ≡ f → Close-frame b (closeAnswer b day f .board)
+    go zero e = record {
+      messages = refl;
+      matches = refl;
+      senders = refl;
+      backoffs = refl;
+      closed = close-accepted b day e;
+    }
+    go (suc f) e = record {
+      messages = refl;
+      matches = refl;
+      senders = refl;
+      backoffs = refl;
+      closed = omega arith;
     }
 
 not-refused : (a : Said) (f : ℕ) → eqb (wordOf a) 17 ≡ false → a ≢ Refused f
@@ -139,6 +165,11 @@ refusal-keeps t b (steps i) f = go (stepBy t b i) (step-speaks t b i)
     go : (o : Outcome) → OutcomeSpeaks o → stepAnswer b i o .said ≡ Refused f → stepAnswer b i o .board ≡ b
     go (refused n) a q = refl
     go (does e) a q = absurd (not-refused _ f (a .unrefused) q)
+refusal-keeps t b (closes day) f = go (closeRefusal b day)
+  where
+    go : (n : ℕ) → closeAnswer b day n .said ≡ Refused f → closeAnswer b day n .board ≡ b
+    go zero q = absurd (not-refused _ f refl q)
+    go (suc n) q = refl
 
 pub frame : Frame
-frame = record { step = step-frame; add = add-frame; refusal = refusal-keeps }
+frame = record { step = step-frame; add = add-frame; close = close-frame; refusal = refusal-keeps }

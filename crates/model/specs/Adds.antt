@@ -10,19 +10,24 @@ use Rattle.model.specs.Tables.{Table}
 use Rattle.model.specs.Boards.{Board, Sent, isIdle, senderAt, Message, pending, Sender, working}
 use Rattle.model.specs.Jobs.{newPass}
 
+-- rule 9.8: after the close day
+abbrev pub dayOpen : Board → ℕ → Bool
+dayOpen b day = leb (b .closed) day
+
 -- rule 1.4: cents in range
 abbrev pub centsOk : ℤ → Bool
 centsOk (pos a) = leb a 999999999999
 centsOk (negsuc a) = ltb a 999999999999
 
--- rule 6.4: no such sender, not idle, no such channel, cents not in range, no room
+-- rules 6.4 and 9.8: no such sender, not idle, no such channel, a closed day, cents not in range, no room
 unfoldable pub addRefusal : Table → Board → ℕ → Sent → ℕ
 addRefusal t b i x =
     unless (ltb i 32) 8
     (unless (isIdle (senderAt b i .state)) 9
     (unless (ltb (x .channel) (length (t .kinds))) 10
+    (unless (dayOpen b (x .day)) 19
     (unless (centsOk (x .cents)) 11
-    (unless (ltb (length (b .messages)) 1024) 12 0))))
+    (unless (ltb (length (b .messages)) 1024) 12 0)))))
 
 -- rule 6.4
 abbrev pub newMessage : Sent → Message
@@ -42,4 +47,5 @@ added t b i x =
       matches = b .matches;
       senders = set (b .senders) i (newSender t is (length (b .messages)));
       backoffs = b .backoffs;
+      closed = b .closed;
     }

@@ -73,12 +73,14 @@ pub record Sender : Type 0 where
   pub reply : ℕ
   pub matched : ℕ
 
--- rule 1.6. backoffs: the backoff table (rule 1.9) that the board was opened with
+-- rule 1.6. backoffs: the backoff table (rule 1.9) that the board was opened with; closed: the close day plus 1 (rule
+-- 9.8), so that the days below it are closed
 pub record Board : Type 0 where
   pub messages : List Message
   pub matches : List Match
   pub senders : List Sender
   pub backoffs : List ℕ
+  pub closed : ℕ
 
 abbrev pub noSent : Sent
 noSent = record { channel = 0; property = 0; cents = pos 0; day = 0; unit = 0 }
@@ -106,7 +108,13 @@ channelOf b n = messageAt b n .sent .channel
 
 -- rule 1.10, with this backoff table
 abbrev pub emptyBoard : List ℕ → Board
-emptyBoard rests = record { messages = []; matches = []; senders = replicate 32 idleSender; backoffs = rests }
+emptyBoard rests = record {
+  messages = [];
+  matches = [];
+  senders = replicate 32 idleSender;
+  backoffs = rests;
+  closed = 0;
+}
 
 -- rule 1.9
 unfoldable pub builtinBackoffs : List ℕ

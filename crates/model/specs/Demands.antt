@@ -1,9 +1,9 @@
--- What the board owes its users, as types: the frame of a call (rule 6.8), sound boards kept, quiet (rule 5.6), and
--- demand 3 (rules 7.2 to 7.9). That tables survive stands in Layout.
+-- What the board owes its users, as types: the frame of a call (rule 6.8), sound boards kept, quiet (rule 5.6), closed
+-- days (rule 9.8), and demand 3 (rules 7.2 to 7.9). That tables survive stands in Layout.
 use mathlib.Core.Path.{_≡_}
 use mathlib.Core.Logic.{_≢_}
 use mathlib.Core.Bool.{true, false}
-use mathlib.Core.List.{List, _++_, _∷_}
+use mathlib.Core.List.{List, _++_, _∷_, []}
 use Prim.Native.Nat.{ℕ, _≤_, _<_, suc}
 use lib.Dec.{eqb}
 use lib.IntN.{_+ℤ_}
@@ -13,10 +13,10 @@ use Rattle.model.specs.Tables.{Table, isSync, chordAt}
 use Rattle.model.specs.Layout.{tableRefusal, tableOf}
 use Rattle.model.specs.Boards.{Sender, Board, messageAt, Match, senderAt, Message, Sent, emptyBoard, pending}
 use Rattle.model.specs.Boards.{isPending}
-use Rattle.model.specs.Effects.{Refused, refused, Answered}
+use Rattle.model.specs.Effects.{Refused, refused, Answered, Closed}
 use Rattle.model.specs.Steps.{stepBy}
 use Rattle.model.specs.Sound.{sound}
-use Rattle.model.specs.Pools.{answerTo, steps, adds, Call, quiet, afterAll, MatchRead, Pool, playedAll}
+use Rattle.model.specs.Pools.{answerTo, steps, adds, closes, Call, quiet, afterAll, MatchRead, Pool, playedAll}
 use Rattle.model.specs.Pools.{emptyPool, history, matchReads, ownOf, sentAt, noRead, timesHeld, meets}
 use Rattle.model.specs.Pools.{centsAdded, centsMatched, poolCents}
 
@@ -42,6 +42,7 @@ pub record Step-frame (b b′ : Board) (i : ℕ) : Type 0 where
   pub at-most-one : length recorded ≤ 1
   pub other-senders : (j : ℕ) → j ≢ i → Same-but-signal (senderAt b j) (senderAt b′ j)
   pub backoffs : b′ .backoffs ≡ b .backoffs
+  pub closed : b′ .closed ≡ b .closed
 
 -- rule 6.8: an add by sender i; a message may be appended, all else but that sender stays
 pub record Add-frame (b b′ : Board) (i : ℕ) : Type 0 where
@@ -51,11 +52,21 @@ pub record Add-frame (b b′ : Board) (i : ℕ) : Type 0 where
   pub matches : b′ .matches ≡ b .matches
   pub other-senders : (j : ℕ) → j ≢ i → senderAt b′ j ≡ senderAt b j
   pub backoffs : b′ .backoffs ≡ b .backoffs
+  pub closed : b′ .closed ≡ b .closed
 
--- rules 6.1 and 6.8
+-- rule 9.8: a close; nothing but the close day alters, and that does not fall
+pub record Close-frame (b b′ : Board) : Type 0 where
+  pub messages : b′ .messages ≡ b .messages
+  pub matches : b′ .matches ≡ b .matches
+  pub senders : b′ .senders ≡ b .senders
+  pub backoffs : b′ .backoffs ≡ b .backoffs
+  pub closed : b .closed ≤ b′ .closed
+
+-- rules 6.1, 6.8 and 9.8
 pub record Frame : Type 0 where
   pub step : (t : Table) (b : Board) (i : ℕ) → Step-frame b (answerTo t b (steps i) .board) i
   pub add : (t : Table) (b : Board) (i : ℕ) (x : Sent) → Add-frame b (answerTo t b (adds i x) .board) i
+  pub close : (t : Table) (b : Board) (day : ℕ) → Close-frame b (answerTo t b (closes day) .board)
   -- rule 6.1
   pub refusal : (t : Table) (b : Board) (c : Call) (f : ℕ) → answerTo t b c .said ≡ Refused f
       → answerTo t b c .board ≡ b
@@ -69,6 +80,14 @@ pub record Quiet-exactly : Type 0 where
   pub there : (t : Table) (b : Board) → quiet b ≡ true → (i : ℕ) → i < 32 → stepBy t b i ≡ refused 13
   pub back : (t : Table) (b : Board) → length (b .senders) ≡ 32 → ((i : ℕ) → i < 32 → stepBy t b i ≡ refused 13)
       → quiet b ≡ true
+
+-- rule 9.8: after an accepted close, whatever calls come between, an add of the close day or before is refused
+abbrev pub Stays-closed : Type 0
+Stays-closed = (t : Table) (b : Board) (day : ℕ) (cs : List Call) (i : ℕ) (x : Sent)
+    → answerTo t b (closes day) .said ≡ Closed
+    → x .day ≤ day
+    → (f : ℕ) × (isIn f (8 ∷ 9 ∷ 10 ∷ 19 ∷ []) ≡ true)
+    × (answerTo t (afterAll t b (closes day ∷ cs)) (adds i x) .said ≡ Refused f)
 
 -- Demand 3
 

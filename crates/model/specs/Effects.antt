@@ -7,10 +7,11 @@ use lib.ListN.{getD, set}
 use Rattle.model.specs.Boards.{Status, pending, claimed, woken, consumed, Message, Match, Sender, Board}
 use Rattle.model.specs.Boards.{noMessage, isIdle}
 
--- the words of steps (rules 4.2 to 5.5) and of an add (rule 6.4), with a message's or match's number; or the refusal
+-- the words of steps (rules 4.2 to 5.5), of an add (rule 6.4) and of a close (rule 9.8), with a message's or match's
+-- number; or the refusal
 pub data Said : Type 0 where
   Item Looked Claimed Lost Reverted Matched Consumed Told Woke Freed Signalled Answered Refused : ℕ → Said
-  Missed Again Ended Rested Resumed : Said
+  Missed Again Ended Rested Resumed Closed : Said
 
 -- rule 6.1: the number that refuses; 0 where the call was accepted
 abbrev pub numberOf : Said → ℕ
@@ -31,9 +32,10 @@ numberOf Ended = 0
 numberOf Rested = 0
 numberOf (Answered k) = 0
 numberOf Resumed = 0
+numberOf Closed = 0
 numberOf (Refused f) = f
 
--- rule 8.4: the word, by its number: 0 item, 1 looked, .., 16 resumed; 17 refused
+-- rule 8.4: the word, by its number: 0 item, 1 looked, .., 16 resumed; 17 refused; 18 closed (rule 9.8)
 abbrev pub wordOf : Said → ℕ
 wordOf (Item n) = 0
 wordOf (Looked n) = 1
@@ -53,6 +55,7 @@ wordOf Rested = 14
 wordOf (Answered k) = 15
 wordOf Resumed = 16
 wordOf (Refused f) = 17
+wordOf Closed = 18
 
 -- rule 8.4: the message's or match's number beside the word; 0 where there is none
 abbrev pub valueOf : Said → ℕ
@@ -73,6 +76,7 @@ valueOf Ended = 0
 valueOf Rested = 0
 valueOf (Answered k) = k
 valueOf Resumed = 0
+valueOf Closed = 0
 valueOf (Refused f) = 0
 
 -- rule 6.8: how one message turns. consumes has the match plus 1, wakes-by the waker.
@@ -164,6 +168,7 @@ apply b i e = record {
   matches = matchesAfter (e .change) (b .matches);
   senders = sendersAfter (e .change) (set (b .senders) i (e .sender));
   backoffs = b .backoffs;
+  closed = b .closed;
 }
 
 -- a call refused by its number, or the effect that it has

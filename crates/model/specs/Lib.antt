@@ -9,6 +9,7 @@ pub mod Looks
 pub mod Steps
 pub mod Holdings
 pub mod Adds
+pub mod Closes
 pub mod Sound
 pub mod Pools
 pub mod Lines

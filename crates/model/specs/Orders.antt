@@ -1,5 +1,5 @@
--- Orders that the rules fix, as types: of an add's refusals (rules 6.1 and 6.4), and of the rests of a job's retries
--- (rule 4.10).
+-- Orders that the rules fix, as types: of an add's refusals (rules 6.1, 6.4 and 9.8), and of the rests of a job's
+-- retries (rule 4.10).
 use mathlib.Core.Path.{_≡_}
 use mathlib.Core.Bool.{true, false, _&&_}
 use mathlib.Core.List.{map, [], _∷_}
@@ -14,7 +14,7 @@ use Rattle.model.specs.Jobs.{inJob}
 use Rattle.model.specs.Steps.{more, pass-end-step, restsThen}
 use Rattle.model.specs.Adds.{addRefusal}
 
--- rules 6.1 and 6.4: each number where its ground holds and none before it, whatever comes after
+-- rules 6.1, 6.4 and 9.8: each number where its ground holds and none before it, whatever comes after
 pub record Add-order (t : Table) (b : Board) (i : ℕ) (x : Sent) : Type 0 where
   pub no-sender : 32 ≤ i → addRefusal t b i x ≡ 8
   pub not-idle : i < 32 → isIdle (senderAt b i .state) ≡ false → addRefusal t b i x ≡ 9
@@ -22,20 +22,28 @@ pub record Add-order (t : Table) (b : Board) (i : ℕ) (x : Sent) : Type 0 where
       → isIdle (senderAt b i .state) ≡ true
       → length (t .kinds) ≤ x .channel
       → addRefusal t b i x ≡ 10
+  pub day-closed : i < 32
+      → isIdle (senderAt b i .state) ≡ true
+      → x .channel < length (t .kinds)
+      → x .day < b .closed
+      → addRefusal t b i x ≡ 19
   pub cents-out : i < 32
       → isIdle (senderAt b i .state) ≡ true
       → x .channel < length (t .kinds)
+      → b .closed ≤ x .day
       → 999_999_999_999 < natAbs (x .cents)
       → addRefusal t b i x ≡ 11
   pub full : i < 32
       → isIdle (senderAt b i .state) ≡ true
       → x .channel < length (t .kinds)
+      → b .closed ≤ x .day
       → natAbs (x .cents) ≤ 999_999_999_999
       → 1024 ≤ length (b .messages)
       → addRefusal t b i x ≡ 12
   pub accepted : i < 32
       → isIdle (senderAt b i .state) ≡ true
       → x .channel < length (t .kinds)
+      → b .closed ≤ x .day
       → natAbs (x .cents) ≤ 999_999_999_999
       → length (b .messages) < 1024
       → addRefusal t b i x ≡ 0

@@ -8,17 +8,19 @@ use lib.ListN.{length, getD, replicate, set}
 use Rattle.model.specs.Basics.{every, isIn, allOf, pick}
 use Rattle.model.specs.Tables.{Table, Chord, chordAt}
 use Rattle.model.specs.Boards.{Sent, Board, State, idle, working, blocked, Match, centsOf, messageAt, noSent}
-use Rattle.model.specs.Effects.{Said, Outcome, refused, Refused, does, apply, Item, valueOf, wordOf}
+use Rattle.model.specs.Effects.{Said, Outcome, refused, Refused, does, apply, Item, Closed, valueOf, wordOf}
 use Rattle.model.specs.Looks.{alike}
 use Rattle.model.specs.Steps.{stepBy}
 use Rattle.model.specs.Adds.{added, addRefusal}
+use Rattle.model.specs.Closes.{closeRefusal, closedTo}
 
 -- Calls and their answers
 
--- rules 6.4 and 6.5
+-- rules 6.4, 6.5 and 9.8
 pub data Call : Type 0 where
   adds : ℕ → Sent → Call
   steps : ℕ → Call
+  closes : ℕ → Call
 
 pub record Answer : Type 0 where
   pub said : Said
@@ -34,10 +36,16 @@ abbrev pub addAnswer : Table → Board → ℕ → Sent → ℕ → Answer
 addAnswer t b i x zero = record { said = Item (length (b .messages)); board = added t b i x }
 addAnswer t b i x (suc f) = record { said = Refused (suc f); board = b }
 
--- rules 6.4 and 6.5
+-- rules 9.8 and 6.1
+abbrev pub closeAnswer : Board → ℕ → ℕ → Answer
+closeAnswer b day zero = record { said = Closed; board = closedTo b day }
+closeAnswer b day (suc f) = record { said = Refused (suc f); board = b }
+
+-- rules 6.4, 6.5 and 9.8
 abbrev pub answerTo : Table → Board → Call → Answer
 answerTo t b (adds i x) = addAnswer t b i x (addRefusal t b i x)
 answerTo t b (steps i) = stepAnswer b i (stepBy t b i)
+answerTo t b (closes day) = closeAnswer b day (closeRefusal b day)
 
 -- rule 7.1: the board after a schedule
 abbrev pub afterAll : Table → Board → List Call → Board
@@ -178,6 +186,7 @@ leaves t ms p k true = record {
 abbrev pub played : Table → List MatchRead → Pool → Call → Said → Pool
 played t ms p (adds i x) a = enters i x p (valueOf a) (eqb (wordOf a) 0)
 played t ms p (steps i) a = leaves t ms p (valueOf a) (eqb (wordOf a) 6)
+played t ms p (closes day) a = p
 
 -- rule 7.3: by the calls and their answers, with the match reads ms
 abbrev pub playedAll : Table → List MatchRead → Pool → List Exchange → Pool

@@ -63,7 +63,8 @@ unfoldable pub words : List Word
 words =
     named "item" ∷ named "looked" ∷ alone "missed" ∷ named "claimed" ∷ named "lost" ∷ named "reverted" ∷
     named "matched" ∷ named "consumed" ∷ named "told" ∷ named "woke" ∷ named "freed" ∷ named "signalled" ∷
-    alone "again" ∷ alone "ended" ∷ alone "rested" ∷ named "answered" ∷ alone "resumed" ∷ named "refused" ∷ []
+    alone "again" ∷ alone "ended" ∷ alone "rested" ∷ named "answered" ∷ alone "resumed" ∷ named "refused" ∷
+    alone "closed" ∷ []
 
 abbrev pub wordAt : ℕ → Word
 wordAt n = getD words n (alone "")

@@ -12,8 +12,8 @@ use Rattle.model.specs.Tables.{Table}
 use Rattle.model.specs.Layout.{tableRefusal, tableOf}
 use Rattle.model.specs.Boards.{emptyBoard, builtinBackoffs, Status, consumed}
 use Rattle.model.specs.Effects.{Said, Item, Missed, Ended, Refused, Looked, Claimed, Woke, Freed, Signalled}
-use Rattle.model.specs.Effects.{Resumed, Matched, Consumed, Lost, Reverted, Again, Told, Answered, Rested}
-use Rattle.model.specs.Pools.{Call, history, adds, steps, MatchRead, quiet, matchReads}
+use Rattle.model.specs.Effects.{Resumed, Matched, Consumed, Lost, Reverted, Again, Told, Answered, Rested, Closed}
+use Rattle.model.specs.Pools.{Call, history, adds, steps, closes, MatchRead, quiet, matchReads}
 use Rattle.model.specs.Demands.{boardAfter}
 
 -- a table's bytes and calls; the reader's number and what the calls are to answer
@@ -235,6 +235,19 @@ samples =
     runAs (wanting 1 1 2) (threeFlats 7 1 7 2) (saidFlats (Looked 0)) ∷
     runAs (wanting 1 1 2) (threeFlats 8 2 7 1) (saidFlats (Looked 1)) ∷
     runAs (wanting 0 1 2) (threeFlats 8 1 7 2) (saidFlats (Looked 0)) ∷
+    -- rule 9.8: no day is closed at first; then the close day is, and the next is not
+    runAs tableP (sendOn 0 0 7 0 0 ∷ closes 0 ∷ sendOn 1 0 7 0 0 ∷ sendOn 1 0 7 0 1 ∷ [])
+    (Item 0 ∷ Closed ∷ Refused 19 ∷ Item 1 ∷ []) ∷
+    -- rule 9.8: 19 before 11, after 10
+    runAs tableP
+    (closes 5 ∷ sendOn 0 0 7 1_000_000_000_000 5 ∷ sendOn 0 0 7 1_000_000_000_000 6 ∷ sendOn 0 2 7 0 5 ∷ [])
+    (Closed ∷ Refused 19 ∷ Refused 11 ∷ Refused 10 ∷ []) ∷
+    -- rule 9.8: 20 for a day before the close day; an equal one is accepted
+    runAs tableP (closes 5 ∷ closes 4 ∷ closes 5 ∷ closes 4_294_967_295 ∷ [])
+    (Closed ∷ Refused 20 ∷ Closed ∷ Closed ∷ []) ∷
+    -- rule 9.8: a message whose day was closed is found
+    runAs (repeating 1 2) (sendOn 0 0 7 0 3 ∷ closes 3 ∷ sendOn 1 0 7 0 4 ∷ replicate 2 (steps 1))
+    (Item 0 ∷ Closed ∷ Item 1 ∷ Looked 1 ∷ Looked 0 ∷ []) ∷
     -- rules 4.2 and 4.3: a message takes one member, not two of its channel
     runAs (repeating 1 2) oneMessage saidOne ∷
     -- rule 4.6: with a second message both match

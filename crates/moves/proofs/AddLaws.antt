@@ -5,7 +5,7 @@ use mathlib.Core.List.{List}
 use Prim.Native.Nat.{ℕ, zero, suc, _+_, _<_}
 use native.Mathlib.Omega.{arith}
 use native.Mathlib.Numerals.{add-one}
-use lib.ListN.{length, drop, set, length-set}
+use lib.ListN.{length, getD, drop, set, length-set}
 use lib.Seq.{drop-set-lt}
 use Rattle.model.specs.Boards.{Sent}
 use Rattle.model.specs.Effects.{Refused, Item}
@@ -16,9 +16,9 @@ use Rattle.columns.specs.Columns.{Columns, daysAt}
 use Rattle.columns.proofs.Messages.{length-messages}
 use Rattle.boards.specs.Boards.{HeldBoard, boardIn}
 use Rattle.boards.specs.Calls.{Held, held}
-use Rattle.boards.specs.Layout.{propertiesIn, daysIn}
+use Rattle.boards.specs.Layout.{propertiesIn, daysIn, closeDayAt}
 use Rattle.boards.proofs.PartLaws.{set-here, set-before, set-after}
-use Rattle.adds.proofs.MessageLaws.{keyed}
+use Rattle.adds.proofs.MessageLaws.{keyed, close-kept}
 use Rattle.refusals.specs.Judged.{Lengths}
 use Rattle.refusals.specs.Calls.{boardOf, refusalOf, Beyond, rowAt, Same-row, Plays}
 use Rattle.refusals.proofs.Refusals.{lent-whole, statuses-known}
@@ -67,7 +67,8 @@ module _ (s : List ℕ) (h : Held) (i : ℕ) (x : Sent) (z : refusalOf s h ≡ 0
       plays-nothing s h (adds i x) z (Refused (suc f)) (rw q) (rw q)
 
   module _ (b′ : HeldBoard) (c′ : Columns) (w : Wrote (h .columns) c′ (h .board .messages) x)
-      (q : b′ .messages ≡ h .board .messages + 1) (k : b′ .matches ≡ h .board .matches) where
+      (q : b′ .messages ≡ h .board .messages + 1) (k : b′ .matches ≡ h .board .matches)
+      (closed : b′ .closed ≡ h .board .closed) where
     abbrev n : ℕ
     n = h .board .messages
 
@@ -109,6 +110,9 @@ module _ (s : List ℕ) (h : Held) (i : ℕ) (x : Sent) (z : refusalOf s h ≡ 0
       chords = refl;
       messages = refl;
       recorded = refl;
+      stays-closed = λ e. closed ∙ e;
+      close-day = λ e. ap (λ (ks : List ℕ). getD ks closeDayAt 0) (w .keys)
+          ∙ close-kept (o .keys) n (x .property) (x .day) (w .few);
     }
 
     pub add-plays : addRefusal (tableOf s) (boardOf s h) i x ≡ 0

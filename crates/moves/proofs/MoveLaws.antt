@@ -63,7 +63,7 @@ module _ (s : List ℕ) (h : Held) (z : refusalOf s h ≡ 0) where
   abbrev AddMoves : ℕ → Type 0
   AddMoves k =
       (i : ℕ) (x : DS.Sent) (d : DD.Sender) → k < 1024
-      → callRefusal (tableOf s) (h .board) (adds i (sentIn x)) ≡ 0
+      → callRefusal (tableOf s) (h .board) (h .columns .keys) (adds i (sentIn x)) ≡ 0
       → ((ms : List Message) → getD ms k noMessage .sent .channel ≡ x .channel
       → senderIn (tableOf s) d ≡ newSender (tableOf s) ms k)
       → Plays s h (adds i (sentIn x)) (Item k) (movedHeld h i (addition k x d))
@@ -92,7 +92,7 @@ module _ (s : List ℕ) (h : Held) (z : refusalOf s h ≡ 0) where
         wakers = refl;
         units = refl;
       } in
-      add-plays s h i y z (withMessage (h .board) i d) (written o n y) wrote refl refl
+      add-plays s h i y z (withMessage (h .board) i d) (written o n y) wrote refl refl refl
       (refusal-is (tableOf s) (h .board) o (h .matches) i y ∙ e)
       (added-is (tableOf s) (h .board) i y d o (h .matches) room _ _ _ _ _ _ _ f refl refl refl refl refl refl refl)
       (others-after G.None (h .board .senders) i d)
@@ -140,6 +140,8 @@ module _ (s : List ℕ) (h : Held) (z : refusalOf s h ≡ 0) where
           chords = b .1;
           messages = b .2;
           recorded = b .3;
+          stays-closed = λ e. e;
+          close-day = λ e. refl;
         }
 
     pub step-move : Plays s h (steps i) (saidIn (x .said)) after

@@ -3,9 +3,9 @@ use mathlib.Core.Path.{_≡_, refl, sym, _∙_}
 use mathlib.Core.Logic.{_≢_}
 use mathlib.Core.Bool.{Bool, true, false}
 use mathlib.Core.List.{List}
-use Prim.Native.Nat.{ℕ, _<_, _≤_}
+use Prim.Native.Nat.{ℕ, zero, suc, _<_, _≤_}
 use borrow.Author.Tests.{lt-ltb, le-ltb, ltb-true, ltb-false}
-use lib.Dec.{ltb}
+use lib.Dec.{leb, ltb}
 use lib.ListN.{getD, length}
 use lib.IntN.{ℤ}
 use Rattle.model.specs.Basics.{unless}
@@ -14,13 +14,17 @@ use Rattle.model.specs.Tables.{Table}
 use Rattle.model.specs.Boards.{Sent}
 use Rattle.model.specs.Effects.{Refused}
 use Rattle.model.specs.Adds.{centsOk}
-use Rattle.model.specs.Pools.{Call, adds, steps}
+use Rattle.model.specs.Closes.{closeRefusal}
+use Rattle.model.specs.Pools.{Call, adds, steps, closes}
 use Rattle.model.proofs.Tests.{unless-none}
 use Rattle.state.specs.Views.{senderIn, idleIs, senderSteps}
-use Rattle.boards.specs.Boards.{HeldBoard, zeroSender}
-use Rattle.boards.specs.Calls.{Held}
+use Rattle.boards.specs.declared.Call as DC
+use Rattle.boards.specs.declared.Call.the-variants as C
+use Rattle.boards.specs.Boards.{HeldBoard, closedIn, zeroSender}
+use Rattle.boards.specs.Calls.{Held, callIn}
 use Rattle.boards.proofs.SenderLaws.{nth-sender}
 use Rattle.refusals.specs.Calls.{boardOf, refusalOf, callerOf, Plays}
+use Rattle.refusals.proofs.CallLaws.{plays-nothing}
 use Rattle.steps.proofs.StateSteps.{refused-is}
 use Rattle.adds.specs.Refusals.{refusalBy}
 use Rattle.adds.proofs.RefusalLaws.{refusal-is}
@@ -32,50 +36,55 @@ pub place-in : (i : ℕ) → i < 32 → placeOf i ≡ i
 place-in i l = rw (lt-ltb i 32 l)
 
 -- a step is refused by its sender's number, or by its sender
-module _ (t : Table) (b : HeldBoard) (i : ℕ) where
-  pub step-8 : 32 ≤ i → 8 ≡ callRefusal t b (steps i)
+module _ (t : Table) (b : HeldBoard) (keys : List ℕ) (i : ℕ) where
+  pub step-8 : 32 ≤ i → 8 ≡ callRefusal t b keys (steps i)
   step-8 l = rw (le-ltb i 32 l)
 
-  pub step-13 : i < 32 → senderSteps (getD (b .senders) i zeroSender) ≡ false → 13 ≡ callRefusal t b (steps i)
+  pub step-13 : i < 32 → senderSteps (getD (b .senders) i zeroSender) ≡ false → 13 ≡ callRefusal t b keys (steps i)
   step-13 l e = rw (lt-ltb i 32 l, e)
 
-  pub step-0 : i < 32 → senderSteps (getD (b .senders) i zeroSender) ≡ true → 0 ≡ callRefusal t b (steps i)
+  pub step-0 : i < 32 → senderSteps (getD (b .senders) i zeroSender) ≡ true → 0 ≡ callRefusal t b keys (steps i)
   step-0 l e = rw (lt-ltb i 32 l, e)
 
 -- an add is refused by what is read at its sender's place
-pub add-by : (t : Table) (b : HeldBoard) (i : ℕ) (x : Sent) (idle : Bool) (n : ℕ)
-    → idle ≡ idleIs (getD (b .senders) (placeOf i) zeroSender .state) → n ≡ b .messages
-    → refusalBy t i idle (x .channel) (x .cents) n ≡ callRefusal t b (adds i x)
-add-by t b i x idle n e k = rw (e, k) (go (ltb i 32) refl)
+pub add-by : (t : Table) (b : HeldBoard) (keys : List ℕ) (i : ℕ) (x : Sent) (idle timely : Bool) (n : ℕ)
+    → idle ≡ idleIs (getD (b .senders) (placeOf i) zeroSender .state) → timely ≡ leb (closedIn b keys) (x .day)
+    → n ≡ b .messages
+    → refusalBy t i idle timely (x .channel) (x .cents) n ≡ callRefusal t b keys (adds i x)
+add-by t b keys i x idle timely n e d k = rw (e, d, k) (go (ltb i 32) refl)
   where
     go : (u : Bool) → ltb i 32 ≡ u
-        → refusalBy t i (idleIs (getD (b .senders) (placeOf i) zeroSender .state)) (x .channel) (x .cents) (b .messages)
-        ≡ callRefusal t b (adds i x)
+        → refusalBy t i (idleIs (getD (b .senders) (placeOf i) zeroSender .state)) (leb (closedIn b keys) (x .day))
+        (x .channel) (x .cents) (b .messages)
+        ≡ callRefusal t b keys (adds i x)
     go true l = rw (place-in i (ltb-true i 32 l))
     go false l = rw l
 
 -- what an add that is not refused has
-pub unrefused : (t : Table) (i : ℕ) (idle : Bool) (channel : ℕ) (cents : ℤ) (n : ℕ)
-    → refusalBy t i idle channel cents n ≡ 0 → (i < 32) × (channel < length (t .kinds)) × (n < 1024)
-unrefused t i idle channel cents n e =
+pub unrefused : (t : Table) (i : ℕ) (idle timely : Bool) (channel : ℕ) (cents : ℤ) (n : ℕ)
+    → refusalBy t i idle timely channel cents n ≡ 0 → (i < 32) × (channel < length (t .kinds)) × (n < 1024)
+unrefused t i idle timely channel cents n e =
     let p = unless-none (ltb i 32) 7 _ e in
     let q = unless-none idle 8 _ (p .1) in
     let u = unless-none (ltb channel (length (t .kinds))) 9 _ (q .1) in
-    let v = unless-none (centsOk cents) 10 _ (u .1) in
+    let d = unless-none timely 18 _ (u .1) in
+    let v = unless-none (centsOk cents) 10 _ (d .1) in
     let w = unless-none (ltb n 1024) 11 0 (v .1) in
     (ltb-true i 32 (p .0), ltb-true channel _ (u .0), ltb-true n 1024 (w .0))
 
 -- what a step that is not refused has
-pub may-step : (t : Table) (b : HeldBoard) (i : ℕ) → callRefusal t b (steps i) ≡ 0
+pub may-step : (t : Table) (b : HeldBoard) (keys : List ℕ) (i : ℕ) → callRefusal t b keys (steps i) ≡ 0
     → (i < 32) × (senderSteps (getD (b .senders) i zeroSender) ≡ true)
-may-step t b i e =
+may-step t b keys i e =
     let p = unless-none (ltb i 32) 7 _ e in
     (ltb-true i 32 (p .0), unless-none (senderSteps (getD (b .senders) i zeroSender)) 12 0 (p .1) .0)
 
-pub caller-in : (t : Table) (b : HeldBoard) (k : Call) → callRefusal t b k ≡ 0 → callerOf k < 32
-caller-in t b (adds i x) e =
-    unrefused t i (idleIs (getD (b .senders) i zeroSender .state)) (x .channel) (x .cents) (b .messages) e .0
-caller-in t b (steps i) e = may-step t b i e .0
+pub caller-in : (t : Table) (b : HeldBoard) (keys : List ℕ) (c : DC.Call) → callRefusal t b keys (callIn c) ≡ 0
+    → callerOf (callIn c) < 32
+caller-in t b keys (C.Add i x) e =
+    unrefused t i (idleIs (getD (b .senders) i zeroSender .state)) (leb (closedIn b keys) (x .day)) (x .channel)
+    (x .cents) (b .messages) e .0
+caller-in t b keys (C.Step i) e = may-step t b keys i e .0
 
 module _ (s : List ℕ) (h : Held) (z : refusalOf s h ≡ 0) where
   step-refused : (i : ℕ) (u v : Bool) → ltb i 32 ≡ u → senderSteps (getD (h .board .senders) i zeroSender) ≡ v
@@ -90,11 +99,20 @@ module _ (s : List ℕ) (h : Held) (z : refusalOf s h ≡ 0) where
       (ltb-true i 32 e)
       ∙ refused-is (tableOf s) (boardOf s h) d f)
 
-  refused-by : (k : Call) → callRefusal (tableOf s) (h .board) k ≢ 0
-      → Plays s h k (Refused (callRefusal (tableOf s) (h .board) k)) h
+  close-refused : (day f : ℕ) → f ≡ closeRefusal (boardOf s h) day → f ≢ 0 → Plays s h (closes day) (Refused f) h
+  close-refused day zero e n = absurd (n refl)
+  close-refused day (suc f) e n =
+      let q = sym e in
+      plays-nothing s h (closes day) z (Refused (suc f)) (rw q) (rw q)
+
+  refused-by : (k : Call) → callRefusal (tableOf s) (h .board) (h .columns .keys) k ≢ 0
+      → Plays s h k (Refused (callRefusal (tableOf s) (h .board) (h .columns .keys) k)) h
+  unfolding closeRefusal
   refused-by (adds i x) n =
       add-refused s h i x z _ (sym (refusal-is (tableOf s) (h .board) (h .columns) (h .matches) i x)) n
   refused-by (steps i) n = step-refused i _ _ refl refl n
+  refused-by (closes day) n = close-refused day _ refl n
 
-  pub refused-call : (k : Call) (f : ℕ) → f ≡ callRefusal (tableOf s) (h .board) k → f ≢ 0 → Plays s h k (Refused f) h
+  pub refused-call : (k : Call) (f : ℕ) → f ≡ callRefusal (tableOf s) (h .board) (h .columns .keys) k → f ≢ 0
+      → Plays s h k (Refused f) h
   refused-call k f e n = rw e (refused-by k (λ x. n (e ∙ x)))

@@ -27,7 +27,7 @@ use Rattle.columns.proofs.Messages.{length-messages, nth-channel}
 use Rattle.state.specs.declared.Sender as DD
 use Rattle.state.specs.declared.Effect as DE
 use Rattle.state.specs.Views.{senderIn, effectIn}
-use Rattle.boards.specs.Boards.{HeldBoard, boardIn}
+use Rattle.boards.specs.Boards.{HeldBoard, boardIn, closedIn}
 use Rattle.boards.specs.Calls.{Held}
 use Rattle.refusals.specs.Judged.{boardRefusal}
 use Rattle.refusals.specs.Calls.{boardOf, refusalOf, Plays}
@@ -111,6 +111,7 @@ module _ (s : List ℕ) (b : HeldBoard) (c : Columns) (m : MatchColumns) (e : bo
     matches = matchesFrom t m 0 (b .matches);
     senders = map (senderIn t) (b .senders);
     backoffs = builtinBackoffs;
+    closed = closedIn b (c .keys);
   }
 
   lent-all : Lent (b .messages) (c .channels) (c .keys) (c .units) (c .statuses)

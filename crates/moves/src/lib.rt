@@ -1,6 +1,7 @@
 // What a call does: refused by itself, or a move, computed from its sender and the lists.
 ghost use mathlib.Core.Path.{_≡_};
 ghost use mathlib.Core.Bool.{true};
+ghost use mathlib.Core.List.{List};
 ghost use Prim.Native.Nat.{ℕ, _<_};
 ghost use lib.ListN.{length, getD};
 ghost use Rattle.model.specs.Tables.{Table};
@@ -11,7 +12,7 @@ ghost use Rattle.columns.specs.Columns.{Passed};
 ghost use Rattle.state.specs.Views.{saidIn, senderSteps};
 ghost use Rattle.boards.specs.Boards.{zeroSender};
 ghost use Rattle.boards.specs.Calls.{Held, sentIn, callIn};
-ghost use Rattle.boards.specs.Layout.{lists, statusesIn};
+ghost use Rattle.boards.specs.Layout.{keysLen, lists, statusesIn};
 ghost use Rattle.rows.specs.Numbers.{encodes};
 ghost use Rattle.rows.specs.Decoded.{boardFrom};
 ghost use Rattle.refusals.specs.Held.{heldOf, Accepted};
@@ -47,7 +48,8 @@ fn place_of(i: u16) -> u8
 // The number that refuses a step of sender i; 0 for none.
 fn step_refusal(board: &[u16], i: u16) -> u8
     requires { ⌜ encodes (now board) ≡ true ⌝ }
-    ensures { λ r. ⌜ ((t : Table) → r ≡ callRefusal t (boardFrom (now (board .entry))) (steps i)) ⌝ }
+    ensures { λ r. ⌜ ((t : Table) (keys : List ℕ)
+        → r ≡ callRefusal t (boardFrom (now (board .entry))) keys (steps i)) ⌝ }
 {
     if i >= 32 {
         return 8;
@@ -59,14 +61,16 @@ fn step_refusal(board: &[u16], i: u16) -> u8
 }
 
 // The number that refuses a call by itself; 0 for none.
-pub fn call_refusal(table: &[u8], board: &[u16], call: Call) -> u8
-    requires { ⌜ (tableRefusal (now table) ≡ 0) × (encodes (now board) ≡ true) ⌝ }
-    ensures { λ r. ⌜ r ≡ callRefusal (tableOf (now (table .entry))) (boardFrom (now (board .entry))) (callIn call) ⌝ }
+pub fn call_refusal(table: &[u8], board: &[u16], keys: &[u32], call: Call) -> u8
+    requires { ⌜ (tableRefusal (now table) ≡ 0) × (encodes (now board) ≡ true) × (length (now keys) ≡ keysLen) ⌝ }
+    ensures { λ r. ⌜ r ≡ callRefusal (tableOf (now (table .entry))) (boardFrom (now (board .entry)))
+        (now (keys .entry)) (callIn call) ⌝ }
 {
     match call {
         Call::Add(i, x) => {
             let idle = rows::is_idle(board, place_of(i));
-            adds::add_refusal(table, i, idle, x, board[0])
+            let timely = closes::day_open(board[boards::CLOSED], keys[boards::CLOSE_DAY], x.day);
+            adds::add_refusal(table, i, idle, timely, x, board[0])
         }
         Call::Step(i) => step_refusal(board, i),
     }
@@ -76,7 +80,7 @@ pub fn call_refusal(table: &[u8], board: &[u16], call: Call) -> u8
 fn add_move(table: &[u8], n: u16, x: Sent) -> Move
     requires { ⌜ (tableRefusal (now table) ≡ 0) × (x .channel < length (tableOf (now table) .kinds)) × (n < 1024) ⌝ }
     ensures { λ r. ⌜ ((h : Held) (i : ℕ) → refusalOf (now (table .entry)) h ≡ 0 → h .board .messages ≡ n
-        → callRefusal (tableOf (now (table .entry))) (h .board) (adds i (sentIn x)) ≡ 0
+        → callRefusal (tableOf (now (table .entry))) (h .board) (h .columns .keys) (adds i (sentIn x)) ≡ 0
         → Plays (now (table .entry)) h (adds i (sentIn x)) (saidIn (r .said)) (movedHeld h i r)) ⌝ }
     ensures { λ r. ⌜ ((k : ℕ) → Fits n k r) × (numberOf (saidIn (r .said)) ≡ 0) ⌝ }
 {
@@ -154,7 +158,7 @@ pub fn move_of(
     start: u16,
 ) -> Move
     requires { ⌜ Accepted (now table) (lists (now board) (now bytes) (now links) (now keys) (now cents)) ⌝ }
-    requires { ⌜ callRefusal (tableOf (now table)) (boardFrom (now board)) (callIn call) ≡ 0 ⌝ }
+    requires { ⌜ callRefusal (tableOf (now table)) (boardFrom (now board)) (now keys) (callIn call) ≡ 0 ⌝ }
     requires { ⌜ Passed start (getD (now board) 0 0) (statusesIn (now bytes)) ⌝ }
     ensures { λ r. ⌜ Plays (now (table .entry))
         (heldOf (lists (now (board .entry)) (now (bytes .entry)) (now (links .entry)) (now (keys .entry))

@@ -5,17 +5,21 @@ use mathlib.Core.Bool.{true}
 use mathlib.Core.List.{List}
 use Prim.Native.Nat.{ℕ, _+_}
 use native.Mathlib.Omega.{arith}
+use lib.ListN.{length, set, length-set}
 use Rattle.model.specs.Layout.{tableOf}
-use Rattle.model.specs.Effects.{Said, Refused, numberOf}
-use Rattle.model.specs.Pools.{Call}
-use Rattle.boards.specs.Layout.{Lists, Sized}
+use Rattle.model.specs.Effects.{Said, Refused, Closed, numberOf}
+use Rattle.model.specs.Pools.{Call, closes}
+use Rattle.boards.specs.Layout.{Lists, lists, closeDayAt, Sized}
 use Rattle.rows.specs.Numbers.{encodes}
+use Rattle.rows.specs.Decoded.{boardFrom}
+use Rattle.closes.specs.Closed.{closedBoard, closedHeld}
 use Rattle.refusals.specs.Held.{heldOf, Accepted}
 use Rattle.refusals.specs.Calls.{Plays}
 use Rattle.writes.specs.declared.Move as DM
 use Rattle.writes.specs.Moves.{movedHeld}
 use Rattle.moves.specs.Refused.{callRefusal}
 use Rattle.moves.proofs.RefusedLaws.{refused-call}
+use Rattle.moves.proofs.CloseLaws.{close-plays}
 use Rattle.plays.specs.Plays.{PlaysIn}
 use Rattle.plays.specs.Replays.{CallRows, callAt}
 
@@ -33,7 +37,8 @@ module _ (s : List ℕ) (l : Lists) (k : Call) where
   }
 
   module _ (a : Accepted s l) where
-    pub play-refused : (f : ℕ) → f ≡ callRefusal (tableOf s) (heldOf l .board) k → f ≢ 0 → PlaysIn s l k (Refused f) l
+    pub play-refused : (f : ℕ) → f ≡ callRefusal (tableOf s) (heldOf l .board) (l .keys) k → f ≢ 0
+        → PlaysIn s l k (Refused f) l
     play-refused f e n = record {
       plays = refused-call s (heldOf l) (a .accepted) k f e n;
       numbers = a .numbers;
@@ -44,6 +49,27 @@ module _ (s : List ℕ) (l : Lists) (k : Call) where
     pub accepted-after : (w : Said) (l′ : Lists) → PlaysIn s l k w l′ → Accepted s l′
     accepted-after w l′ p =
         record { numbers = p .numbers; sized = p .sized; accepted = p .plays .accepted (a .accepted) }
+
+-- a close, written
+pub closed-lists : (s : List ℕ) (l : Lists) (day : ℕ) → Accepted s l
+    → callRefusal (tableOf s) (heldOf l .board) (l .keys) (closes day) ≡ 0
+    → (board keys : List ℕ) → encodes board ≡ true → boardFrom board ≡ closedBoard (boardFrom (l .board))
+    → keys ≡ set (l .keys) closeDayAt day
+    → PlaysIn s l (closes day) Closed (lists board (l .bytes) (l .links) keys (l .cents))
+closed-lists s l day a z board keys e b k = record {
+  plays = subst (Plays s (heldOf l) (closes day) Closed) (sym held) (close-plays s (heldOf l) day (a .accepted) z);
+  numbers = e;
+  sized = record {
+    bytes-len = a .sized .bytes-len;
+    links-len = a .sized .links-len;
+    keys-len = ap length k ∙ length-set (l .keys) closeDayAt day ∙ a .sized .keys-len;
+    cents-len = a .sized .cents-len;
+  };
+  keeps = λ n. absurd (n refl);
+}
+  where
+    held : heldOf (lists board (l .bytes) (l .links) keys (l .cents)) ≡ closedHeld (heldOf l) day
+    held = rw (b, k)
 
 -- after k calls of c, the last of which said w: l₀ as it was, or as its first call left it
 pub record First (s : List ℕ) (l₀ : Lists) (c : CallRows) (k : ℕ) (w : Said) (l : Lists) : Type 0 where

@@ -1,7 +1,7 @@
 -- The calls played so far, and those left, come to all of them.
 use mathlib.Core.Path.{_≡_, refl, sym, ap, subst, subst⁻¹, _∙_}
 use mathlib.Core.Logic.{_≢_}
-use mathlib.Core.Bool.{true, false}
+use mathlib.Core.Bool.{Bool, true, false}
 use mathlib.Core.List.{List, [], _∷_, _++_, map, append-assoc, append-nil, map-append}
 use Prim.Native.Nat.{ℕ, suc, _+_, _*_, _-_, _<_, _≤_}
 use native.Mathlib.Numerals.{add-one}
@@ -12,14 +12,16 @@ use lib.IntN.{pos}
 use lib.ListN.{length, getD, drop, take, set, length-set, take-append-drop}
 use lib.Seq.{drop-set-lt, take-suc-set}
 use Rattle.model.specs.Effects.{Said}
-use Rattle.model.specs.Pools.{Call, adds, steps}
+use Rattle.model.specs.Basics.{pick}
+use Rattle.model.specs.Pools.{Call, adds, steps, closes}
 use Rattle.model.proofs.Tests.{both, unless-none, first-none, refused-first}
 use Rattle.columns.specs.Columns.{listFrom}
 use Rattle.columns.proofs.ListFrom.{left-from, none-from}
 use Rattle.boards.specs.Calls.{Held}
 use Rattle.refusals.specs.Calls.{refusalOf, rowAt, Plays}
 use Rattle.refusals.proofs.CallLaws.{beyond-same, row-same}
-use Rattle.plays.specs.Replays.{CallRows, callsLen, callAt, callsOf, rowsFit, answerNumber}
+use Rattle.plays.specs.Replays.{CallRows, callsLen, kindAt, dayAt, senderCall, callAt, callsOf, rowsFit}
+use Rattle.plays.specs.Replays.{dayOf, answerNumber}
 use Rattle.plays.specs.Replays.{refusalAfter, replayNumber, Fit, Plays-in-turn, Plays-all, Replays}
 use Rattle.plays.proofs.Turns.{same-on, turns-leave, turns-beyond, turns-others}
 
@@ -114,22 +116,33 @@ module _ (s : List ℕ) (h : Held) (c : CallRows) (before : List ℕ) where
 -- One call by its row
 
 module _ (c : CallRows) (k : ℕ) where
-  pub step-at : getD (c .calls) (4 * k) 0 ≡ 0 → steps (getD (c .calls) (4 * k + 1) 0) ≡ callAt c k
-  unfolding callAt
+  pub step-at : kindAt c k ≡ 0 → steps (getD (c .calls) (4 * k + 1) 0) ≡ senderCall c k
+  unfolding senderCall
   step-at e = rw e
 
-  pub add-at : getD (c .calls) (4 * k) 0 ≢ 0
+  pub add-at : kindAt c k ≢ 0
       → adds (getD (c .calls) (4 * k + 1) 0)
       (record {
         channel = getD (c .calls) (4 * k + 2) 0;
         property = getD (c .numbers) (2 * k) 0;
         cents = getD (c .amounts) k (pos 0);
-        day = getD (c .numbers) (2 * k + 1) 0;
+        day = dayAt c k;
         unit = getD (c .calls) (4 * k + 3) 0;
       })
-      ≡ callAt c k
-  unfolding callAt
-  add-at e = rw (ne-eqb (getD (c .calls) (4 * k) 0) 0 e)
+      ≡ senderCall c k
+  unfolding senderCall
+  add-at e = rw (ne-eqb (kindAt c k) 0 e)
+
+-- a close of the call's day for kind 2, else the call
+pub row-by : (c : CallRows) (k : ℕ) (u : Bool) (call : Call) → call ≡ senderCall c k → u ≡ eqb (kindAt c k) 2
+    → pick u (closes (dayOf call)) call ≡ callAt c k
+unfolding senderCall
+row-by c k u call e f = rw (f, e) (go (eqb (kindAt c k) 2) refl)
+  where
+    go : (v : Bool) → eqb (kindAt c k) 2 ≡ v
+        → pick v (closes (dayOf (senderCall c k))) (senderCall c k) ≡ pick v (closes (dayAt c k)) (senderCall c k)
+    go true z = rw (eqb-true (kindAt c k) 2 z)
+    go false z = refl
 
 -- The ways out of a replay
 

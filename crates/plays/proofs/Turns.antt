@@ -1,6 +1,7 @@
 -- Calls played one after another: what they say and leave is the model's schedule, and what each leaves alone stays.
 use mathlib.Core.Path.{_≡_, refl, sym, ap, subst, _∙_}
 use mathlib.Core.Logic.{_≢_}
+use mathlib.Core.Bool.{Bool, true, false}
 use mathlib.Core.List.{List, [], _∷_, map}
 use Prim.Native.Nat.{ℕ, zero, suc, _+_, _*_, _-_, _<_, _≤_}
 use native.Mathlib.Omega.{arith}
@@ -10,6 +11,7 @@ use Rattle.model.specs.Layout.{tableOf}
 use Rattle.model.specs.Boards.{Board}
 use Rattle.model.specs.Effects.{Said}
 use Rattle.model.specs.Pools.{Call, answerTo, afterAll, history}
+use Rattle.model.proofs.Tests.{never}
 use Rattle.columns.specs.Columns.{listFrom}
 use Rattle.state.specs.declared.Sender as DD
 use Rattle.boards.specs.Calls.{Held}
@@ -50,7 +52,16 @@ beyond-then h g i p q =
       recorded =
           same-up (8 * h .board .matches) (8 * g .board .matches) _ _ (omega (arith, p .matches-grow)) (q .recorded)
           ∙ p .recorded;
+      stays-closed = λ e. q .stays-closed (p .stays-closed e);
+      close-day = λ e. q .close-day e ∙ p .close-day (unclosed e);
     }
+  where
+    unclosed : i .board .closed ≡ false → g .board .closed ≡ false
+    unclosed e = go (g .board .closed) refl
+      where
+        go : (u : Bool) → g .board .closed ≡ u → u ≡ false
+        go false f = refl
+        go true f = absurd (never (sym e ∙ q .stays-closed f))
 
 row-then : (d e f : DD.Sender) → Same-row d e → Same-row e f → Same-row d f
 row-then d e f p q = record {

@@ -10,7 +10,7 @@ use lib.ListN.{length, getD, drop}
 use Rattle.model.specs.Basics.{allOf, pick, unless, firstOf}
 use Rattle.model.specs.Layout.{tableOf}
 use Rattle.model.specs.Effects.{Said, wordOf, valueOf, numberOf}
-use Rattle.model.specs.Pools.{Call, adds, steps, Exchange, afterAll, history}
+use Rattle.model.specs.Pools.{Call, adds, steps, closes, Exchange, afterAll, history}
 use Rattle.columns.specs.Columns.{listFrom}
 use Rattle.boards.specs.Calls.{Held}
 use Rattle.refusals.specs.Calls.{boardOf, refusalOf, Beyond, callerOf, rowAt, Same-row, Plays}
@@ -28,18 +28,35 @@ callRows calls numbers amounts = record { calls = calls; numbers = numbers; amou
 abbrev pub callsLen : CallRows → ℕ
 callsLen c = length (c .amounts)
 
--- kind 0 is a step, any other an add
-unfoldable pub callAt : CallRows → ℕ → Call
-callAt c k =
-    pick (eqb (getD (c .calls) (4 * k) 0) 0) (steps (getD (c .calls) (4 * k + 1) 0))
+-- row k, its kind and its day
+abbrev pub kindAt : CallRows → ℕ → ℕ
+kindAt c k = getD (c .calls) (4 * k) 0
+
+abbrev pub dayAt : CallRows → ℕ → ℕ
+dayAt c k = getD (c .numbers) (2 * k + 1) 0
+
+-- a sender's call: kind 0 is a step, any other an add
+unfoldable pub senderCall : CallRows → ℕ → Call
+senderCall c k =
+    pick (eqb (kindAt c k) 0) (steps (getD (c .calls) (4 * k + 1) 0))
     (adds (getD (c .calls) (4 * k + 1) 0)
     (record {
       channel = getD (c .calls) (4 * k + 2) 0;
       property = getD (c .numbers) (2 * k) 0;
       cents = getD (c .amounts) k (pos 0);
-      day = getD (c .numbers) (2 * k + 1) 0;
+      day = dayAt c k;
       unit = getD (c .calls) (4 * k + 3) 0;
     }))
+
+-- the day of a call; 0 for a step
+abbrev pub dayOf : Call → ℕ
+dayOf (adds i x) = x .day
+dayOf (steps i) = 0
+dayOf (closes day) = day
+
+-- kind 2 is a close, which no sender makes
+abbrev pub callAt : CallRows → ℕ → Call
+callAt c k = pick (eqb (kindAt c k) 2) (closes (dayAt c k)) (senderCall c k)
 
 abbrev pub callsOf : CallRows → List Call
 callsOf c = listFrom (callAt c) 0 (callsLen c)

@@ -1,14 +1,22 @@
 // One call, and a list of calls, in place on lists that the first tests accept.
 ghost use mathlib.Core.Path.{_≡_};
-ghost use Prim.Native.Nat.{_+_, _*_, _<_, _≤_};
+ghost use mathlib.Core.Bool.{true};
+ghost use mathlib.Core.List.{List};
+ghost use Prim.Native.Nat.{ℕ, _+_, _*_, _<_, _≤_};
+ghost use lib.Dec.{eqb};
+ghost use lib.IntN.{ℤ};
 ghost use lib.ListN.{length, getD};
+ghost use Rattle.model.specs.Basics.{pick};
+ghost use Rattle.model.specs.Pools.{closes};
 ghost use Rattle.columns.specs.Columns.{Passed};
 ghost use Rattle.state.specs.Views.{saidIn};
 ghost use Rattle.boards.specs.Calls.{callIn};
-ghost use Rattle.boards.specs.Layout.{lists, statusesIn};
+ghost use Rattle.boards.specs.Layout.{keysLen, lists, statusesIn};
+ghost use Rattle.rows.specs.Numbers.{encodes};
 ghost use Rattle.refusals.specs.Held.{heldOf, Accepted};
 ghost use Rattle.plays.specs.Plays.{PlaysIn};
-ghost use Rattle.plays.specs.Replays.{callRows, callAt, rowsFit, answerNumber, Fit, Plays-all};
+ghost use Rattle.plays.specs.Replays.{callRows, kindAt, senderCall, dayOf, callAt, rowsFit, answerNumber};
+ghost use Rattle.plays.specs.Replays.{Fit, Plays-all};
 use boards::Call;
 use boards::Sent;
 use state::Said;
@@ -30,7 +38,7 @@ pub fn answer_number(said: Said) -> u32
     word * 65536 + (value + number)
 }
 
-// A call. The messages below `start` are consumed, so that no look reads them.
+// A sender's call. The messages below `start` are consumed, so that no look reads them.
 pub fn play(
     table: &[u8],
     board: &mut [u16],
@@ -50,7 +58,7 @@ pub fn play(
     ensures { λ r. ⌜ r .number ≡ answerNumber (saidIn (r .said)) ⌝ }
     ensures { λ r. ⌜ Passed (r .start) (getD (now (board .exit)) 0 0) (statusesIn (now (bytes .exit))) ⌝ }
 {
-    let refusal = moves::call_refusal(table, board, call);
+    let refusal = moves::call_refusal(table, board, keys, call);
     if refusal != 0 {
         let refused = Said::Refused(refusal);
         return Answer {
@@ -72,16 +80,86 @@ pub fn play(
     }
 }
 
-// The call at a row.
-fn call_at(calls: &[u16], numbers: &[u32], amounts: &[i64], k: usize) -> Call
+// A close of the days up to one.
+pub fn close(board: &mut [u16], keys: &mut [u32], day: u32) -> Said
+    requires { ⌜ (encodes (now board) ≡ true) × (length (now keys) ≡ keysLen) ⌝ }
+    ensures { λ r. ⌜ ((s bytes links : List ℕ) (cents : List ℤ)
+        → Accepted s (lists (now (board .entry)) bytes links (now (keys .entry)) cents)
+        → PlaysIn s (lists (now (board .entry)) bytes links (now (keys .entry)) cents) (closes day) (saidIn r)
+        (lists (now (board .exit)) bytes links (now (keys .exit)) cents)) ⌝ }
+    ensures { λ _. ⌜ getD (now (board .exit)) 0 0 ≡ getD (now (board .entry)) 0 0 ⌝ }
+{
+    let refusal = closes::close_refusal(board[boards::CLOSED], keys[boards::CLOSE_DAY], day);
+    if refusal != 0 {
+        return Said::Refused(refusal);
+    }
+    closes::put_close(board, keys, day);
+    Said::Closed
+}
+
+// The day of a sender's call; 0 for a step.
+fn day_of(call: Call) -> u32
+    ensures { λ r. ⌜ r ≡ dayOf (callIn call) ⌝ }
+{
+    match call {
+        Call::Add(_, x) => x.day,
+        Call::Step(_) => 0,
+    }
+}
+
+// A row of the lent calls: a sender's call, or a close of its day.
+struct Row {
+    closes: bool,
+    call: Call,
+}
+
+// A row: a close of its call's day, or the call. The messages below `start` are consumed.
+fn turn(
+    table: &[u8],
+    board: &mut [u16],
+    bytes: &mut [u8],
+    links: &mut [u16],
+    keys: &mut [u32],
+    cents: &mut [i64],
+    row: Row,
+    start: u16,
+) -> Answer
+    requires { ⌜ Accepted (now table) (lists (now board) (now bytes) (now links) (now keys) (now cents)) ⌝ }
+    requires { ⌜ Passed start (getD (now board) 0 0) (statusesIn (now bytes)) ⌝ }
+    ensures { λ r. ⌜ PlaysIn (now (table .entry))
+        (lists (now (board .entry)) (now (bytes .entry)) (now (links .entry)) (now (keys .entry)) (now (cents .entry)))
+        (pick (row .closes) (closes (dayOf (callIn (row .call)))) (callIn (row .call))) (saidIn (r .said))
+        (lists (now (board .exit)) (now (bytes .exit)) (now (links .exit)) (now (keys .exit)) (now (cents .exit))) ⌝ }
+    ensures { λ r. ⌜ r .number ≡ answerNumber (saidIn (r .said)) ⌝ }
+    ensures { λ r. ⌜ Passed (r .start) (getD (now (board .exit)) 0 0) (statusesIn (now (bytes .exit))) ⌝ }
+{
+    let call = row.call;
+    if row.closes {
+        let said = close(board, keys, day_of(call));
+        return Answer {
+            said: said,
+            number: answer_number(said),
+            start: start,
+        };
+    }
+    play(table, board, bytes, links, keys, cents, call, start)
+}
+
+// The row of a call.
+fn row_at(calls: &[u16], numbers: &[u32], amounts: &[i64], k: usize) -> Row
     requires { ⌜ (4 * k + 4 ≤ length (now calls)) × (2 * k + 2 ≤ length (now numbers)) × (k < length (now amounts)) ⌝ }
-    ensures { λ r. ⌜ callIn r
-        ≡ callAt (callRows (now (calls .entry)) (now (numbers .entry)) (now (amounts .entry))) k ⌝ }
+    ensures { λ r. ⌜ callIn (r .call)
+        ≡ senderCall (callRows (now (calls .entry)) (now (numbers .entry)) (now (amounts .entry))) k ⌝ }
+    ensures { λ r. ⌜ r .closes
+        ≡ eqb (kindAt (callRows (now (calls .entry)) (now (numbers .entry)) (now (amounts .entry))) k) 2 ⌝ }
 {
     let at = 4 * k;
     let i = calls[at + 1];
     if calls[at] == 0 {
-        return Call::Step(i);
+        return Row {
+            closes: false,
+            call: Call::Step(i),
+        };
     }
     let x = Sent {
         channel: calls[at + 2],
@@ -90,7 +168,10 @@ fn call_at(calls: &[u16], numbers: &[u32], amounts: &[i64], k: usize) -> Call
         day: numbers[2 * k + 1],
         unit: calls[at + 3],
     };
-    Call::Add(i, x)
+    Row {
+        closes: calls[at] == 2,
+        call: Call::Add(i, x),
+    }
 }
 
 // The calls, one after another, with room for each answer; what is said to the last. Single calls come here as well, so
@@ -127,8 +208,8 @@ pub fn replay_core(
     let mut start: u16 = 0;
     let mut k: usize = 0;
     while k < amounts.len() {
-        let call = call_at(calls, numbers, amounts, k);
-        let a = play(table, board, bytes, links, keys, cents, call, start);
+        let row = row_at(calls, numbers, amounts, k);
+        let a = turn(table, board, bytes, links, keys, cents, row, start);
         said = a.said;
         answers[k] = a.number;
         start = a.start;

@@ -7,7 +7,7 @@ use Prim.Native.String.{String}
 use lib.IntN.{pos, negsuc}
 use Rattle.model.specs.Boards.{woken}
 use Rattle.model.specs.Effects.{Item, Looked, Claimed, Lost, Reverted, Matched, Consumed, Told, Woke, Freed}
-use Rattle.model.specs.Effects.{Signalled, Answered, Refused, Missed, Again, Ended, Rested, Resumed}
+use Rattle.model.specs.Effects.{Signalled, Answered, Refused, Missed, Again, Ended, Rested, Resumed, Closed}
 use Rattle.model.specs.Printing.{bytes, words, digitsBy, decimal, signed, answerLine, matchLine, openLine, quietLine}
 
 record Sample : Type 0 where
@@ -44,7 +44,8 @@ samples =
     row (answerLine Rested) "rested\n" ∷
     row (answerLine (Answered 1023)) "answered 1023\n" ∷
     row (answerLine Resumed) "resumed\n" ∷
-    row (answerLine (Refused 13)) "refused 13\n" ∷ []
+    row (answerLine (Refused 13)) "refused 13\n" ∷
+    row (answerLine Closed) "closed\n" ∷ []
 
 pub sample-lines : map (λ x. x .text) samples ≡ map (λ x. bytes (x .line)) samples
 unfolding words decimal digitsBy

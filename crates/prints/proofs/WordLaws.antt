@@ -18,13 +18,13 @@ abbrev pub letters : List ℕ
 letters =
     bytes "item     looked   missed   claimed  lost     reverted "
     ++ (bytes "matched  consumed told     woke     freed    signalled"
-    ++ bytes "again    ended    rested   answered resumed  refused  ")
+    ++ bytes "again    ended    rested   answered resumed  refused  closed   ")
 
 abbrev pub lengths : List ℕ
-lengths = 4 ∷ 6 ∷ 6 ∷ 7 ∷ 4 ∷ 8 ∷ 7 ∷ 8 ∷ 4 ∷ 4 ∷ 5 ∷ 9 ∷ 5 ∷ 5 ∷ 6 ∷ 8 ∷ 7 ∷ 7 ∷ []
+lengths = 4 ∷ 6 ∷ 6 ∷ 7 ∷ 4 ∷ 8 ∷ 7 ∷ 8 ∷ 4 ∷ 4 ∷ 5 ∷ 9 ∷ 5 ∷ 5 ∷ 6 ∷ 8 ∷ 7 ∷ 7 ∷ 6 ∷ []
 
 abbrev pub flags : List ℕ
-flags = 1 ∷ 1 ∷ 0 ∷ 1 ∷ 1 ∷ 1 ∷ 1 ∷ 1 ∷ 1 ∷ 1 ∷ 1 ∷ 1 ∷ 0 ∷ 0 ∷ 0 ∷ 1 ∷ 0 ∷ 1 ∷ []
+flags = 1 ∷ 1 ∷ 0 ∷ 1 ∷ 1 ∷ 1 ∷ 1 ∷ 1 ∷ 1 ∷ 1 ∷ 1 ∷ 1 ∷ 0 ∷ 0 ∷ 0 ∷ 1 ∷ 0 ∷ 1 ∷ 0 ∷ []
 
 -- the part of the letters that a word is
 abbrev pub partOf : ℕ → List ℕ
@@ -44,14 +44,14 @@ cutOf w = record {
 abbrev whole : Word → Cut
 whole w = record { word = w; fits = true }
 
-cuts-are : listFrom cutOf 0 18 ≡ map whole words
+cuts-are : listFrom cutOf 0 19 ≡ map whole words
 unfolding words
 cuts-are = refl
 
-module _ (w : ℕ) (h : w < 18) where
+module _ (w : ℕ) (h : w < 19) where
   cut-is : cutOf w ≡ whole (wordAt w)
   cut-is =
-      sym (nth-from cutOf (whole (alone "")) 18 w h)
+      sym (nth-from cutOf (whole (alone "")) 19 w h)
       ∙ ap (λ (ps : List Cut). getD ps w (whole (alone ""))) cuts-are
       ∙ List·getD-map whole words w (alone "")
 

@@ -103,19 +103,19 @@ fn put_alone(out: &mut [u8], at: usize, name: &[u8]) -> usize
 }
 
 // The words by their numbers, nine bytes each.
-const WORDS: [u8; 162] = *b"item     looked   missed   claimed  lost     reverted \
+const WORDS: [u8; 171] = *b"item     looked   missed   claimed  lost     reverted \
     matched  consumed told     woke     freed    signalled\
-    again    ended    rested   answered resumed  refused  ";
+    again    ended    rested   answered resumed  refused  closed   ";
 
 // How long each word is.
-const LENGTHS: [usize; 18] = [4, 6, 6, 7, 4, 8, 7, 8, 4, 4, 5, 9, 5, 5, 6, 8, 7, 7];
+const LENGTHS: [usize; 19] = [4, 6, 6, 7, 4, 8, 7, 8, 4, 4, 5, 9, 5, 5, 6, 8, 7, 7, 6];
 
 // 1 where a number stands beside the word.
-const NUMBERED: [u8; 18] = [1, 1, 0, 1, 1, 1, 1, 1, 1, 1, 1, 1, 0, 0, 0, 1, 0, 1];
+const NUMBERED: [u8; 19] = [1, 1, 0, 1, 1, 1, 1, 1, 1, 1, 1, 1, 0, 0, 0, 1, 0, 1, 0];
 
 // The word of a number.
 fn put_word(out: &mut [u8], at: usize, word: u8) -> usize
-    requires { ⌜ (at + 9 ≤ length (now out)) × (word < 18) ⌝ }
+    requires { ⌜ (at + 9 ≤ length (now out)) × (word < 19) ⌝ }
     ensures { λ r. ⌜ Printed (now (out .entry)) at (wordAt word .text) r (now (out .exit)) ⌝ }
     ensures { λ r. ⌜ r ≤ at + 9 ⌝ }
 {

@@ -79,6 +79,8 @@ module _ (s : List ℕ) (h : Held) where
     chords = refl;
     messages = refl;
     recorded = refl;
+    stays-closed = λ e. e;
+    close-day = λ e. refl;
   }
 
   module _ (k : Call) where

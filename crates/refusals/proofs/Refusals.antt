@@ -16,6 +16,7 @@ use Rattle.columns.specs.MatchColumns.{MatchColumns, matchIn}
 use Rattle.columns.proofs.ListFrom.{length-from}
 use Rattle.columns.proofs.Messages.{length-messages}
 use Rattle.boards.specs.Boards.{HeldBoard, boardIn}
+use Rattle.boards.specs.Layout.{keysLen}
 use Rattle.refusals.specs.Judged.{lentOk, statusesOk, boardRefusal, Lengths}
 
 module _ (c : Columns) (m : MatchColumns) where
@@ -24,7 +25,7 @@ module _ (c : Columns) (m : MatchColumns) where
   unfolding lentOk
   lengths-by e =
       let e1 = both {t = eqb (length (c .channels)) 1024} e in
-      let e2 = both {t = eqb (length (c .keys)) 2048} (e1 .1) in
+      let e2 = both {t = eqb (length (c .keys)) keysLen} (e1 .1) in
       let e3 = both {t = eqb (length (c .cents)) 1024} (e2 .1) in
       let e4 = both {t = eqb (length (c .statuses)) 1024} (e3 .1) in
       let e5 = both {t = eqb (length (c .matched)) 1024} (e4 .1) in

@@ -1,10 +1,10 @@
 -- The board that numbers are, tested in the order of the code: counts, messages, matches, senders.
 use mathlib.Core.Path.{_≡_, refl}
-use mathlib.Core.Bool.{Bool, true, false, _&&_}
+use mathlib.Core.Bool.{Bool, true, false, _&&_, and-true, and-false}
 use mathlib.Core.List.{List, map}
-use Prim.Native.Nat.{ℕ, _≤_}
-use borrow.Author.Tests.{eq-eqb, ne-eqb}
-use lib.Dec.{leb}
+use Prim.Native.Nat.{ℕ, _<_, _≤_}
+use borrow.Author.Tests.{eq-eqb, ne-eqb, le-leb, lt-leb}
+use lib.Dec.{eqb, leb}
 use lib.ListN.{getD, drop, length}
 use Rattle.model.specs.Basics.{every}
 use Rattle.model.specs.Tables.{Table}
@@ -14,6 +14,7 @@ use Rattle.columns.specs.Columns.{Columns}
 use Rattle.columns.specs.MatchColumns.{MatchColumns}
 use Rattle.state.specs.Views.{senderIn}
 use Rattle.boards.specs.Boards.{boardIn}
+use Rattle.boards.specs.Layout.{boardLen, closedAt}
 use Rattle.soundness.specs.Tests.{messagesOk}
 use Rattle.senders.specs.Seen.{Seen, Known}
 use Rattle.refusals.specs.Judged.{statusesOk}
@@ -24,9 +25,15 @@ use Rattle.refusals.specs.Rows.{rowsOk, sendersIn}
 use Rattle.refusals.proofs.RowWalks.{senders-count, rows-are}
 
 -- numbers of another length are no board's
-pub numbers-short : (s : List ℕ) → (length s ≡ 674 → ⊥) → encodes s ≡ false
+pub numbers-short : (s : List ℕ) → (length s ≡ boardLen → ⊥) → encodes s ≡ false
 unfolding encodes
-numbers-short s e = rw (ne-eqb (length s) 674 e)
+numbers-short s e = rw (ne-eqb (length s) boardLen e)
+
+-- nor are those whose last is no flag
+pub numbers-unflagged : (s : List ℕ) → 1 < getD s closedAt 0 → encodes s ≡ false
+unfolding encodes
+numbers-unflagged s e =
+    rw (lt-leb (getD s closedAt 0) 1 e, and-false (encodesSenders 32 (drop 2 s)), and-false (eqb (length s) boardLen))
 
 -- the numbers' test beside that of the senders
 moved : (f x y z e n : Bool) → (f && (x && (y && (z && (e && n))))) ≡ (x && (y && (z && ((f && e) && n))))
@@ -46,14 +53,16 @@ module _ (t : Table) (s : List ℕ) (c : Columns) (m : MatchColumns) where
   sendersTest = rowsOk t boardOn 32 (drop 2 s) && noneShared (map (senderIn t) (sendersIn s))
 
   -- numbers of a sound board, in the order of the code
-  pub numbers-sound : length s ≡ 674
+  pub numbers-sound : length s ≡ boardLen → getD s closedAt 0 ≤ 1
       → (encodes s && (statusesOk (boardFrom s .messages) (c .statuses) && sound t boardOn))
       ≡ ((leb (getD s 0 0) 1024 && leb (getD s 1 0) 1024)
       && (messagesOk t boardOn c (getD s 0 0) && (matchesTest t (boardFrom s) c m && sendersTest)))
   unfolding encodes boardFrom
-  numbers-sound e =
+  numbers-sound e f =
       rw (
-        eq-eqb (length s) 674 e,
+        eq-eqb (length s) boardLen e,
+        le-leb (getD s closedAt 0) 1 f,
+        and-true (encodesSenders 32 (drop 2 s)),
         sound-is t (boardFrom s) c m (senders-count 32 (drop 2 s)),
         rows-are t boardOn 32 (drop 2 s),
       )

@@ -1,17 +1,18 @@
 -- What a call of the board says and leaves, for any table, board and lent columns.
 use mathlib.Core.Path.{_≡_}
 use mathlib.Core.Logic.{_≢_}
+use mathlib.Core.Bool.{true, false}
 use mathlib.Core.List.{List}
 use Prim.Native.Nat.{ℕ, zero, suc, _*_, _<_, _≤_}
 use lib.ListN.{getD, drop, take}
 use Rattle.model.specs.Layout.{tableOf}
 use Rattle.model.specs.Boards.{Board}
 use Rattle.model.specs.Effects.{Said, Refused, numberOf}
-use Rattle.model.specs.Pools.{Call, adds, steps, answerTo}
+use Rattle.model.specs.Pools.{Call, adds, steps, closes, answerTo}
 use Rattle.state.specs.declared.Sender as DD
 use Rattle.boards.specs.Boards.{boardIn, zeroSender}
 use Rattle.boards.specs.Calls.{Held}
-use Rattle.boards.specs.Layout.{propertiesIn, daysIn}
+use Rattle.boards.specs.Layout.{propertiesIn, daysIn, closeDayAt}
 use Rattle.boards.specs.Parts.{part}
 use Rattle.refusals.specs.Judged.{boardRefusal}
 
@@ -36,7 +37,8 @@ SameFrom n xs ys = drop n xs ≡ drop n ys
 abbrev pub SameTo : {A : Type 0} → ℕ → List A → List A → Type 0
 SameTo n xs ys = take n xs ≡ take n ys
 
--- rule 1.11: records past the counts stay as they were, and recorded matches whole, also past their chords' sizes
+-- rule 1.11: records past the counts stay as they were, and recorded matches whole, also past their chords' sizes; and
+-- rule 9.8: a closed day stays closed, and while there is none its number stays as it was
 pub record Beyond (h h′ : Held) : Type 0 where
   pub messages-grow : h .board .messages ≤ h′ .board .messages
   pub matches-grow : h .board .matches ≤ h′ .board .matches
@@ -51,10 +53,15 @@ pub record Beyond (h h′ : Held) : Type 0 where
   pub chords : SameFrom (h′ .board .matches) (h′ .matches .chords) (h .matches .chords)
   pub messages : SameFrom (8 * h′ .board .matches) (h′ .matches .messages) (h .matches .messages)
   pub recorded : SameTo (8 * h .board .matches) (h′ .matches .messages) (h .matches .messages)
+  pub stays-closed : h .board .closed ≡ true → h′ .board .closed ≡ true
+  pub close-day : h′ .board .closed ≡ false
+      → getD (h′ .columns .keys) closeDayAt 0 ≡ getD (h .columns .keys) closeDayAt 0
 
+-- the sender that calls; 32, past the last, for a close, which none makes
 abbrev pub callerOf : Call → ℕ
 callerOf (adds i x) = i
 callerOf (steps i) = i
+callerOf (closes day) = 32
 
 abbrev pub rowAt : Held → ℕ → DD.Sender
 rowAt h j = getD (h .board .senders) j zeroSender

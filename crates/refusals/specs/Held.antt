@@ -1,7 +1,7 @@
 -- What the lent lists hold: the board that the numbers are, with its columns. Lists of another length, and numbers that
 -- are no board's, hold nothing: columns that are empty, which every board call refuses 30.
 use mathlib.Core.Path.{_≡_}
-use mathlib.Core.Bool.{Bool, true, _&&_}
+use mathlib.Core.Bool.{Bool, true, false, _&&_}
 use mathlib.Core.List.{List, []}
 use Prim.Native.Nat.{ℕ}
 use Rattle.model.specs.Basics.{pick}
@@ -15,7 +15,7 @@ use Rattle.rows.specs.Decoded.{boardFrom}
 use Rattle.refusals.specs.Judged.{statusesOk, boardRefusal}
 
 abbrev pub nothing : Held
-nothing = heldBy (record { messages = 0; matches = 0; senders = [] }) [] [] [] [] [] [] [] [] []
+nothing = heldBy (record { messages = 0; matches = 0; senders = []; closed = false }) [] [] [] [] [] [] [] [] []
 
 -- what lists of their lengths hold
 abbrev pub heldOf : Lists → Held

@@ -11,14 +11,15 @@ use Rattle.model.specs.Sound.{sound}
 use Rattle.columns.specs.Columns.{Columns}
 use Rattle.columns.specs.MatchColumns.{MatchColumns}
 use Rattle.boards.specs.Boards.{HeldBoard, boardIn}
+use Rattle.boards.specs.Layout.{keysLen}
 
--- rules 1.11 and 6.2: each column of messages has 1,024, two of them are the keys, and the matches have 1,024 chords,
--- with eight messages each
+-- rules 1.11 and 6.2: each column of messages has 1,024, two of them and the close day are the keys, and the matches
+-- have 1,024 chords, with eight messages each
 unfoldable pub lentOk : Columns → MatchColumns → Bool
 lentOk c m =
     allOf
     (eqb (length (c .channels)) 1024 ∷
-    eqb (length (c .keys)) 2048 ∷
+    eqb (length (c .keys)) keysLen ∷
     eqb (length (c .cents)) 1024 ∷
     eqb (length (c .statuses)) 1024 ∷
     eqb (length (c .matched)) 1024 ∷
@@ -41,7 +42,7 @@ boardRefusal s b c m =
 -- the lengths of lent columns that are accepted
 pub record Lengths (c : Columns) (m : MatchColumns) : Type 0 where
   pub channels-len : length (c .channels) ≡ 1024
-  pub keys-len : length (c .keys) ≡ 2048
+  pub keys-len : length (c .keys) ≡ keysLen
   pub cents-len : length (c .cents) ≡ 1024
   pub statuses-len : length (c .statuses) ≡ 1024
   pub matched-len : length (c .matched) ≡ 1024

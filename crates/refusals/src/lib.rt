@@ -3,12 +3,12 @@ ghost use mathlib.Core.Path.{_≡_};
 ghost use mathlib.Core.Bool.{true, _&&_};
 ghost use mathlib.Core.List.{List, map};
 ghost use Prim.Native.Nat.{ℕ, _+_, _≤_};
-ghost use lib.ListN.{length, drop};
+ghost use lib.ListN.{length, getD, drop};
 ghost use Rattle.model.specs.Boards as MB;
 ghost use Rattle.model.specs.Layout.{tableRefusal, tableOf};
 ghost use Rattle.model.specs.Sound.{stateOk, noneShared};
 ghost use Rattle.state.specs.Views.{senderIn};
-ghost use Rattle.boards.specs.Layout.{boardLen, bytesLen, linksLen, centsLen, lists, listsOk};
+ghost use Rattle.boards.specs.Layout.{boardLen, closedAt, bytesLen, linksLen, centsLen, lists, listsOk};
 ghost use Rattle.senders.specs.Seen.{Seen, Known, markBy};
 ghost use Rattle.rows.specs.Numbers.{encodesPhase, encodesSender};
 ghost use Rattle.rows.specs.Decoded.{senderFrom};
@@ -119,7 +119,7 @@ fn limits(n: u16, k: u16) -> [u16; 16]
 // Whether the numbers from the third on are those of 32 senders, each sound by itself.
 fn rows_ok(table: &[u8], s: &[u16], n: u16, k: u16, channels: &[u8]) -> bool
     requires { ⌜ (tableRefusal (now table) ≡ 0) × Known (tableOf (now table)) n (now channels) ⌝ }
-    requires { ⌜ length (now s) ≡ 674 ⌝ }
+    requires { ⌜ length (now s) ≡ boardLen ⌝ }
     ensures { λ r. ⌜ ((b : MB.Board) → Seen b n k (now (channels .entry))
         → r ≡ rowsOk (tableOf (now (table .entry))) b 32 (drop 2 (now (s .entry)))) ⌝ }
 {
@@ -147,7 +147,7 @@ fn mark_at(s: &[u16], at: usize) -> u32
 
 // The marks of all senders.
 fn marks_at(s: &[u16]) -> [u32; 32]
-    requires { ⌜ length (now s) ≡ 674 ⌝ }
+    requires { ⌜ length (now s) ≡ boardLen ⌝ }
     ensures { λ r. ⌜ r ≡ map markBy (sendersIn (now (s .entry))) ⌝ }
 {
     let mut r = [0u32; 32];
@@ -162,7 +162,7 @@ fn marks_at(s: &[u16]) -> [u32; 32]
 // Whether the numbers from the third on are those of 32 sound senders, no two with the same own message.
 pub fn senders_ok(table: &[u8], s: &[u16], n: u16, k: u16, channels: &[u8]) -> bool
     requires { ⌜ (tableRefusal (now table) ≡ 0) × Known (tableOf (now table)) n (now channels) ⌝ }
-    requires { ⌜ length (now s) ≡ 674 ⌝ }
+    requires { ⌜ length (now s) ≡ boardLen ⌝ }
     ensures { λ r. ⌜ ((b : MB.Board) → Seen b n k (now (channels .entry))
         → r ≡ (rowsOk (tableOf (now (table .entry))) b 32 (drop 2 (now (s .entry)))
         && noneShared (map (senderIn (tableOf (now (table .entry)))) (sendersIn (now (s .entry)))))) ⌝ }
@@ -187,7 +187,8 @@ fn lists_ok(bytes: &[u8], links: &[u16], keys: &[u32], cents: &[i64]) -> bool
 // Whether the numbers are those of a sound board: the counts, the messages and matches by their columns, and then the
 // senders.
 fn is_sound(table: &[u8], board: &[u16], bytes: &[u8], links: &[u16], cents: &[i64]) -> bool
-    requires { ⌜ (tableRefusal (now table) ≡ 0) × (length (now board) ≡ boardLen) ⌝ }
+    requires { ⌜ (tableRefusal (now table) ≡ 0) × (length (now board) ≡ boardLen)
+        × (getD (now board) closedAt 0 ≤ 1) ⌝ }
     requires { ⌜ (length (now bytes) ≡ bytesLen) × (length (now links) ≡ linksLen) × (length (now cents) ≡ centsLen) ⌝ }
     ensures { λ r. ⌜ ((keys : List ℕ) → r ≡ soundIn (now (table .entry))
         (lists (now (board .entry)) (now (bytes .entry)) (now (links .entry)) keys (now (cents .entry)))) ⌝ }
@@ -230,6 +231,9 @@ pub fn board_refusal(
         return 30;
     }
     if board.len() != boards::BOARD_LEN {
+        return 30;
+    }
+    if board[boards::CLOSED] > 1 {
         return 30;
     }
     if !is_sound(table, board, bytes, links, cents) {

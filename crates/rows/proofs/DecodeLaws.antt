@@ -1,17 +1,18 @@
 -- The board that numbers are has these numbers, and its senders are those of their parts.
 use mathlib.Core.Path.{_≡_, refl}
 use mathlib.Core.Bool.{true, false}
-use mathlib.Core.List.{List, [], _∷_}
+use mathlib.Core.List.{List, [], _∷_, _++_, append-assoc}
 use Prim.Native.Nat.{ℕ, zero, suc, _+_, _*_, _<_, _≤_}
 use borrow.Author.Tests.{eqb-false}
 use lib.Dec.{eqb}
-use lib.ListN.{length, getD, take, drop, length-drop, take-append-drop}
-use lib.Seq.{drop-drop, length-take-le}
+use lib.ListN.{length, getD, take, drop, length-drop, take-append-drop, drop-of-length-le}
+use lib.Seq.{drop-drop, drop-cons, length-take-le}
 use native.Mathlib.Omega.{arith}
 use Rattle.model.proofs.Tests.{both}
 use Rattle.model.proofs.Parts.{drop-next}
 use Rattle.model.proofs.Tests.{flag-byte}
 use Rattle.state.specs.declared.Sender as DD
+use Rattle.boards.specs.Layout.{boardLen, closedAt}
 use Rattle.rows.specs.Numbers.{stateNumber, phaseNumbers, senderNumbers, sendersNumbers, boardNumbers}
 use Rattle.rows.specs.Numbers.{placeless, encodesPhase, encodesSender, encodesSenders, encodes}
 use Rattle.rows.specs.Decoded.{stateFrom, phaseFrom, senderFrom, sendersFrom, boardFrom}
@@ -60,24 +61,41 @@ sender-from-back a l ok =
     refl refl refl refl refl (phase-from (getD a 8 0) (getD a 9 0) (getD a 10 0) (f .phase))
     (flag-byte (getD a 11 0) (f .retry)) refl refl
 
-senders-from-back : (n : ℕ) (s : List ℕ) → length s ≡ 21 * n → encodesSenders n s ≡ true
-    → (sendersNumbers (sendersFrom n s) ≡ s) × SendersFit (sendersFrom n s) × (length (sendersFrom n s) ≡ n)
+senders-from-back : (n : ℕ) (s : List ℕ) → 21 * n ≤ length s → encodesSenders n s ≡ true
+    → (sendersNumbers (sendersFrom n s) ++ drop (21 * n) s ≡ s) × SendersFit (sendersFrom n s)
+    × (length (sendersFrom n s) ≡ n)
 unfolding sendersNumbers sendersFrom encodesSenders
-senders-from-back zero [] l ok = (refl, tt, refl)
-senders-from-back zero (x ∷ s) l ok = absurd (omega (arith, l))
+senders-from-back zero s l ok = (refl, tt, refl)
 senders-from-back (suc n) s l ok =
     let p = both {t = encodesSender (take 21 s)} ok in
     let d = sender-from-back (take 21 s) (length-take-le 21 s (omega (arith, l))) (p .0) in
-    let r = senders-from-back n (drop 21 s) (omega (arith, l, length-drop 21 s)) (p .1) in
-    (rw (d .0, r .0) (take-append-drop 21 s), (d .1, r .1), omega (arith, r .2))
+    let r = senders-from-back n (drop 21 s) (omega (arith, l, length-drop 21 s)) (p .1) in (
+      rw (
+        d .0,
+        ← drop-next 21 n s,
+        append-assoc (take 21 s) (sendersNumbers (sendersFrom n (drop 21 s)))
+            (drop (21 * n) (drop 21 s)),
+        r .0,
+      ) (take-append-drop 21 s),
+      (d .1, r .1),
+      omega (arith, r .2),
+    )
+
+-- the number behind the senders
+flag-last : (s : List ℕ) → length s ≡ boardLen → drop 672 (drop 2 s) ≡ getD s closedAt 0 ∷ []
+flag-last s l =
+    rw (drop-drop 672 2 s, drop-cons s closedAt 0 (omega (arith, l)))
+    (cc (drop-of-length-le s {i = 675} (omega (arith, l))))
 
 -- numbers that pass are those of their board, which fits its types
 pub from-back : (s : List ℕ) → encodes s ≡ true → (boardNumbers (boardFrom s) ≡ s) × BoardFits (boardFrom s)
 unfolding boardNumbers boardFrom
 from-back s ok =
     let p = all-numbers s ok in
-    let r = senders-from-back 32 (drop 2 s) (omega (arith, p .0, length-drop 2 s)) (p .1) in
-    (rw (r .0) (counts-read s (omega (arith, p .0))), record { all = r .2; each = r .1 })
+    let r = senders-from-back 32 (drop 2 s) (omega (arith, p .0, length-drop 2 s)) (p .1) in (
+      rw (flag-byte (getD s closedAt 0) (p .2), ← flag-last s (p .0), r .0) (counts-read s (omega (arith, p .0))),
+      record { all = r .2; each = r .1 },
+    )
 
 senders-from : (n i : ℕ) (s : List ℕ) (z : DD.Sender) → i < n
     → getD (sendersFrom n s) i z ≡ senderFrom (take 21 (drop (21 * i) s))

@@ -1,13 +1,14 @@
 -- A board's numbers pass, and decode to it.
 use mathlib.Core.Path.{_≡_, refl}
 use mathlib.Core.Bool.{Bool, true, false, _||_}
-use mathlib.Core.List.{List, [], _∷_}
-use Prim.Native.Nat.{_*_}
+use mathlib.Core.List.{List, [], _∷_, _++_, append-assoc}
+use Prim.Native.Nat.{ℕ, _*_}
 use borrow.Author.Tests.{le-leb, eq-eqb}
 use lib.Dec.{eqb, leb}
 use lib.ListN.{length, length-append}
-use lib.Seq.{take-at, drop-at}
+use lib.Seq.{take-at, drop-at, getD-at}
 use native.Mathlib.Omega.{arith}
+use Rattle.model.specs.Basics.{flag}
 use Rattle.model.proofs.Tests.{and, flag-small, flag-read}
 use Rattle.state.specs.declared.Phase as DP
 use Rattle.state.specs.declared.Phase.the-variants as P
@@ -15,6 +16,7 @@ use Rattle.state.specs.declared.State as DS
 use Rattle.state.specs.declared.State.the-variants as S
 use Rattle.state.specs.declared.Sender as DD
 use Rattle.boards.specs.Boards.{HeldBoard}
+use Rattle.boards.specs.Layout.{boardLen, closedAt}
 use Rattle.rows.specs.Numbers.{stateNumber, kind, place, second, senderNumbers, sendersNumbers, boardNumbers}
 use Rattle.rows.specs.Numbers.{encodesPhase, encodesSender, encodesSenders, encodes}
 use Rattle.rows.specs.Decoded.{stateFrom, phaseFrom, senderFrom, sendersFrom, boardFrom}
@@ -51,7 +53,7 @@ sender-passes d f =
     (and (phase-passes (d .job .phase) (f .phase)) (and (flag-small (d .job .retry))
     (le-leb (d .job .retries) 255 (f .retries)))))))
 
-senders-long : (ds : List DD.Sender) → SendersFit ds → length (sendersNumbers ds) ≡ 21 * length ds
+pub senders-long : (ds : List DD.Sender) → SendersFit ds → length (sendersNumbers ds) ≡ 21 * length ds
 unfolding sendersNumbers
 senders-long [] f = refl
 senders-long (d ∷ ds) f =
@@ -60,22 +62,31 @@ senders-long (d ∷ ds) f =
     let e = senders-long ds (f .1) in
     omega (arith, a, b, e)
 
-senders-pass : (ds : List DD.Sender) → SendersFit ds → encodesSenders (length ds) (sendersNumbers ds) ≡ true
+senders-pass : (ds : List DD.Sender) (rest : List ℕ) → SendersFit ds
+    → encodesSenders (length ds) (sendersNumbers ds ++ rest) ≡ true
 unfolding sendersNumbers encodesSenders
-senders-pass [] f = refl
-senders-pass (d ∷ ds) f =
+senders-pass [] rest f = refl
+senders-pass (d ∷ ds) rest f =
     let l = sender-long d (f .0) in
-    rw (take-at (senderNumbers d) (sendersNumbers ds) 21 l, drop-at (senderNumbers d) (sendersNumbers ds) 21 l)
-    (and (sender-passes d (f .0)) (senders-pass ds (f .1)))
+    rw (
+      append-assoc (senderNumbers d) (sendersNumbers ds) rest,
+      take-at (senderNumbers d) (sendersNumbers ds ++ rest) 21 l,
+      drop-at (senderNumbers d) (sendersNumbers ds ++ rest) 21 l,
+    )
+    (and (sender-passes d (f .0)) (senders-pass ds rest (f .1)))
 
 -- the numbers of every board that the types can hold pass
 pub encoded-ok : (b : HeldBoard) → BoardFits b → encodes (boardNumbers b) ≡ true
 unfolding encodes boardNumbers
 encoded-ok b f =
+    let rest = flag (b .closed) ∷ [] in
     let l = senders-long (b .senders) (f .each) in
-    let n : length (b .messages ∷ b .matches ∷ sendersNumbers (b .senders)) ≡ 674 = omega (arith, l, f .all) in
-    and (eq-eqb _ 674 n)
-    (rw (f .all) at (senders-pass (b .senders) (f .each)))
+    let n : length (b .messages ∷ b .matches ∷ (sendersNumbers (b .senders) ++ rest)) ≡ boardLen =
+    omega (arith, length-append (sendersNumbers (b .senders)) rest, l, f .all) in
+    let z = getD-at (b .messages ∷ b .matches ∷ sendersNumbers (b .senders)) (flag (b .closed)) [] 0 closedAt
+    (omega (arith, l, f .all)) in
+    and (eq-eqb _ boardLen n)
+    (and (rw (f .all) at (senders-pass (b .senders) rest (f .each))) (rw z (flag-small (b .closed))))
 
 state-back : (s : DS.State) → stateFrom (stateNumber s) ≡ s
 state-back S.Idle = refl
@@ -104,18 +115,24 @@ sender-back d =
       flag-read (d .job .retry),
     )
 
-senders-back : (ds : List DD.Sender) → SendersFit ds → sendersFrom (length ds) (sendersNumbers ds) ≡ ds
+senders-back : (ds : List DD.Sender) (rest : List ℕ) → SendersFit ds
+    → sendersFrom (length ds) (sendersNumbers ds ++ rest) ≡ ds
 unfolding sendersNumbers sendersFrom
-senders-back [] f = refl
-senders-back (d ∷ ds) f =
+senders-back [] rest f = refl
+senders-back (d ∷ ds) rest f =
     let l = sender-long d (f .0) in
     rw (
-      take-at (senderNumbers d) (sendersNumbers ds) 21 l,
-      drop-at (senderNumbers d) (sendersNumbers ds) 21 l,
+      append-assoc (senderNumbers d) (sendersNumbers ds) rest,
+      take-at (senderNumbers d) (sendersNumbers ds ++ rest) 21 l,
+      drop-at (senderNumbers d) (sendersNumbers ds ++ rest) 21 l,
       sender-back d,
-      senders-back ds (f .1),
+      senders-back ds rest (f .1),
     )
 
 pub board-back : (b : HeldBoard) → BoardFits b → boardFrom (boardNumbers b) ≡ b
 unfolding boardNumbers boardFrom
-board-back b f = rw (rw (f .all) at (senders-back (b .senders) (f .each)))
+board-back b f =
+    let rest = flag (b .closed) ∷ [] in
+    let z = getD-at (b .messages ∷ b .matches ∷ sendersNumbers (b .senders)) (flag (b .closed)) [] 0 closedAt
+    (omega (arith, senders-long (b .senders) (f .each), f .all)) in
+    rw (rw (f .all) at (senders-back (b .senders) rest (f .each)), z, flag-read (b .closed))

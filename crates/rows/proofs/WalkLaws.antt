@@ -1,9 +1,9 @@
 -- Laws of the senders' numbers, read and written one sender after another.
-use mathlib.Core.Path.{_≡_, refl, sym, _∙_}
+use mathlib.Core.Path.{_≡_, refl, sym, ap, _∙_}
 use mathlib.Core.Bool.{true}
 use mathlib.Core.List.{List, [], _∷_, _++_, append-assoc, append-nil}
 use Prim.Native.Nat.{ℕ, zero, suc, _+_, _*_, _-_, _<_, _≤_}
-use borrow.Author.Tests.{eqb-true}
+use borrow.Author.Tests.{eqb-true, leb-true}
 use lib.Dec.{eqb}
 use lib.ListN.{length, getD, take, drop, set}
 use lib.Seq.{drop-drop, take-all, take-suc, paste, take-paste}
@@ -12,6 +12,7 @@ use native.Mathlib.Omega.{arith}
 use Rattle.model.proofs.Tests.{both}
 use Rattle.model.proofs.Parts.{drop-next}
 use Rattle.state.specs.declared.Sender as DD
+use Rattle.boards.specs.Layout.{boardLen, closedAt}
 use Rattle.rows.specs.Numbers.{senderNumbers, sendersNumbers, encodesSender, encodesSenders, encodes}
 
 -- each sender of those that pass
@@ -61,10 +62,11 @@ write-next ds z s s′ front i h r l p e =
     )
     (append-assoc front (sendersNumbers (take i ds)) (senderNumbers d))
 
-pub write-end : (ds : List DD.Sender) (s front : List ℕ) (i : ℕ) → length ds ≡ 32 → length s ≡ 674 → 32 ≤ i
-    → take (2 + 21 * i) s ≡ front ++ sendersNumbers (take i ds) → s ≡ front ++ sendersNumbers ds
-write-end ds s front i l m h e =
-    sym (take-all (2 + 21 * i) s (omega arith)) ∙ e ∙ rw (take-all i ds (omega arith))
+pub write-end : (ds : List DD.Sender) (s front : List ℕ) (i : ℕ) → length ds ≡ 32 → i ≡ 32
+    → take (2 + 21 * i) s ≡ front ++ sendersNumbers (take i ds) → take 674 s ≡ front ++ sendersNumbers ds
+write-end ds s front i l h e =
+    let z = ap (λ (x : List DD.Sender). front ++ sendersNumbers x) (take-all i ds (omega arith)) in
+    ap (λ (n : ℕ). take (2 + 21 * n) s) (sym h) ∙ e ∙ z
 
 -- the two counts, written
 pub counts-set : (s xs : List ℕ) (m k : ℕ) → 2 ≤ length s → set (set (take 2 s ++ xs) 0 m) 1 k ≡ m ∷ k ∷ xs
@@ -78,8 +80,11 @@ counts-read [] h = absurd (omega arith)
 counts-read (x ∷ []) h = absurd (omega arith)
 counts-read (x ∷ y ∷ s) h = refl
 
--- numbers that pass are 674, and their senders pass
-pub all-numbers : (s : List ℕ) → encodes s ≡ true → (length s ≡ 674) × (encodesSenders 32 (drop 2 s) ≡ true)
+-- numbers that pass are of their length, their senders pass, and the last is a flag
+pub all-numbers : (s : List ℕ) → encodes s ≡ true
+    → (length s ≡ boardLen) × (encodesSenders 32 (drop 2 s) ≡ true) × (getD s closedAt 0 ≤ 1)
 unfolding encodes
 all-numbers s e =
-    let p = both {t = eqb (length s) 674} e in (eqb-true (length s) 674 (p .0), p .1)
+    let p = both {t = eqb (length s) boardLen} e in
+    let q = both {t = encodesSenders 32 (drop 2 s)} (p .1) in
+    (eqb-true (length s) boardLen (p .0), q .0, leb-true (getD s closedAt 0) 1 (q .1))

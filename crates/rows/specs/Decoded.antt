@@ -10,6 +10,7 @@ use Rattle.state.specs.declared.State as DS
 use Rattle.state.specs.declared.State.the-variants as S
 use Rattle.state.specs.declared.Sender as DD
 use Rattle.boards.specs.Boards.{HeldBoard}
+use Rattle.boards.specs.Layout.{closedAt}
 
 abbrev pub stateFrom : ℕ → DS.State
 stateFrom n = pick (eqb n 0) S.Idle (pick (eqb n 1) S.Working S.Blocked)
@@ -45,4 +46,9 @@ sendersFrom zero s = []
 sendersFrom (suc n) s = senderFrom (take 21 s) ∷ sendersFrom n (drop 21 s)
 
 unfoldable pub boardFrom : List ℕ → HeldBoard
-boardFrom s = record { messages = getD s 0 0; matches = getD s 1 0; senders = sendersFrom 32 (drop 2 s) }
+boardFrom s = record {
+  messages = getD s 0 0;
+  matches = getD s 1 0;
+  senders = sendersFrom 32 (drop 2 s);
+  closed = eqb (getD s closedAt 0) 1;
+}

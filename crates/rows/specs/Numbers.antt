@@ -1,5 +1,5 @@
--- The board as 674 plain numbers (rule 1.11): how many messages and matches there are, then 21 numbers for each of 32
--- senders.
+-- The board as 675 plain numbers (rules 1.11 and 9.8): how many messages and matches there are, then 21 numbers for
+-- each of 32 senders, then whether a day is closed.
 use mathlib.Core.Bool.{Bool, true, _&&_, _||_, not}
 use mathlib.Core.List.{List, [], _∷_, _++_}
 use Prim.Native.Nat.{ℕ, zero, suc}
@@ -12,6 +12,7 @@ use Rattle.state.specs.declared.State as DS
 use Rattle.state.specs.declared.State.the-variants as S
 use Rattle.state.specs.declared.Sender as DD
 use Rattle.boards.specs.Boards.{HeldBoard}
+use Rattle.boards.specs.Layout.{boardLen, closedAt}
 
 abbrev pub stateNumber : DS.State → ℕ
 stateNumber S.Idle = 0
@@ -52,9 +53,9 @@ unfoldable pub sendersNumbers : List DD.Sender → List ℕ
 sendersNumbers [] = []
 sendersNumbers (d ∷ ds) = senderNumbers d ++ sendersNumbers ds
 
--- 0 messages, 1 matches, then the senders
+-- 0 messages, 1 matches, then the senders, then the flag of a closed day
 unfoldable pub boardNumbers : HeldBoard → List ℕ
-boardNumbers b = b .messages ∷ b .matches ∷ sendersNumbers (b .senders)
+boardNumbers b = b .messages ∷ b .matches ∷ (sendersNumbers (b .senders) ++ (flag (b .closed) ∷ []))
 
 -- wake, signal and pass end have no place
 abbrev pub placeless : ℕ → Bool
@@ -81,4 +82,4 @@ encodesSenders (suc n) s = encodesSender (take 21 s) && encodesSenders n (drop 2
 
 -- rule 6.2: numbers, each below 65,536, that are those of a board
 unfoldable pub encodes : List ℕ → Bool
-encodes s = eqb (length s) 674 && encodesSenders 32 (drop 2 s)
+encodes s = allOf (eqb (length s) boardLen ∷ encodesSenders 32 (drop 2 s) ∷ leb (getD s closedAt 0) 1 ∷ [])

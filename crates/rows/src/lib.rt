@@ -1,6 +1,6 @@
 // The board as plain numbers, which a host in another language can hold: read from a lent slice, and written to one.
 ghost use mathlib.Core.Path.{_≡_};
-ghost use mathlib.Core.Bool.{true};
+ghost use mathlib.Core.Bool.{true, false};
 ghost use mathlib.Core.List.{[], _∷_};
 ghost use Prim.Native.Nat.{_+_, _<_, _≤_};
 ghost use lib.Dec.{eqb};
@@ -9,6 +9,7 @@ ghost use lib.Seq.{paste};
 ghost use Rattle.model.specs.Basics.{flag};
 ghost use Rattle.state.specs.Views.{stepsIn, senderSteps, idleIs};
 ghost use Rattle.boards.specs.Boards.{zeroSender};
+ghost use Rattle.boards.specs.Layout.{boardLen};
 ghost use Rattle.rows.specs.Decoded.{stateFrom, boardFrom};
 ghost use Rattle.rows.specs.Numbers.{stateNumber, phaseNumbers, kind, place, second};
 ghost use Rattle.rows.specs.Numbers.{senderNumbers, boardNumbers};
@@ -291,11 +292,11 @@ fn fresh_sender() -> Sender
     }
 }
 
-// The numbers of an empty board: no messages, no matches, every sender idle.
+// The numbers of an empty board: no messages, no matches, every sender idle, no day closed.
 pub fn put_fresh(s: &mut [u16])
-    requires { ⌜ length (now s) ≡ 674 ⌝ }
+    requires { ⌜ length (now s) ≡ boardLen ⌝ }
     ensures { λ _. ⌜ now (s .exit) ≡ boardNumbers
-        (record { messages = 0; matches = 0; senders = replicate 32 freshSender }) ⌝ }
+        (record { messages = 0; matches = 0; senders = replicate 32 freshSender; closed = false }) ⌝ }
 {
     let idle = fresh_sender();
     let mut i: usize = 0;
@@ -305,4 +306,5 @@ pub fn put_fresh(s: &mut [u16])
     }
     s[0] = 0;
     s[1] = 0;
+    s[boards::CLOSED] = 0;
 }

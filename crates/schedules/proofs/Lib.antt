@@ -4,5 +4,6 @@ pub mod PublicPeace
 pub mod HeldParts
 pub mod PublicMerge
 pub mod Mixed
+pub mod PublicClosing
 pub mod Unseen
 pub mod Outcomes

@@ -71,7 +71,7 @@ module _ (s : List ℕ) where
         says = refl;
       }
 
-  acts-part : (l : Lists) (xs : List Act) (l′ : Lists) → refusalOf s (heldIn l) ≡ 0 → Acts s l xs l′
+  pub acts-part : (l : Lists) (xs : List Act) (l′ : Lists) → refusalOf s (heldIn l) ≡ 0 → Acts s l xs l′
       → Is-part s l (callsIn xs) (answersIn xs) l′
   acts-part l [] l′ e p = record {
     accepted = ap (λ (x : Lists). refusalOf s (heldIn x)) p ∙ e;

@@ -2,17 +2,18 @@
 -- see stays as it was, or is the caller's choice.
 use mathlib.Core.Path.{_≡_, refl, sym, ap, subst, _∙_}
 use mathlib.Core.Logic.{_⊎_, _≢_, inl, inr}
+use mathlib.Core.Bool.{Bool, true, false}
 use mathlib.Core.List.{List, [], _∷_, _++_, map}
 use Prim.Native.Nat.{ℕ, zero, suc, _+_, _*_, _<_, _≤_}
 use native.Mathlib.Omega.{arith}
 use lib.IntN.{pos}
 use lib.ListN.{length, length-append, getD, drop, drop-of-length-le}
-use lib.Seq.{drop-drop}
+use lib.Seq.{drop-drop, drop-cons}
 use Rattle.model.specs.Tables.{Table}
 use Rattle.model.specs.Layout.{tableOf}
 use Rattle.model.specs.Boards.{Board, Message, Match, messageAt, matchAt, senderAt, Sender}
 use Rattle.model.specs.Effects.{Said, Refused, numberOf}
-use Rattle.model.specs.Pools.{Call, adds, steps, answerTo}
+use Rattle.model.specs.Pools.{Call, adds, steps, closes, answerTo}
 use Rattle.model.proofs.Tests.{same?}
 use Rattle.model.proofs.Grows.{code}
 use Rattle.model.proofs.StepFrame.{frame}
@@ -20,9 +21,9 @@ use Rattle.columns.specs.Columns.{messageIn, columnsOf, daysAt}
 use Rattle.columns.specs.MatchColumns.{matchIn, matchesOf}
 use Rattle.state.specs.declared.Sender as DD
 use Rattle.state.specs.Views.{senderIn}
-use Rattle.boards.specs.Boards.{HeldBoard, zeroSender}
+use Rattle.boards.specs.Boards.{HeldBoard, closedBy, zeroSender}
 use Rattle.boards.specs.Calls.{Held, held}
-use Rattle.boards.specs.Layout.{Lists}
+use Rattle.boards.specs.Layout.{Lists, closeDayAt}
 use Rattle.boards.specs.Parts.{part}
 use Rattle.boards.proofs.PartLaws.{length-part, getD-part}
 use Rattle.boards.proofs.SenderLaws.{nth-sender}
@@ -45,11 +46,19 @@ matches-more t b (adds i x) = omega (arith, ap length (frame .add t b i x .match
 matches-more t b (steps i) =
     let f = frame .step t b i in
     omega (arith, f .at-most-one, ap length (f .matches), length-append (b .matches) (f .recorded))
+matches-more t b (closes day) = omega (arith, ap length (frame .close t b day .matches))
 
 -- One call
 
-abbrev boardBy : ℕ → ℕ → List DD.Sender → HeldBoard
-boardBy n m ds = record { messages = n; matches = m; senders = ds }
+abbrev boardBy : ℕ → ℕ → List DD.Sender → Bool → HeldBoard
+boardBy n m ds u = record { messages = n; matches = m; senders = ds; closed = u }
+
+-- two close days plus 1 that are equal
+same-flag : (u v : Bool) (x y : ℕ) → closedBy u x ≡ closedBy v y → u ≡ v
+same-flag true true x y e = refl
+same-flag true false x y e = absurd (omega (arith, e))
+same-flag false true x y e = absurd (omega (arith, e))
+same-flag false false x y e = refl
 
 -- a column that is z's past n numbers in both outcomes
 column : {A : Type 0} (d : A) (n m : ℕ) (xs ys zs : List A) → n ≡ m → length xs ≡ 1024 → length ys ≡ 1024
@@ -103,6 +112,17 @@ module _ (s : List ℕ) (h : Held) (k : Call) (v w : Said) (f g : Held) (z : ref
       same-list zeroSender 32 _ _ (m ∙ sym n) (λ j _. row-same j)
       (drop-of-length-le (f .board .senders) x ∙ sym (drop-of-length-le (g .board .senders) y))
 
+  closed-same : f .board .closed ≡ g .board .closed
+  closed-same = same-flag _ _ _ _ (ap (λ (b : Board). b .closed) boards)
+
+  day-same : getD (f .columns .keys) closeDayAt 0 ≡ getD (g .columns .keys) closeDayAt 0
+  day-same = go (f .board .closed) refl
+    where
+      go : (u : Bool) → f .board .closed ≡ u
+          → getD (f .columns .keys) closeDayAt 0 ≡ getD (g .columns .keys) closeDayAt 0
+      go true e = omega (arith, rw (e, sym closed-same ∙ e) at (ap (λ (b : Board). b .closed) boards))
+      go false e = p .beyond .close-day e ∙ sym (q .beyond .close-day (sym closed-same ∙ e))
+
   columns-same : f .columns ≡ g .columns
   unfolding messageIn
   columns-same = go
@@ -146,6 +166,17 @@ module _ (s : List ℕ) (h : Held) (k : Call) (v w : Said) (f g : Held) (z : ref
           let e : 0 + i ≡ i = omega arith in
           rw e (ap (λ (x : Message). x .sent .property) (message-same i l))
 
+      -- the close day, which is the last of the keys
+      last : SameFrom closeDayAt (f .columns .keys) (g .columns .keys)
+      last =
+          drop-cons (f .columns .keys) closeDayAt 0 (omega (arith, a .keys-len))
+          ∙ cc (
+            day-same,
+            past-ends (f .columns .keys) (g .columns .keys) 2049 (omega (arith, a .keys-len))
+                (omega (arith, b .keys-len)),
+          )
+          ∙ sym (drop-cons (g .columns .keys) closeDayAt 0 (omega (arith, b .keys-len)))
+
       keys : f .columns .keys ≡ g .columns .keys
       keys =
           from-part (f .columns .keys) (g .columns .keys) 0 1024
@@ -153,8 +184,7 @@ module _ (s : List ℕ) (h : Held) (k : Call) (v w : Said) (f g : Held) (z : ref
           (from-part (f .columns .keys) (g .columns .keys) daysAt 1024
           (keys-part daysAt (omega arith) (λ i l. ap (λ (x : Message). x .sent .day) (message-same i l))
           (p .beyond .days) (q .beyond .days))
-          (past-ends (f .columns .keys) (g .columns .keys) 2048 (omega (arith, a .keys-len))
-          (omega (arith, b .keys-len))))
+          last)
 
       go : columnsOf (f .columns .channels) (f .columns .keys) (f .columns .cents) (f .columns .statuses)
           (f .columns .matched) (f .columns .wakers) (f .columns .units)
@@ -225,11 +255,11 @@ module _ (s : List ℕ) (h : Held) (k : Call) (v w : Said) (f g : Held) (z : ref
   outcome-same : f ≡ g
   outcome-same = go
     where
-      go : held (boardBy (f .board .messages) (f .board .matches) (f .board .senders)) (f .columns)
+      go : held (boardBy (f .board .messages) (f .board .matches) (f .board .senders) (f .board .closed)) (f .columns)
           (matchesOf (f .matches .chords) (f .matches .messages))
-          ≡ held (boardBy (g .board .messages) (g .board .matches) (g .board .senders)) (g .columns)
+          ≡ held (boardBy (g .board .messages) (g .board .matches) (g .board .senders) (g .board .closed)) (g .columns)
           (matchesOf (g .matches .chords) (g .matches .messages))
-      go = cc (messages-count, matches-count, senders-same, columns-same, chords-same, members-same)
+      go = cc (messages-count, matches-count, senders-same, closed-same, columns-same, chords-same, members-same)
 
 -- All calls
 

@@ -3,4 +3,5 @@ pub mod Schedules
 pub mod InPeace
 pub mod Merged
 pub mod Mixes
+pub mod Closing
 pub mod Outcomes

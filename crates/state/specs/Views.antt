@@ -20,7 +20,7 @@ use Rattle.model.specs.Tables.{Table, size}
 use Rattle.model.specs.Boards.{Phase, look, claim, revert, consume, tell, wake, free, signal, pass-end, backoff, Job}
 use Rattle.model.specs.Boards.{State, idle, working, blocked, Sender, Match}
 use Rattle.model.specs.Effects.{Said, Item, Looked, Claimed, Lost, Reverted, Matched, Consumed, Told, Woke, Freed}
-use Rattle.model.specs.Effects.{Signalled, Answered, Refused, Missed, Again, Ended, Rested, Resumed}
+use Rattle.model.specs.Effects.{Signalled, Answered, Refused, Missed, Again, Ended, Rested, Resumed, Closed}
 use Rattle.model.specs.Effects.{Turn, claims, frees, consumes, wakes-by, resumes, Change, none, turn, records, signals}
 use Rattle.model.specs.Effects.{Effect}
 
@@ -107,6 +107,7 @@ saidIn W.Rested = Rested
 saidIn (W.Answered k) = Answered k
 saidIn W.Resumed = Resumed
 saidIn (W.Refused f) = Refused f
+saidIn W.Closed = Closed
 
 abbrev pub turnIn : DU.Turn → Turn
 turnIn U.Claims = claims

@@ -74,6 +74,7 @@ pub enum Said {
     Answered(u16),
     Resumed,
     Refused(u8),
+    Closed,
 }
 
 // How one message turns. Consumes has the match plus 1, WakesBy the waker.
@@ -102,7 +103,7 @@ pub struct Effect {
 
 // The word by its number.
 pub fn word_of(said: Said) -> u8
-    ensures { λ r. ⌜ (r ≡ wordOf (saidIn said)) × (r < 18) ⌝ }
+    ensures { λ r. ⌜ (r ≡ wordOf (saidIn said)) × (r < 19) ⌝ }
 {
     match said {
         Said::Item(_) => 0,
@@ -123,6 +124,7 @@ pub fn word_of(said: Said) -> u8
         Said::Answered(_) => 15,
         Said::Resumed => 16,
         Said::Refused(_) => 17,
+        Said::Closed => 18,
     }
 }
 
@@ -149,6 +151,7 @@ pub fn value_of(said: Said) -> u16
         Said::Rested => 0,
         Said::Resumed => 0,
         Said::Refused(_) => 0,
+        Said::Closed => 0,
     }
 }
 
@@ -175,6 +178,7 @@ pub fn number_of(said: Said) -> u8
         Said::Answered(_) => 0,
         Said::Resumed => 0,
         Said::Refused(n) => n,
+        Said::Closed => 0,
     }
 }
 

@@ -2,11 +2,12 @@
 use mathlib.Core.Path.{_≡_, refl, sym, _∙_, ap}
 use mathlib.Core.Bool.{true}
 use mathlib.Core.Logic.{_≢_}
-use mathlib.Core.List.{List, [], _∷_, map}
+use mathlib.Core.List.{List, [], _∷_, _++_, map}
 use Prim.Native.Nat.{ℕ, zero, suc, _+_, _-_, _*_, _<_}
 use lib.ListN.{getD, set, length-set}
 use lib.Seq.{paste}
 use native.Mathlib.Omega.{arith}
+use Rattle.model.specs.Basics.{flag}
 use Rattle.state.specs.declared.Sender as DD
 use Rattle.boards.specs.Boards.{HeldBoard}
 use Rattle.writes.specs.Writes.{signalBy, signalledBy, matchesBy}
@@ -24,7 +25,7 @@ use Rattle.writes.proofs.SignalLaws.{IsBoard, is-board}
 
 -- the board with another sender at a place, and other counts
 abbrev pub withSender : HeldBoard → ℕ → DD.Sender → ℕ → ℕ → HeldBoard
-withSender b i d n k = record { messages = n; matches = k; senders = set (b .senders) i d }
+withSender b i d n k = record { messages = n; matches = k; senders = set (b .senders) i d; closed = b .closed }
 
 fit-set : (ds : List DD.Sender) (i : ℕ) (d : DD.Sender) → SendersFit ds → SenderFits d → SendersFit (set ds i d)
 fit-set [] i d f g = tt
@@ -37,9 +38,11 @@ written : (b : HeldBoard) (s : List ℕ) (i n k : ℕ) (d : DD.Sender) → Board
 unfolding boardNumbers
 written b s i n k d f h g e =
     ap (λ (x : List ℕ). set (set x 0 n) 1 k)
-    (e ∙ paste-behind (b .messages ∷ b .matches ∷ []) (sendersNumbers (b .senders)) (senderNumbers d) (21 * i) 21
+    (e
+    ∙ paste-behind (b .messages ∷ b .matches ∷ []) (sendersNumbers (b .senders) ++ (flag (b .closed) ∷ []))
+    (senderNumbers d) (21 * i) 21
     ∙ ap (λ (x : List ℕ). b .messages ∷ b .matches ∷ x)
-    (senders-paste (b .senders) i d (omega (arith, f .all)) (f .each) g))
+    (senders-paste (flag (b .closed) ∷ []) (b .senders) i d (omega (arith, f .all)) (f .each) g))
 
 -- the numbers of a sender and the two counts, written
 pub sender-put : (s s′ : List ℕ) (i n k : ℕ) (d : DD.Sender) → encodes s ≡ true → i < 32 → SenderFits d

@@ -8,7 +8,7 @@ use lib.ListN.{length, getD, take, drop, set}
 use lib.Seq.{set-getD, getD-append-add}
 use native.Mathlib.Numerals.{add-one}
 use native.Mathlib.Omega.{arith}
-use Rattle.model.specs.Basics.{pick}
+use Rattle.model.specs.Basics.{pick, flag}
 use Rattle.model.proofs.Parts.{set-behind}
 use Rattle.model.proofs.Walks.{in-place-step, in-place-end}
 use Rattle.state.specs.declared.State as DS
@@ -56,30 +56,30 @@ state-idle S.Working = refl
 state-idle S.Blocked = refl
 
 -- one sender's signal
-module _ (m k : ℕ) (ds : List DD.Sender) (i : ℕ) (h : i < length ds) (f : SendersFit ds) where
+module _ (m k : ℕ) (ds : List DD.Sender) (rest : List ℕ) (i : ℕ) (h : i < length ds) (f : SendersFit ds) where
   abbrev d : DD.Sender
   d = getD ds i zeroSender
 
   abbrev s : List ℕ
-  s = m ∷ k ∷ sendersNumbers ds
+  s = m ∷ k ∷ (sendersNumbers ds ++ rest)
 
   reads : (j at : ℕ) → j < 21 → at ≡ 2 + (21 * i + j) → getD s at 0 ≡ getD (senderNumbers d) j 0
   reads j at l e =
-      ap (λ (x : ℕ). getD s x 0) e ∙ getD-append-add (m ∷ k ∷ []) (sendersNumbers ds) (21 * i + j) 0
-      ∙ number-at j l ds i zeroSender h f
+      ap (λ (x : ℕ). getD s x 0) e ∙ getD-append-add (m ∷ k ∷ []) (sendersNumbers ds ++ rest) (21 * i + j) 0
+      ∙ number-at rest j l ds i zeroSender h f
 
   by-test : (u : Bool)
-      → pick u (set s (2 + 21 * i + 1) 1) s ≡ m ∷ k ∷ sendersNumbers (set ds i (withSignal u d))
+      → pick u (set s (2 + 21 * i + 1) 1) s ≡ m ∷ k ∷ (sendersNumbers (set ds i (withSignal u d)) ++ rest)
   by-test true =
       let z : 2 + 21 * i + 1 ≡ 2 + (21 * i + 1) = omega arith in
       rw z
-      (set-behind (m ∷ k ∷ []) (sendersNumbers ds) (21 * i + 1) 1
+      (set-behind (m ∷ k ∷ []) (sendersNumbers ds ++ rest) (21 * i + 1) 1
       ∙ ap (λ (x : List ℕ). m ∷ k ∷ x)
-      (number-set 1 (omega arith) ds i 1 zeroSender (withSignal true d) h f (signal-yes d)))
+      (number-set rest 1 (omega arith) ds i 1 zeroSender (withSignal true d) h f (signal-yes d)))
   by-test false = rw (signal-no d, set-getD ds i zeroSender)
 
   signal-here : (n own : ℕ) → own ≡ n + 1
-      → signalAt s (2 + 21 * i) own ≡ m ∷ k ∷ sendersNumbers (set ds i (signalledBy n d))
+      → signalAt s (2 + 21 * i) own ≡ m ∷ k ∷ (sendersNumbers (set ds i (signalledBy n d)) ++ rest)
   signal-here n own e =
       let a : getD s (2 + 21 * i) 0 ≡ stateNumber (d .state) =
       reads 0 (2 + 21 * i) (omega arith) (omega arith) ∙ ap (λ (x : List ℕ). getD x 0 0) (numbers-listed d) in
@@ -93,6 +93,7 @@ signalledTo n i b = record {
   messages = b .messages;
   matches = b .matches;
   senders = map (signalledBy n) (take i (b .senders)) ++ drop i (b .senders);
+  closed = b .closed;
 }
 
 module _ (n : ℕ) where
@@ -124,7 +125,7 @@ module _ (n : ℕ) where
       let ds = map (signalledBy n) (take i (b .senders)) ++ drop i (b .senders) in
       let step = in-place-step (signalledBy n) zeroSender (b .senders) i (omega (arith, f .all)) in
       q ∙ ap (λ (x : List ℕ). signalAt x (2 + 21 * i) own) p
-      ∙ signal-here (b .messages) (b .matches) ds i (omega (arith, g .all)) (g .each) n own e
+      ∙ signal-here (b .messages) (b .matches) ds (flag (b .closed) ∷ []) i (omega (arith, g .all)) (g .each) n own e
       ∙ rw (step, add-one i)
 
   -- all are signalled

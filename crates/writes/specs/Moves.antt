@@ -36,6 +36,7 @@ movedBoard b i m = record {
   messages = messagesBy (m .adds) (b .messages);
   matches = matchesBy (m .change) (b .matches);
   senders = sendersBy (m .change) (set (b .senders) i (m .sender));
+  closed = b .closed;
 }
 
 -- what is held after it

@@ -22,4 +22,5 @@ signalledBoard n b = record {
   messages = b .messages;
   matches = b .matches;
   senders = map (signalledBy n) (b .senders);
+  closed = b .closed;
 }

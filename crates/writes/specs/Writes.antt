@@ -132,4 +132,5 @@ effectBoard b i e = record {
   messages = b .messages;
   matches = matchesBy (e .change) (b .matches);
   senders = sendersBy (e .change) (set (b .senders) i (e .sender));
+  closed = b .closed;
 }

@@ -20,10 +20,13 @@ start c = c .before .before .before
 abbrev idled : tie.Else3 → tie.Else2
 idled c = c .before .before .before
 
-abbrev listed : tie.After-amount-ok → tie.Else3
-listed c = c .before .before
+abbrev dated : tie.After-amount-ok → tie.Else4
+dated c = c .before .before
 
--- the tests that are passed: the sender is idle, the channel is of the table, the cents are in range
+abbrev listed : tie.After-amount-ok → tie.Else3
+listed c = dated c .before
+
+-- the tests that are passed: the sender is idle, the channel is of the table, the day is open, the cents are in range
 idle : (c : tie.Else2) → start c .args .idle ≡ true
 idle c = not-false _ (c .if2 .left)
 
@@ -41,8 +44,11 @@ tested c =
     let back = toZ-ofZ w64 (a .x .cents) (record { sfits = c .before .struct-told .given .1 .1 .0 .1 }) in
     rw back at (c .amount-ok .ensures)
 
-cents-in : (c : tie.Else4) → centsOk (start (idled (listed (c .before))) .args .x .cents) ≡ true
-cents-in c = sym (tested (c .before)) ∙ not-false _ (c .if4 .left)
+opened : (c : tie.Else4) → start (idled (c .before)) .args .timely ≡ true
+opened c = not-false _ (c .if4 .left)
+
+cents-in : (c : tie.Else5) → centsOk (start (idled (listed (c .before))) .args .x .cents) ≡ true
+cents-in c = sym (tested (c .before)) ∙ not-false _ (c .if5 .left)
 
 returns : tie.Need-returns
 returns c =
@@ -67,25 +73,25 @@ returns-3 c =
 
 returns-4 : tie.Need-returns-4
 returns-4 c =
+    let l = c .before in
+    let a = start (idled l) .args in
+    rw (
+      lt-ltb (a .i) 32 (omega (arith, idled l .before .if1 .left)),
+      idle (idled l),
+      known l,
+      not-true (a .timely) (c .if4 .taken),
+    )
+
+returns-5 : tie.Need-returns-5
+returns-5 c =
     let l = listed (c .before) in
     let a = start (idled l) .args in
     rw (
       lt-ltb (a .i) 32 (omega (arith, idled l .before .if1 .left)),
       idle (idled l),
       known l,
-      sym (tested (c .before)) ∙ not-true _ (c .if4 .taken),
-    )
-
-returns-5 : tie.Need-returns-5
-returns-5 c =
-    let l = listed (c .before .before) in
-    let a = start (idled l) .args in
-    rw (
-      lt-ltb (a .i) 32 (omega (arith, idled l .before .if1 .left)),
-      idle (idled l),
-      known l,
-      cents-in (c .before),
-      le-ltb (a .n) 1024 (omega arith),
+      opened (dated (c .before)),
+      sym (tested (c .before)) ∙ not-true _ (c .if5 .taken),
     )
 
 returns-6 : tie.Need-returns-6
@@ -96,6 +102,20 @@ returns-6 c =
       lt-ltb (a .i) 32 (omega (arith, idled l .before .if1 .left)),
       idle (idled l),
       known l,
+      opened (dated (c .before .before)),
+      cents-in (c .before),
+      le-ltb (a .n) 1024 (omega arith),
+    )
+
+returns-7 : tie.Need-returns-7
+returns-7 c =
+    let l = listed (c .before .before) in
+    let a = start (idled l) .args in
+    rw (
+      lt-ltb (a .i) 32 (omega (arith, idled l .before .if1 .left)),
+      idle (idled l),
+      known l,
+      opened (dated (c .before .before)),
       cents-in (c .before),
       lt-ltb (a .n) 1024 (omega arith),
     )
@@ -109,7 +129,8 @@ add-refusal-spec =
     (λ c κs. search needs)
     (λ c. search needs)
     returns-3
-    (λ c κs. search needs)
     returns-4
+    (λ c κs. search needs)
     returns-5
-    returns-6)
+    returns-6
+    returns-7)

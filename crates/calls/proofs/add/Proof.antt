@@ -1,13 +1,13 @@
 -- `calls::add` meets its contract: the call of its row.
 use mir.ValLaws.{toZ-ofZ}
 use mir.Syntax.{w64}
-use Rattle.plays.specs.Replays.{callAt}
+use Rattle.plays.specs.Replays.{senderCall}
 use borrow.Author.Needs.{needs}
 use Rattle.calls.proofs.add.Statement.{statement}
 use Rattle.calls.proofs.add.Tie as tie
 
 returns : tie.Need-returns
-unfolding callAt
+unfolding senderCall
 returns c =
     let k = c .before .before .before .before .before .before .before .before .before in
     let t = k .before .before .before .before .before .before .before .before .before in

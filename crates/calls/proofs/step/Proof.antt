@@ -1,11 +1,11 @@
 -- `calls::step` meets its contract: the call of its row.
-use Rattle.plays.specs.Replays.{callAt}
+use Rattle.plays.specs.Replays.{senderCall}
 use borrow.Author.Needs.{needs}
 use Rattle.calls.proofs.step.Statement.{statement}
 use Rattle.calls.proofs.step.Tie as tie
 
 returns : tie.Need-returns
-unfolding callAt
+unfolding senderCall
 returns c = c .before .before .before .before .before .before .before .before .before .one-call .ensures
 
 pub step-spec : {M : Type 1} → statement M

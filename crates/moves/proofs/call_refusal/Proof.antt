@@ -1,18 +1,21 @@
 -- `moves::call_refusal` meets its contract: each kind of call by its own test.
 use mathlib.Core.Path.{_≡_, refl, sym, subst, ap, _∙_}
 use mathlib.Core.Bool.{Bool}
+use mathlib.Core.List.{List}
 use Prim.Native.Nat.{ℕ}
 use native.Mathlib.Omega.{arith}
 use borrow.Author.Needs.{needs}
-use lib.ListN.{getD}
+use lib.Dec.{leb}
+use lib.ListN.{getD, length}
 use Rattle.model.specs.Tables.{Table}
 use Rattle.model.specs.Layout.{tableOf}
 use Rattle.model.specs.Boards.{Sent}
 use Rattle.model.specs.Pools.{adds}
 use Rattle.state.specs.Views.{idleIs}
 use Rattle.boards.specs.declared.Call as DC
-use Rattle.boards.specs.Boards.{HeldBoard, zeroSender}
+use Rattle.boards.specs.Boards.{HeldBoard, closedIn, zeroSender}
 use Rattle.boards.specs.Calls.{sentIn, callIn}
+use Rattle.boards.specs.Layout.{boardLen}
 use Rattle.rows.specs.Decoded.{boardFrom}
 use Rattle.rows.proofs.WalkLaws.{all-numbers}
 use Rattle.adds.specs.Refusals.{refusalBy}
@@ -23,7 +26,7 @@ use Rattle.moves.proofs.call_refusal.Tie as tie
 
 -- where the function starts, for an add
 abbrev start : tie.After-is-idle → tie.Start
-start c = c .before .before .before .before .before .before .before
+start c = c .before .before .before .before .before .before .before .before
 
 idle-is : (c : tie.After-is-idle)
     → let b = boardFrom (start c .args .board .now) in
@@ -34,38 +37,49 @@ idle-is c =
     c .is-idle .ensures ∙ ap (λ j. idleIs (getD (b .senders) j zeroSender .state)) (c .before .place-of .ensures .0)
 
 -- an add is refused by the number of messages
-by-add : (t : Table) (b : HeldBoard) (i : ℕ) (x : Sent) (idle : Bool) (n number : ℕ)
-    → idle ≡ idleIs (getD (b .senders) (placeOf i) zeroSender .state) → n ≡ b .messages
-    → number ≡ refusalBy t i idle (x .channel) (x .cents) n → number ≡ callRefusal t b (adds i x)
-by-add t b i x idle n number e k r = r ∙ add-by t b i x idle n e k
+by-add : (t : Table) (b : HeldBoard) (keys : List ℕ) (i : ℕ) (x : Sent) (idle timely : Bool) (n number : ℕ)
+    → idle ≡ idleIs (getD (b .senders) (placeOf i) zeroSender .state) → timely ≡ leb (closedIn b keys) (x .day)
+    → n ≡ b .messages
+    → number ≡ refusalBy t i idle timely (x .channel) (x .cents) n → number ≡ callRefusal t b keys (adds i x)
+by-add t b keys i x idle timely n number e d k r = r ∙ add-by t b keys i x idle timely n e d k
+
+-- the numbers of the board are all there
+numbers : (s : tie.Start) → length (s .args .board .now) ≡ boardLen
+numbers s = all-numbers (s .args .board .now) (s .pre .1) .0
+
+shared-slice-read-day-open : tie.Need-shared-slice-read-day-open
+shared-slice-read-day-open c = omega (arith, numbers (start (c .before)))
+
+shared-slice-read-day-open-2 : tie.Need-shared-slice-read-day-open-2
+shared-slice-read-day-open-2 c = omega (arith, start (c .before .before) .pre .2)
 
 shared-slice-read-add-refusal : tie.Need-shared-slice-read-add-refusal
-shared-slice-read-add-refusal c =
-    let s = start (c .before) in
-    omega (arith, all-numbers (s .args .board .now) (s .pre .1) .0)
+shared-slice-read-add-refusal c = omega (arith, numbers (start (c .before .before .before .before)))
 
 returns : tie.Need-returns
 unfolding boardFrom
 returns c =
-    let d = c .before .before in
+    let o = c .before .before in
+    let d = o .before .before .before in
     let k = d .before .before .before in
     let s = start d in
     let a = s .args in
     let t = tableOf (a .table .now) in
     let b = boardFrom (a .board .now) in
     let g = k .call .given in
-    subst (λ (x : DC.Call). c .add-refusal .result ≡ callRefusal t b (callIn x)) (sym (g .1))
-    (by-add t b (g .0 .0) (sentIn (g .0 .1 .0)) (d .is-idle .result) (getD (a .board .now) 0 0) (c .add-refusal .result)
-    (idle-is d) refl (c .add-refusal .ensures))
+    subst (λ (x : DC.Call). c .add-refusal .result ≡ callRefusal t b (a .keys .now) (callIn x)) (sym (g .1))
+    (by-add t b (a .keys .now) (g .0 .0) (sentIn (g .0 .1 .0)) (d .is-idle .result) (o .day-open .result)
+    (getD (a .board .now) 0 0) (c .add-refusal .result) (idle-is d) (o .day-open .ensures) refl
+    (c .add-refusal .ensures))
 
 returns-2 : tie.Need-returns-2
 returns-2 c =
     let k = c .before .before in
-    let a = k .before .before .before .before .args in
+    let a = k .before .before .before .before .before .args in
     let t = tableOf (a .table .now) in
     let b = boardFrom (a .board .now) in
-    subst (λ (x : DC.Call). c .step-refusal .result ≡ callRefusal t b (callIn x)) (sym (k .call2 .given .1))
-    (c .step-refusal .ensures t)
+    subst (λ (x : DC.Call). c .step-refusal .result ≡ callRefusal t b (a .keys .now) (callIn x))
+    (sym (k .call2 .given .1)) (c .step-refusal .ensures t (a .keys .now))
 
 pub call-refusal-spec : {M : Type 1} → statement M
 call-refusal-spec =
@@ -73,6 +87,9 @@ call-refusal-spec =
     (tie.spec
     (λ c. search needs)
     (λ c κs. search needs)
+    (λ c κs. search needs)
+    shared-slice-read-day-open
+    shared-slice-read-day-open-2
     (λ c κs. search needs)
     shared-slice-read-add-refusal
     (λ c κs. search needs)

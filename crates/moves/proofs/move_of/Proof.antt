@@ -1,16 +1,17 @@
 -- `moves::move_of` meets its contract: each kind of call by its own function.
 use mathlib.Core.Path.{_≡_, refl, sym, subst}
 use mathlib.Core.Bool.{true}
-use Prim.Native.Nat.{_<_}
+use Prim.Native.Nat.{ℕ, _<_}
 use native.Mathlib.Omega.{arith}
 use borrow.Author.Needs.{needs}
+use lib.Dec.{leb}
 use lib.ListN.{getD}
 use Rattle.model.specs.Layout.{tableOf}
 use Rattle.model.specs.Effects.{numberOf}
 use Rattle.state.specs.Views.{saidIn, idleIs, senderSteps}
 use Rattle.boards.specs.declared.Call as DC
 use Rattle.boards.specs.declared.Call.the-variants as G
-use Rattle.boards.specs.Boards.{zeroSender}
+use Rattle.boards.specs.Boards.{closedIn, zeroSender}
 use Rattle.boards.specs.Calls.{Held, callIn}
 use Rattle.boards.specs.Layout.{lists}
 use Rattle.rows.specs.Decoded.{boardFrom}
@@ -38,15 +39,18 @@ added k = k .before .before .before .before .before .before .before
 abbrev stepped : tie.After-call2 → tie.Start
 stepped k = k .before .before .before .before .before .before .before
 
+-- what refuses a call by itself
+abbrev refusalOf : tie.Start → DC.Call → ℕ
+refusalOf s x = callRefusal (tableOf (s .args .table .now)) (view s .board) (s .args .keys .now) (callIn x)
+
 -- the call is not refused
 add-free : (k : tie.After-call)
     → let s = added k in
     let g = k .call .given .0 in
-    callRefusal (tableOf (s .args .table .now)) (view s .board) (callIn (G.Add (g .0) (g .1 .0))) ≡ 0
+    refusalOf s (G.Add (g .0) (g .1 .0)) ≡ 0
 add-free k =
     let s = added k in
-    subst (λ (x : DC.Call). callRefusal (tableOf (s .args .table .now)) (view s .board) (callIn x) ≡ 0)
-    (k .call .given .1) (s .pre .1 .0)
+    subst (λ (x : DC.Call). refusalOf s x ≡ 0) (k .call .given .1) (s .pre .1 .0)
 
 step-free : (k : tie.After-call2)
     → let s = stepped k in
@@ -54,9 +58,8 @@ step-free : (k : tie.After-call2)
     (i < 32) × (senderSteps (getD (view s .board .senders) i zeroSender) ≡ true)
 step-free k =
     let s = stepped k in
-    may-step (tableOf (s .args .table .now)) (view s .board) _
-    (subst (λ (x : DC.Call). callRefusal (tableOf (s .args .table .now)) (view s .board) (callIn x) ≡ 0)
-    (k .call2 .given .1) (s .pre .1 .0))
+    may-step (tableOf (s .args .table .now)) (view s .board) (s .args .keys .now) _
+    (subst (λ (x : DC.Call). refusalOf s x ≡ 0) (k .call2 .given .1) (s .pre .1 .0))
 
 shared-slice-read-add-move : tie.Need-shared-slice-read-add-move
 shared-slice-read-add-move c =
@@ -71,7 +74,8 @@ add-move-requires c κs =
     let g = k .call .given .0 in
     let x = g .1 .0 in
     let u = unrefused (tableOf (s .args .table .now)) (g .0)
-    (idleIs (getD (view s .board .senders) (g .0) zeroSender .state)) (x .channel) (x .cents) (view s .board .messages)
+    (idleIs (getD (view s .board .senders) (g .0) zeroSender .state))
+    (leb (closedIn (view s .board) (s .args .keys .now)) (x .day)) (x .channel) (x .cents) (view s .board .messages)
     (add-free k) in
     (table-accepted _ _ _ _ (s .pre .0 .accepted), u .1, u .2)
 

@@ -14,7 +14,7 @@ use Rattle.columns.proofs.ListFrom.{length-from}
 use Rattle.state.specs.Views.{senderIn, effectIn, senderSteps}
 use Rattle.boards.specs.declared.Sent as DS
 use Rattle.boards.specs.Calls.{Held}
-use Rattle.boards.specs.Layout.{Lists, lists, columnsIn}
+use Rattle.boards.specs.Layout.{boardLen, Lists, lists, columnsIn}
 use Rattle.rows.specs.Decoded.{boardFrom}
 use Rattle.rows.proofs.WalkLaws.{all-numbers}
 use Rattle.refusals.specs.Held.{heldOf}
@@ -49,7 +49,7 @@ caught c = c .before .before .before .before
 is-sender : (c : tie.After-sender-at) → SenderIs (view (start c) .board) (start c .args .i) (c .sender-at .result)
 is-sender c = let s = start c in sender-is (s .args .table .now) (view s) (accepted s) _ _ (c .sender-at .ensures)
 
-numbers : (s : tie.Start) → length (s .args .board .now) ≡ 674
+numbers : (s : tie.Start) → length (s .args .board .now) ≡ boardLen
 numbers s = all-numbers _ (s .pre .0 .numbers) .0
 
 shared-slice-read-effect-of : tie.Need-shared-slice-read-effect-of

@@ -11,20 +11,20 @@ use Rattle.moves.proofs.step_refusal.Tie as tie
 returns : tie.Need-returns
 returns c =
     let a = c .before .before .args in
-    λ t. step-8 t (boardFrom (a .board .now)) (a .i) (c .if1 .taken)
+    λ t keys. step-8 t (boardFrom (a .board .now)) keys (a .i) (c .if1 .taken)
 
 returns-2 : tie.Need-returns-2
 returns-2 c =
     let k = c .before in
     let a = k .before .before .before .args in
-    λ t. step-13 t (boardFrom (a .board .now)) (a .i) (omega (arith, k .before .if1 .left))
+    λ t keys. step-13 t (boardFrom (a .board .now)) keys (a .i) (omega (arith, k .before .if1 .left))
     (sym (k .may-step .ensures) ∙ not-true _ (c .if2 .taken))
 
 returns-3 : tie.Need-returns-3
 returns-3 c =
     let k = c .before in
     let a = k .before .before .before .args in
-    λ t. step-0 t (boardFrom (a .board .now)) (a .i) (omega (arith, k .before .if1 .left))
+    λ t keys. step-0 t (boardFrom (a .board .now)) keys (a .i) (omega (arith, k .before .if1 .left))
     (sym (k .may-step .ensures) ∙ not-false _ (c .if2 .left))
 
 pub step-refusal-spec : {M : Type 1} → statement M

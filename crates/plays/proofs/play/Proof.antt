@@ -30,7 +30,7 @@ accepted s = s .pre .0
 
 -- the places, from the start on
 abbrev start : tie.After-call-refusal → tie.Start
-start c = c .before .before .before .before .before .before .before
+start c = c .before .before .before .before .before .before .before .before
 
 abbrev free : tie.After-move-of → tie.Else1
 free c = c .before .before .before .before .before .before
@@ -50,7 +50,8 @@ begun c = start (free c .before)
 -- a call that is not refused has a caller
 unrefused : (c : tie.Else1)
     → let s = start (c .before) in
-    callRefusal (tableOf (s .args .table .now)) (boardFrom (s .args .board .now)) (callIn (s .args .call)) ≡ 0
+    callRefusal (tableOf (s .args .table .now)) (boardFrom (s .args .board .now)) (s .args .keys .now)
+    (callIn (s .args .call)) ≡ 0
 unrefused c = sym (c .before .call-refusal .ensures) ∙ c .if1 .left
 
 caller-few : (c : tie.After-caller-of) → c .caller-of .result < 32
@@ -60,7 +61,7 @@ caller-few c =
     omega (
       arith,
       c .caller-of .ensures,
-      caller-in (tableOf (s .args .table .now)) (boardFrom (s .args .board .now)) (callIn (s .args .call))
+      caller-in (tableOf (s .args .table .now)) (boardFrom (s .args .board .now)) (s .args .keys .now) (s .args .call)
           (unrefused f),
     )
 
@@ -93,8 +94,8 @@ left-few c =
 
 call-refusal-requires : tie.Need-call-refusal-requires
 call-refusal-requires c κs =
-    let s = c .before .before .before .before .before .before in
-    (table-accepted _ _ _ _ (accepted s .accepted), accepted s .numbers)
+    let s = c .before .before .before .before .before .before .before in
+    (table-accepted _ _ _ _ (accepted s .accepted), accepted s .numbers, accepted s .sized .keys-len)
 
 returns : tie.Need-returns
 returns c =
@@ -151,6 +152,7 @@ play-spec =
     (tie.spec
     call-refusal-requires
     (λ c κs. search needs)
+    (λ c. search needs)
     (λ c. search needs)
     returns
     move-of-requires

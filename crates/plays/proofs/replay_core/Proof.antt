@@ -13,7 +13,7 @@ use Rattle.rows.proofs.WalkLaws.{all-numbers}
 use Rattle.refusals.specs.Held.{heldOf, Accepted}
 use Rattle.plays.specs.Replays.{callRows}
 use Rattle.plays.proofs.PlayLaws.{accepted-after, First, first-none, first-next}
-use Rattle.plays.proofs.ScheduleLaws.{Played, played-none, played-next, played-all}
+use Rattle.plays.proofs.ScheduleLaws.{Played, played-none, played-next, played-all, row-by}
 use Rattle.plays.proofs.replay_core.Statement.{statement}
 use Rattle.plays.proofs.replay_core.Tie as tie
 
@@ -36,13 +36,13 @@ abbrev μ-loop : tie.MeasureT-loop
 abbrev begun : tie.At-loop Inv-loop μ-loop → tie.Start Inv-loop μ-loop
 begun c = c .before .before .before .before .before .before .before .before .before
 
-abbrev looped : tie.After-call-at Inv-loop μ-loop → tie.At-loop Inv-loop μ-loop
+abbrev looped : tie.After-row-at Inv-loop μ-loop → tie.At-loop Inv-loop μ-loop
 looped c = c .before .before
 
-abbrev called : tie.After-play Inv-loop μ-loop → tie.After-call-at Inv-loop μ-loop
+abbrev called : tie.After-turn Inv-loop μ-loop → tie.After-row-at Inv-loop μ-loop
 called c = c .before .before .before .before .before .before
 
-abbrev played : tie.After-cents Inv-loop μ-loop → tie.After-play Inv-loop μ-loop
+abbrev played : tie.After-cents Inv-loop μ-loop → tie.After-turn Inv-loop μ-loop
 played c = c .before .before .before .before .before .before .before .before .before
 
 -- the lists at the start and in a turn
@@ -66,14 +66,14 @@ loop-holds c =
     let s = c .before .before .before .before .before .before .before .before in
     (s .pre .0, passed-none _ _, played-none _ _ _ _ (s .pre .0 .accepted), first-none _ (lent s) _ _)
 
-call-at-requires : tie.Need-call-at-requires Inv-loop μ-loop
-call-at-requires c κs =
+row-at-requires : tie.Need-row-at-requires Inv-loop μ-loop
+row-at-requires c κs =
     let f = begun (c .before) .pre .1 in
     let l = c .loop-test .taken in
     (omega (arith, f .calls-len), omega (arith, f .numbers-len), l)
 
-play-requires : tie.Need-play-requires Inv-loop μ-loop
-play-requires c κs =
+turn-requires : tie.Need-turn-requires Inv-loop μ-loop
+turn-requires c κs =
     let i = looped (c .before .before .before .before .before) .loop .inv in
     (i .0, i .1)
 
@@ -101,12 +101,14 @@ loop-again c =
     let k = called p in
     let a = looped k in
     let i = a .loop .inv in
-    let e = p .play .ensures in (
+    let e = p .turn .ensures in
+    let r = k .row-at .ensures in
+    let same = row-by _ _ _ _ (r .0) (r .1) in (
       accepted-after (begun a .args .table .now) (holds a) _ (i .0) _ _ (e .0),
       e .1 .1,
       played-next _ _ _ _ _ _ _ (i .2) _ _ _ _ (k .before .loop-test .taken) (begun a .pre .1 .answers-all)
-          (k .call-at .ensures) (e .0 .plays) (e .1 .0),
-      first-next _ _ _ _ _ _ (holds a) _ _ (i .3) (k .call-at .ensures) (e .0),
+          same (e .0 .plays) (e .1 .0),
+      first-next _ _ _ _ _ _ (holds a) _ _ (i .3) same (e .0),
     )
 
 -- the lists stay of their lengths
@@ -146,8 +148,8 @@ replay-core-spec =
     Inv-loop
     μ-loop
     loop-holds
-    call-at-requires
-    play-requires
+    row-at-requires
+    turn-requires
     mul-answers
     slice-write-answers
     add-k

@@ -10,7 +10,7 @@ use Rattle.boards.specs.Layout.{Lists, lists, listsOk}
 use Rattle.boards.proofs.LayoutLaws.{sized-by}
 use Rattle.refusals.specs.Calls.{refusalOf}
 use Rattle.refusals.specs.Held.{heldIn, soundIn}
-use Rattle.refusals.proofs.SoundNumbers.{numbers-short}
+use Rattle.refusals.proofs.SoundNumbers.{numbers-short, numbers-unflagged}
 use Rattle.refusals.proofs.HeldLaws.{refusal-is}
 use Rattle.refusals.proofs.board_refusal.Statement.{statement}
 use Rattle.refusals.proofs.board_refusal.Tie as tie
@@ -35,11 +35,15 @@ lists-say c = sym (c .lists-ok .ensures (start (c .before .before) .args .board 
 lists-pass : (c : tie.Else2) → listsOk (lent (start (c .before .before .before))) ≡ true
 lists-pass c = lists-say (c .before) ∙ not-false _ (c .if2 .left)
 
+-- the lists' lengths, from the flag's test on
+abbrev passed : tie.Else4 → tie.Else2
+passed c = c .before .before .before
+
 sound-says : (c : tie.After-is-sound)
-    → let s = start (c .before .before .before .before .before) in
+    → let s = start (passed (c .before) .before .before .before) in
     soundIn (s .args .table .now) (lent s) ≡ c .is-sound .result
 sound-says c =
-    let s = start (c .before .before .before .before .before) in
+    let s = start (passed (c .before) .before .before .before) in
     sym {b = soundIn (s .args .table .now) (lent s)} (c .is-sound .ensures (s .args .keys .now))
 
 -- the refusal in the order of the code
@@ -66,22 +70,28 @@ returns-3 c =
     let e = d .before .before in
     rw (in-order e, lists-pass d, numbers-short (start (e .before) .args .board .now) (c .if3 .taken))
 
-is-sound-requires : tie.Need-is-sound-requires
-is-sound-requires c κs =
-    let d = c .before in
-    let e = d .before .before in
-    let n = sized-by (lent (start (e .before))) (lists-pass d) in
-    ((accepted e, c .if3 .left), (n .bytes-len, n .links-len, n .cents-len))
-
 returns-4 : tie.Need-returns-4
 returns-4 c =
     let d = c .before .before .before in
-    rw (in-order (d .before .before), lists-pass d, sound-says (c .before) ∙ not-true _ (c .if4 .taken))
+    let e = d .before .before in
+    rw (in-order e, lists-pass d, numbers-unflagged (start (e .before) .args .board .now) (c .if4 .taken))
+
+is-sound-requires : tie.Need-is-sound-requires
+is-sound-requires c κs =
+    let d = passed c in
+    let e = d .before .before in
+    let n = sized-by (lent (start (e .before))) (lists-pass d) in
+    ((accepted e, c .before .before .if3 .left, c .if4 .left), (n .bytes-len, n .links-len, n .cents-len))
 
 returns-5 : tie.Need-returns-5
 returns-5 c =
-    let d = c .before .before .before in
-    rw (in-order (d .before .before), lists-pass d, sound-says (c .before) ∙ not-false _ (c .if4 .left))
+    let d = passed (c .before .before) in
+    rw (in-order (d .before .before), lists-pass d, sound-says (c .before) ∙ not-true _ (c .if5 .taken))
+
+returns-6 : tie.Need-returns-6
+returns-6 c =
+    let d = passed (c .before .before) in
+    rw (in-order (d .before .before), lists-pass d, sound-says (c .before) ∙ not-false _ (c .if5 .left))
 
 pub board-refusal-spec : {M : Type 1} → statement M
 board-refusal-spec =
@@ -92,6 +102,8 @@ board-refusal-spec =
     (λ c κs. search needs)
     returns-2
     returns-3
-    is-sound-requires
+    (λ c. search needs)
     returns-4
-    returns-5)
+    is-sound-requires
+    returns-5
+    returns-6)

@@ -50,7 +50,7 @@ module _ (s : tie.Start) (keys : List ℕ) where
       && (matchesTest (table s) (boardFrom (numbers s)) (columnsIn lent) (matchesIn lent)
       && (rowsOk (table s) board 32 (drop 2 (numbers s))
       && noneShared (map (senderIn (table s)) (sendersIn (numbers s)))))))
-  in-order = numbers-sound (table s) (numbers s) (columnsIn lent) (matchesIn lent) (s .pre .0 .1)
+  in-order = numbers-sound (table s) (numbers s) (columnsIn lent) (matchesIn lent) (s .pre .0 .1) (s .pre .0 .2)
 
 same-columns : {ch ch′ st st′ ma ma′ wa wa′ : List ℕ} (p us : List ℕ) (k : List ℤ) → ch ≡ ch′ → st ≡ st′ → ma ≡ ma′
     → wa ≡ wa′ → columnsOf ch p k st ma wa us ≡ columnsOf ch′ p k st′ ma′ wa′ us

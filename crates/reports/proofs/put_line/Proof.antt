@@ -5,7 +5,7 @@ use native.Mathlib.Omega.{arith}
 use lib.ListN.{length}
 use Rattle.model.specs.Layout.{tableOf}
 use Rattle.model.specs.Printing.{quietLine}
-use Rattle.boards.specs.Layout.{Lists, lists, columnsIn, matchesIn}
+use Rattle.boards.specs.Layout.{boardLen, Lists, lists, columnsIn, matchesIn}
 use Rattle.prints.specs.Printed.{Printed}
 use Rattle.reports.proofs.BoardLines.{quiet-short}
 use Rattle.reports.proofs.ListLines.{table-passed, few, countable, match-readable}
@@ -23,7 +23,7 @@ lent s =
     let a = s .args in
     lists (a .board .now) (a .bytes .now) (a .links .now) (a .keys .now) (a .cents .now)
 
-all : (s : tie.Start) → length (s .args .board .now) ≡ 674
+all : (s : tie.Start) → length (s .args .board .now) ≡ boardLen
 all s = countable (s .args .table .now) (lent s) (s .pre .0) .0
 
 shared-slice-read-messages : tie.Need-shared-slice-read-messages

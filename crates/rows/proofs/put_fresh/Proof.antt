@@ -1,9 +1,10 @@
--- `rows::put_fresh` meets its contract: each turn writes one idle sender more, then the counts.
+-- `rows::put_fresh` meets its contract: each turn writes one idle sender more, then the counts and the flag.
 use mathlib.Core.Path.{_≡_, sym, _∙_}
 use Prim.Native.Nat.{_-_, _≤_}
 use borrow.Author.Needs.{needs}
 use lib.ListN.{length, take, set, length-set}
 use native.Mathlib.Omega.{arith}
+use Rattle.boards.specs.Layout.{boardLen, closedAt}
 use Rattle.rows.proofs.SenderLaws.{sender-long}
 use Rattle.rows.proofs.WalkLaws.{none-written}
 use Rattle.rows.proofs.FreshLaws.{Written, same-next, fresh-end}
@@ -11,7 +12,7 @@ use Rattle.rows.proofs.put_fresh.Statement.{statement}
 use Rattle.rows.proofs.put_fresh.Tie as tie
 
 abbrev Inv-loop : tie.InvT-loop
-Inv-loop s₀ idle i₀ s i = (i ≤ 32) × (length s ≡ 674) × Written idle s (take 2 s₀) i
+Inv-loop s₀ idle i₀ s i = (i ≤ 32) × (length s ≡ boardLen) × Written idle s (take 2 s₀) i
 
 abbrev μ-loop : tie.MeasureT-loop
 μ-loop s₀ idle i₀ s i = 32 - i
@@ -36,7 +37,8 @@ same-length : tie.Need-same-length Inv-loop μ-loop
 same-length c =
     let p = c .before in
     let s = p .loop .s in
-    length-set (set s 0 0) 1 0 ∙ length-set s 0 0 ∙ p .loop .inv .1 ∙ sym (p .before .before .before .pre)
+    length-set (set (set s 0 0) 1 0) closedAt 0 ∙ length-set (set s 0 0) 1 0 ∙ length-set s 0 0 ∙ p .loop .inv .1
+    ∙ sym (p .before .before .before .pre)
 
 returns : tie.Need-returns Inv-loop μ-loop
 returns c =
@@ -60,6 +62,7 @@ put-fresh-spec =
     (λ c. search needs)
     (λ c. search needs)
     loop-again
+    (λ c. search needs)
     (λ c. search needs)
     (λ c. search needs)
     same-length

@@ -7,13 +7,14 @@ use lib.ListN.{length, set, length-set}
 use native.Mathlib.Omega.{arith}
 use Rattle.writes.proofs.ChangeLaws.{sure-signal}
 use Rattle.rows.specs.Decoded.{boardFrom}
+use Rattle.boards.specs.Layout.{boardLen}
 use Rattle.rows.proofs.WalkLaws.{all-numbers}
 use Rattle.writes.proofs.SignalLaws.{IsBoard}
 use Rattle.writes.proofs.MovedLaws.{withSender, sender-put, moved-none, moved-some}
 use Rattle.writes.proofs.put_moved.Statement.{statement}
 use Rattle.writes.proofs.put_moved.Tie as tie
 
-long : (s : tie.Start) → length (s .args .s .now) ≡ 674
+long : (s : tie.Start) → length (s .args .s .now) ≡ boardLen
 long s = all-numbers (s .args .s .now) (s .pre .0) .0
 
 -- the start, from the sender's write on

@@ -6,6 +6,7 @@ use lib.ListN.{length}
 use native.Mathlib.Omega.{arith}
 use Rattle.rows.specs.Numbers.{boardNumbers}
 use Rattle.rows.specs.Decoded.{boardFrom}
+use Rattle.boards.specs.Layout.{boardLen}
 use Rattle.rows.proofs.WalkLaws.{all-numbers}
 use Rattle.rows.proofs.DecodeLaws.{from-back}
 use Rattle.writes.proofs.SignalLaws.{signalledTo, signal-next, signal-end}
@@ -14,7 +15,7 @@ use Rattle.writes.proofs.put_signal.Tie as tie
 
 abbrev Inv-loop : tie.InvT-loop
 Inv-loop s₀ own i₀ s i =
-    (i ≤ 32) × (length s ≡ 674) × (s ≡ boardNumbers (signalledTo (own - 1) i (boardFrom s₀)))
+    (i ≤ 32) × (length s ≡ boardLen) × (s ≡ boardNumbers (signalledTo (own - 1) i (boardFrom s₀)))
 
 abbrev μ-loop : tie.MeasureT-loop
 μ-loop s₀ own i₀ s i = 32 - i

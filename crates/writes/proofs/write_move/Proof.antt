@@ -3,13 +3,14 @@ use mathlib.Core.Path.{_≡_, _∙_}
 use borrow.Author.Needs.{needs}
 use lib.ListN.{length}
 use native.Mathlib.Omega.{arith}
+use Rattle.boards.specs.Layout.{boardLen}
 use Rattle.rows.proofs.WalkLaws.{all-numbers}
 use Rattle.writes.proofs.ChangeLaws.{sure-all}
 use Rattle.writes.proofs.AddLaws.{moved-held, moved-sized}
 use Rattle.writes.proofs.write_move.Statement.{statement}
 use Rattle.writes.proofs.write_move.Tie as tie
 
-long : (s : tie.Start) → length (s .args .board .now) ≡ 674
+long : (s : tie.Start) → length (s .args .board .now) ≡ boardLen
 long s = all-numbers (s .args .board .now) (s .pre .0) .0
 
 -- the start, from the added message on; the message, from the change on; the change, from the board's numbers on

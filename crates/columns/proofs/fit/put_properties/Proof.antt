@@ -12,7 +12,8 @@ use Rattle.columns.proofs.fit.put_properties.Tie as tie
 
 abbrev Inv-loop : tie.InvT-loop
 Inv-loop y₀ from channels keys statuses at want i₀ y i =
-    (i ≤ from + 16) × Told (λ k. ofKind channels statuses (want .channel) (want .status) k && ofProperty keys (want .property) k) at i y
+    (i ≤ from + 16)
+    × Told (λ k. ofKind channels statuses (want .channel) (want .status) k && ofProperty keys (want .property) k) at i y
 
 abbrev μ-loop : tie.MeasureT-loop
 μ-loop y₀ from channels keys statuses at want i₀ y i = from + 16 - i

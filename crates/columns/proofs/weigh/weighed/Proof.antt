@@ -15,7 +15,8 @@ start c = c .before .before .before
 returns : tie.Need-returns
 returns c =
     let a = start (c .before) .args in
-    sym (better-later _ (rankOf (dayIn (a .keys .now)) (a .k)) (a .best) (rw (← c .before .rank .ensures) (c .if1 .taken)))
+    sym
+    (better-later _ (rankOf (dayIn (a .keys .now)) (a .k)) (a .best) (rw (← c .before .rank .ensures) (c .if1 .taken)))
 
 returns-2 : tie.Need-returns-2
 returns-2 c =

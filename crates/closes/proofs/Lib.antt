@@ -1,0 +1,3 @@
+-- A close, by its day, and written to the numbers of a board.
+pub mod DayLaws
+pub mod FlagLaws

@@ -1,0 +1,2 @@
+-- What a close leaves.
+pub mod Closed
