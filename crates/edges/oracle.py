@@ -1,45 +1,50 @@
 #!/usr/bin/env python3
-# The expected printout of edges, from document 01 and requests 2 and 8 of document 02 alone: each line with the
+# The expected printout of edges, from document 01 and requests 2, 3 and 8 of document 02 alone: each line with the
 # sentence or the reason that gives it.
 # Run: python3 oracle.py | diff - stdout
 #
-# A line of one call: its answer, and `kept` where every list must be as found ("a refusal returns the number only and
-# leaves all as found"). A line of six numbers, 0 for accepted: a step, an add by desk 31 after it, each with its
-# `kept`, then quiet, that desk's slip, item 0, match 0; in the lines on tables and lengths each call is made on an
-# empty board, all by one desk.
+# A line of calls: their answers, and `kept` where every list must be as found ("a refusal returns the number only and
+# leaves all as found"); after an accepted close, where it must be so but for the close day, which must be the one asked
+# for ("a close alters nothing but the close day"). A line of seven numbers, 0 for accepted: a step, an add by desk 31
+# after it, of day 0, a close of day 31, each with its `kept`, then quiet, that desk's slip, item 0, match 0; in the
+# lines on tables and lengths each call is made on an empty board, all by one desk, whose number is the day closed.
 #
-# The five lists: board, 674 numbers (items, matches, then 21 for each of 32 desks); bytes, 3,072 (trays, statuses,
-# rules of matches); links, 11,264 (matches of items, wakers, eight items of each match, units); keys, 2,048
-# (properties, days); cents, 1,024. A desk's 21: state (0 idle, 1 at work, 2 blocked), signal, own item, waker, slip,
-# match made (these four plus 1, 0 for none), item in hand, rule, phase, place, second number, mark, how often `again`,
-# eight chosen items. Phases: 0 look, 1 claim, 2 revert (second: claims made), 3 consume (second: match plus 1), 4 tell,
-# 5 wake, 6 free, 7 signal, 8 pass end, 9 rest (place: rests left less 1). Wake, signal and pass end have no place. A
-# rule, a place, the claims made and the count of `again` are bytes; signal and mark are 0 or 1.
+# The five lists: board, 675 numbers (items, matches, then 21 for each of 32 desks, and 1 where a day is closed, 0 where
+# none is); bytes, 3,072 (trays, statuses, rules of matches); links, 11,264 (matches of items, wakers, eight items of
+# each match, units); keys, 2,049 (properties, days, and the close day, anything where none is closed); cents, 1,024. A
+# desk's 21: state (0 idle, 1 at work, 2 blocked), signal, own item, waker, slip, match made (these four plus 1, 0 for
+# none), item in hand, rule, phase, place, second number, mark, how often `again`, eight chosen items. Phases: 0 look, 1
+# claim, 2 revert (second: claims made), 3 consume (second: match plus 1), 4 tell, 5 wake, 6 free, 7 signal, 8 pass end,
+# 9 rest (place: rests left less 1). Wake, signal and pass end have no place. A rule, a place, the claims made and the
+# count of `again` are bytes; signal and mark are 0 or 1.
 
 
-def one(label, answer):
-    print(f"{label}: {answer}" + (" kept" if answer.startswith("refused") else ""))
+def marked(word):
+    return word + (" kept" if word.startswith(("refused", "closed")) else "")
+
+
+def one(label, *said):
+    print(f"{label}:", *map(marked, said))
 
 
 def tried(number):
     return f"{number} kept" if number else "0"  # an accepted step or add alters the board
 
 
-def six(label, step, add, *reads):
-    print(f"{label}:", tried(step), tried(add), *reads)
+def seven(label, step, add, close, *reads):
+    print(f"{label}:", tried(step), tried(add), f"{close} kept", *reads)
 
 
 def broken(label):
-    six(label, *[30] * 6)  # "every board call, first | 30 | .. or board not sound"
+    seven(label, *[30] * 7)  # "every board call, first | 30 | .. or board not sound"
 
 
 def accepted(label):
-    six(label, *[0] * 6)
+    seven(label, *[0] * 7)
 
 
 def words(desk, *said):
-    kept = [word + (" kept" if word.startswith("refused") else "") for word in said]
-    print(f"desk {desk}:", *kept)
+    one(f"desk {desk}", *said)
 
 
 # 1. "A board takes 1,024 items", numbered from 0. Table: one leave tray, no rule, so one step ends each job.
@@ -54,6 +59,19 @@ print("full, item 1,023: 0 as sent")
 print("full, item 1,024: 14")  # "no such item"
 one("full, step", "ended")  # no rule names the tray
 one("full, step of an idle desk", "refused 13")
+# Day 5 is closed on the full board. "An add dated on the close day or before it is refused, even if the board is full
+# or the cents are wild": 19, "after 10 and before 11"
+one("full, closed, desk 32, tray and cents out of range", "closed", "refused 8")
+one("full, closed, desk at work, the same", "closed", "refused 9")
+one("full, closed, desk idle, the same", "closed", "refused 10")
+one("full, closed, cents out of range", "closed", "refused 19")
+one("full, closed", "closed", "refused 19")
+one("full, closed, the day after, cents out of range", "closed", "refused 11")
+one("full, closed, the day after", "closed", "refused 12")
+one("full, closed, a day before", "closed", "refused 20")
+one("full, closed, item 1,023", "closed", "0 as sent")  # it is of day 0, and still read
+one("full, closed, step", "closed", "ended")
+one("full, closed, step of an idle desk", "closed", "refused 13")
 
 # 2. "If a desk loses a claim to a desk still holding it, .. the pass ends with `again`, not `ended`". Rule: trays 0 1.
 TWICE = [(0, ["item 0", "looked 0", "missed", "ended"]),  # tray 0; nothing in tray 1
@@ -94,25 +112,28 @@ words(1, "consumed 0", "consumed 1")
 for name in ["board", "bytes", "links", "keys", "cents"]:
     broken(name)
     broken(name)
-    six(name, 13, 0, 0, 0, 14, 15)  # an empty board: desk 0 idle: 13; its add taken; no item 0, no match 0
+    # an empty board: desk 0 idle: 13; its add taken; "no day is closed", so day 0 can be; no item 0, no match 0
+    seven(name, 13, 0, 0, 0, 0, 14, 15)
     broken(name)
     if name == "links":
         broken("links without units")  # 10,240 numbers
     if name == "keys":
         broken("keys, properties alone")  # 1,024 numbers, no days
+        broken("board and keys without close day")  # 674 and 2,048; each alone is one less
 
 # 4. "a call given them first gives the reader's numbers": before 30 (a list too short) and 8 (desk 32).
 for n, label in [(1, "11 bytes"), (2, "17 trays"), (3, "a byte less"), (4, "tray byte 2"), (5, "a rule of 9"),
                  (6, "a sum of 1"), (7, "member 2"), (5, "last byte 3"), (5, "last byte 255")]:
     print(f"open, {label}: {n} kept")
-    six(label, *[n] * 6)
+    seven(label, *[n] * 7)
 print("open, P: 30 kept")  # 673 numbers lent
 broken("P")  # 30 before 8
 print("open, last byte 2: 30 kept")  # "the last byte is now wrong when over 2": P with 2 is accepted
 broken("last byte 2")
 print("opened, last byte 2: 0")
-print("open, 674 numbers: 0")
-print("open, 675 numbers: 30 kept")
+print("open, 674 numbers: 30 kept")
+print("open, 675 numbers: 0")
+print("open, 676 numbers: 30 kept")
 broken("30 before 8")
 
 # 5. Refusals in their order, on table P where desk 0 is blocked.
@@ -170,7 +191,7 @@ print("claim past the records: not claimed")
 # 1 and 5 consumed in match 0 of rule 0, 2 woken by 0, 3 claimed. Desk 0 has item 0 in hand at rule 0, looking at 1;
 # desk 1 is blocked on item 2; desk 2 has item 3 in hand at rule 2, consuming; desk 3 is idle, with item 1 and slip 0.
 accepted("the sound board")
-six("1,024 items", 0, 12, 0, 0, 0, 0)  # the records counted beside are of tray 0, pending: sound, and full
+seven("1,024 items", 0, 12, 0, 0, 0, 0, 0)  # the records counted beside are of tray 0, pending: sound, and full
 broken("1,025 items")  # "its counts are within the limits"
 broken("65,535 items")
 accepted("1,024 matches")  # those counted beside are of rule 0 and item 0
@@ -294,6 +315,20 @@ for label in ["flag of the signal 2", "rule 256", "phase 10", "look 256", "look 
 broken("blocked, phase 10")
 broken("the last desk, state 3")
 
+# The number that says whether a day is closed is 0 or 1. Day 0 of the add is closed wherever a day is; the close of day
+# 31 is refused where a later one is: "20 for a close day before the present one, and an equal one is accepted".
+accepted("none closed")
+seven("day 0 closed", 0, 19, 0, 0, 0, 0, 0)
+for number in ["2", "256", "257", "65,535"]:
+    broken(f"flag of the close day {number}")
+accepted("close day 4,294,967,295 without its flag")  # none is closed
+seven("day 4,294,967,295 closed", 0, 19, 20, 0, 0, 0, 0)
+seven("day 30 closed", 0, 19, 0, 0, 0, 0, 0)
+seven("day 31 closed", 0, 19, 0, 0, 0, 0, 0)
+seven("day 32 closed", 0, 19, 20, 0, 0, 0, 0)
+for label in ["status 4", "3,071 bytes", "2,048 keys"]:
+    broken(f"day 32 closed, {label}")  # before 19 and 20
+
 
 # 10. A replay, on table P and an empty board, of the first rows of 01's run of P: the calls of the rows, each as by
 # itself; 30 for rows that do not fit and 31 for less room than rows, after the refusals that every board call has. A
@@ -318,12 +353,37 @@ replay("room for one", "31 kept")
 replay("no room", "31 kept")
 replay("30 before 31", "30 kept")
 replay("rows that fit, a board that is not sound", "30 kept")
+replay("rows that fit, a board of 674 numbers", "30 kept")
+replay("rows that fit, keys of 2,048 numbers", "30 kept")
+replay("rows that fit, flag of the close day 2", "30 kept")
 # then match 0, quiet, and desk 0's slip: "match 0 rule 0 cents 5000 items 1 0 / quiet yes"; the slip is match 0 plus 1;
 # "last byte 1 goes on meaning property only"; reads of both items with their units
 replay("the run of P", 0, *RUN, "0 rule 0 members 2 items 1 0 cents 5000", "0 quiet", "0 reply 1", *["0 as sent"] * 2)
 # P with last byte 2: item 0 does not fit for its unit; no item is claimed; a leave item's desk is idle, desk 0 blocked
 replay("the run, units wanted", 0, *RUN[:6], "missed", "ended", *["refused 13"] * 12, 15, "0 quiet", "0 reply 0")
 replay("1 before 30", "1 kept")
+
+# "A schedule may now contain closes": a row of kind 2 is a close of its day, and nothing else of it counts; kind 0 is a
+# step, any other an add. Then calls by themselves, on what the rows left.
+replay("a close in a row", 0, "closed", "-", "refused 19 kept", "item 0")  # 5 closed; adds of 5 and 6
+replay("a close in a row, all else out of range", 0, "closed", "-", "refused 19 kept", "item 0")
+replay("kinds 3, 256, 258 and 65,535", 0, *[f"item {n}" for n in range(4)], "-", "closed kept")  # none was closed: 0 is
+# an add of day 0; closes of 5, 4 and 5; adds of 5 and 6; a close of 6; adds of 6 and 7
+replay("closes and adds", 0, "item 0", "closed", "refused 20", "closed", "refused 19", "item 1", "closed", "refused 19",
+       "item 2", "-", "refused 20 kept", "closed kept")  # then closes of 5 and 6
+# 5 closed; adds of 5 with all that comes after wrong as well: desk 32, tray 2, cents; the day; of 6: cents, and none;
+# of 5 by that desk, at work; a step of an idle desk; a close of 4
+replay("refusals in rows", 0, "closed", *[f"refused {n}" for n in (8, 10, 19, 19, 11)], "item 0",
+       *[f"refused {n}" for n in (9, 13, 20)], "-")
+replay("closes of the day that is closed and of one before", "closed kept", 0, "closed", "refused 20", "-", "kept")
+# closes of 0, the last day and 0; then of the last day, and an add of it
+replay("closes one after another", 0, "closed", "closed", "refused 20", "-", 0, "closed", "refused 19", "-", "kept")
+replay("a close in a row, a board that is not sound", "30 kept")
+replay("a close in a row, flag of the close day 2", "30 kept")
+# both items are of closed days before a desk matches them: "Items already on the board may still match"; the second
+# close is of the same day, and desk 0 is signalled
+replay("the run of P with closes", 0, *RUN[:3], RUN[4], "closed", *RUN[5:12], "closed", *RUN[12:19],
+       "0 rule 0 members 2 items 1 0 cents 5000", "0 quiet", "0 reply 1", *["0 as sent"] * 2)
 
 
 # 11. "A look takes the fitting pending item with the least day, equal days by lowest number". Items are added by a desk
@@ -402,3 +462,107 @@ print("by neither, claimed: item 0 item 1 looked 0 looked 1 claimed 0 item 2 mis
 print("the waker in hand: item 0 missed ended item 1 looked 1 looked 0 claimed 1 claimed 0 woke 0 freed 1 signalled 0",
       "item 2 item 3 item 4 resumed looked 2 looked 0 claimed 2 matched 0 consumed 2 consumed 0 looked 1 missed",
       "looked 1 looked 4 claimed 1 matched 1 consumed 1 consumed 4 0 rule 1 members 2 items 1 4 0 reply 1")
+
+
+# 13. "The office closes its books up to a day." A close, then adds of the days in the label, in a table of one leave
+# tray. A desk that is refused stays idle.
+one("none closed, day 0", "item 0")  # "on an empty board no day is closed"
+one("0 closed, day 0", "closed", "refused 19")  # "An add dated on the close day or before it is refused"
+one("0 closed, day 1", "closed", "item 0")
+one("5 closed, day 0", "closed", "refused 19")
+one("5 closed, day 4", "closed", "refused 19")
+one("5 closed, day 5", "closed", "refused 19")
+one("5 closed, day 6", "closed", "item 0", "0 as sent")
+one("5 closed, day 4,294,967,295", "closed", "item 0")
+one("5 closed, days 5 and 6, desk 31", "closed", "refused 19", "item 0")
+one("256 closed, day 1", "closed", "refused 19")  # not day 0
+one("65,536 closed, day 1", "closed", "refused 19")
+one("2,147,483,647 closed, day 2,147,483,648", "closed", "item 0")  # a day has no sign
+one("2,147,483,648 closed, day 2,147,483,647", "closed", "refused 19")
+one("4,294,967,294 closed, days 4,294,967,294 and 4,294,967,295", "closed", "refused 19", "item 0")
+one("4,294,967,295 closed, days 0, 4,294,967,294 and 4,294,967,295", "closed", *["refused 19"] * 3)  # there is no later
+
+# Closes, then adds of the last day that was accepted and of the day after: "20 for a close day before the present one,
+# and an equal one is accepted".
+one("5, then 4", "closed", "refused 20", "refused 19", "item 0")  # 5 stays closed
+one("5, then 0", "closed", "refused 20", "refused 19", "item 0")
+one("5, then 5", "closed", "closed", "refused 19", "item 0")
+one("5, then 6", "closed", "closed", "refused 19", "item 0")
+one("5, then 4, 5, 6 and 5", "closed", "refused 20", "closed", "closed", "refused 20", "refused 19", "item 0")
+one("0, then 0", "closed", "closed", "refused 19", "item 0")
+one("256, then 255", "closed", "refused 20")
+one("65,536, then 65,535", "closed", "refused 20")
+one("2,147,483,647, then 2,147,483,648", "closed", "closed")
+one("2,147,483,648, then 2,147,483,647", "closed", "refused 20")
+one("0, then 4,294,967,295", "closed", "closed", "refused 19")
+one("4,294,967,295, then 4,294,967,295", "closed", "closed", "refused 19")
+one("4,294,967,295, then 4,294,967,294 and 0", "closed", "refused 20", "refused 20", "refused 19")
+
+# Table P where desk 0 is blocked and day 5 is closed: "19 for an add into closed days, after 10 and before 11".
+one("desk 0 blocks, 5 closed", "item 0", "missed", "ended", "closed")
+one("8 before 19", "refused 8")
+one("9 before 19", "refused 9")
+one("10 before 19", "refused 10")
+one("8 before 9, 10, 19 and 11", "refused 8")
+one("9 before 10, 19 and 11", "refused 9")
+one("10 before 19 and 11", "refused 10")
+one("19 before 11", "refused 19")
+one("19 before 11, cents -1,000,000,000,000", "refused 19")
+one("19", "refused 19")
+one("11, the day after", "refused 11")
+one("the day after", "item 1")
+one("closed, step of desk 32", "refused 8")  # a step and a read have no day
+one("closed, blocked", "refused 13")
+one("closed, idle", "refused 13")
+print("closed, item 0: 0 as sent")
+print("closed, item 1: 14")
+print("closed, match 0: 15")
+print("closed, slip: 0 reply 0")
+print("closed, quiet: 0 quiet")
+
+# An empty board with day 33 closed; an add of day 0 and a close of day 32 or 0 by tables that are refused, then on a
+# list too short, then on the board itself.
+seven("1 before 19 and 20", *[1] * 7)
+seven("7 before 19 and 20", *[7] * 7)
+broken("30 before 19 and 20")
+seven("19 and 20", 13, 19, 20, 0, 0, 14, 15)
+
+# Where none is closed the number of the close day is not read, and is as found after adds, steps and openings: 5 is
+# closed once the number that says so is 1. An opening alters the board, and is said as a number.
+one("unread close day 4,294,967,295", "item 0")
+one("unread close day 4,294,967,295, 0 closed", "closed", "refused 19", "item 0")
+one("unread close day 5, its flag set", "item 0", "ended", "refused 19", "item 1")
+one("5 closed, opened anew", "closed", "0", "item 0")  # "on an empty board no day is closed"
+one("5 closed, opened anew, its flag set", "closed", "0", "refused 19", "item 0")
+
+# 14. "Items already on the board may still match." Rule: trays 0 1; items in tray 0 of the days in the label, then one
+# in tray 1 in hand.
+chosen("days 9 and 3, closed", 2, 0, [1, 2], before=["closed kept"], after=["0 as sent"])
+# the close comes after item 0, or after item 1
+print("days 3 and 10, 9 closed between: item 0 closed kept item 1 item 2 looked 0 looked 2 claimed 0 matched 0",
+      "consumed 0 consumed 2 0 rule 0 members 2 items 0 2")
+print("days 10 and 3, 9 closed after: item 0 item 1 closed kept item 2 looked 1 looked 2 claimed 1 matched 0",
+      "consumed 1 consumed 2 0 rule 0 members 2 items 1 2")
+# desks 1 and 2 choose item 0, desk 1 claims it; after the close desk 2 loses it, and misses it once it is consumed
+one("claimed, then closed", "item 0", "item 1", "item 2", "looked 0", "looked 1", "looked 0", "looked 2", "claimed 0",
+    "closed", "lost 0", "again", "matched 0", "consumed 0", "consumed 1", "missed", "ended")
+
+# The run of P: 9 is closed over both items, and an add of 9 is refused; then a close after each call, of the days 0 to
+# 17, item 1 being of day 3.
+one("the run of P, closed", *RUN[:3], RUN[4], "closed", "refused 19", *RUN[5:19], "0 rule 0 members 2 items 1 0",
+    "0 quiet", "0 reply 1", *["0 as sent"] * 2)
+one("the run of P, a close after each call", *[word for call in RUN[:3] + RUN[4:19] for word in (call, "closed")],
+    "refused 13", "0 quiet")
+
+# Desk 0 is signalled, so the board is not quiet: "a close alters nothing but the close day", and neither do calls that
+# are refused.
+one("desk 0 signalled", *RUN[:3], *RUN[4:12])
+one("woken, closed", "0", "closed", "0", "resumed", "looked 1")
+one("woken, closed, refused", "closed", "refused 20", "refused 19", "0", "resumed", "looked 1")
+# Table Q: desk 0's item, of tray 1, misses at rules 0 and 2; desk 2's, of tray 2, matches it at rule 2 (trays 1 2 0)
+# with item 1, whose desk is at work
+one("desk 0 told", "item 0", "missed", "looked 0", "missed", "ended", "item 1", "item 2", "looked 0", "looked 2",
+    "looked 1", "claimed 0", "claimed 2", "matched 0", "consumed 0", "consumed 2", "consumed 1", "told 0")
+one("told, closed", "0 reply 0", "closed", "0", "0 reply 0", "answered 0", "0 reply 1")
+one("desk 0 blocks, closed", *RUN[:3], "closed")
+one("no signal", "refused 13", "0 quiet")  # a close signals nobody

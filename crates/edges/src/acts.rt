@@ -10,7 +10,7 @@ use state::Said;
 fn set(w: World, kind: u8, at: usize, x: u16) -> World {
     let mut v = w;
     match kind {
-        b'n' => v.board[at % 675] = x,
+        b'n' => v.board[at % 676] = x,
         b'b' => v.bytes[at % 3073] = (x % 256) as u8,
         b'l' => v.links[at % 11265] = x,
         b'L' => v.lens[at % 5] = x as usize,
@@ -21,7 +21,7 @@ fn set(w: World, kind: u8, at: usize, x: u16) -> World {
 
 // The numbers of a part, from one of them on, to a place and those after it.
 fn put(w: World, kind: u8, at: u16, p: Part, from: usize) -> World {
-    let len = world::least(p.len, 24);
+    let len = world::least(p.len, 100);
     let mut v = w;
     let mut k = at as usize;
     let mut i = from;
@@ -39,6 +39,12 @@ fn put_amount(w: World, n: u16, x: i64) -> World {
     v
 }
 
+fn put_key(w: World, at: u16, x: u32) -> World {
+    let mut v = w;
+    v.keys[(at % 2050) as usize] = x;
+    v
+}
+
 // Where a sender's number stands on the board.
 fn sender_at(p: Part) -> u16 {
     2 + 21 * (script::small(p, 0) % 32) + script::small(p, 1) % 32
@@ -52,13 +58,14 @@ fn edit(w: World, p: Part) -> World {
         b'd' => put(w, b'n', sender_at(p), p, 2),
         b'c' => put_amount(w, at, script::amount(p, 1)),
         b'C' => put_amount(w, at, script::amount(p, 1)),
+        b'K' => put_key(w, at, script::long(p, 1)),
         _ => put(w, kind, at, p, 1),
     }
 }
 
 fn is_edit(kind: u8) -> bool {
     let lists = (kind == b'n') | (kind == b'd') | (kind == b'b') | (kind == b'l');
-    lists | (kind == b'c') | (kind == b'C') | (kind == b'L')
+    lists | (kind == b'c') | (kind == b'C') | (kind == b'K') | (kind == b'L')
 }
 
 // What was said: in words, or as the number of a refusal.
@@ -66,12 +73,23 @@ fn say_said(kind: u8, said: Said) {
     match kind {
         b't' => say::refusal(said),
         b'u' => say::refusal(said),
+        b'Z' => say::refusal(said),
         b'o' => say::refusal(said),
         _ => say::said(said),
     }
 }
 
-// A part's call: what was said, and whether all is as it was.
+// The lists as they were before a call; where it is a close that was accepted, with its day closed.
+fn left(w: World, p: Part, said: Said) -> World {
+    let mut v = w;
+    if script::is_close(p.kind) & (state::number_of(said) == 0) {
+        v.board[674] = 1;
+        v.keys[2048] = script::long(p, 0);
+    }
+    v
+}
+
+// A part's call: what was said, and whether all but what it closed is as it was.
 fn hear(table: &[u8], w: World, p: Part) -> World {
     let kind = p.kind;
     let a = world::asked(table, w, p);
@@ -80,17 +98,19 @@ fn hear(table: &[u8], w: World, p: Part) -> World {
     if script::is_call(kind) {
         say_said(kind, said);
     }
-    if script::is_call(kind) | (kind == b'w') {
-        say::kept(world::is_same(w, v));
+    if script::is_call(kind) | script::is_replay(kind) {
+        say::kept(world::is_same(left(w, p, said), v));
     }
     v
 }
 
-// A step of sender i, an add of sender j after it, and the reads, as numbers; or the reads on the lists before both.
+// A step of sender i, an add of sender j after it, a close of day j, and the reads, as numbers; or the close and the
+// reads on the lists before these.
 fn calls(table: &[u8], w: World, i: u16, j: u16, each: bool) -> World {
     let a = hear(table, w, script::ask(b't', i));
     let b = hear(table, a, script::ask(b'u', j));
-    hear(table, pick(each, w, b), script::ask(b'v', j))
+    let c = hear(table, pick(each, w, b), script::ask(b'Z', j));
+    hear(table, pick(each, w, c), script::ask(b'v', j))
 }
 
 fn act(table: &[u8], w: World, p: Part) -> World {

@@ -38,6 +38,26 @@ fn fill(table: &[u8], w: World) -> World {
     v
 }
 
+// Adds to a full board where day 5 is closed, whose last sender is at work.
+fn closed(table: &[u8], full: World) {
+    acts::lines(
+        table,
+        full,
+        b"full, closed, desk 32, tray and cents out of range|z 5;a 32 1 7 1000000000000 5\n\
+        full, closed, desk at work, the same|z 5;a 31 1 7 1000000000000 5\n\
+        full, closed, desk idle, the same|z 5;a 0 1 7 1000000000000 5\n\
+        full, closed, cents out of range|z 5;a 0 0 7 1000000000000 5\n\
+        full, closed|z 5;a 0 0 7 1 5\n\
+        full, closed, the day after, cents out of range|z 5;a 0 0 7 1000000000000 6\n\
+        full, closed, the day after|z 5;a 0 0 7 1 6\n\
+        full, closed, a day before|z 5;z 4\n\
+        full, closed, item 1,023|z 5;m 1023 0 7 1\n\
+        full, closed, step|z 5;s 31\n\
+        full, closed, step of an idle desk|z 5;s 30\n",
+        false,
+    );
+}
+
 // The last message, then calls of a full board, whose last sender is at work.
 pub fn lines() {
     let table = ONE;
@@ -57,4 +77,5 @@ pub fn lines() {
         full, step of an idle desk|s 30\n",
         false,
     );
+    closed(&table, full);
 }

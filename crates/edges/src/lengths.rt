@@ -81,15 +81,15 @@ fn last_bytes() {
     );
 }
 
-// Each list at no numbers, one less than a board has, as many, and one more; links without units and keys without days;
-// then the tables.
-pub fn lines() {
+// Each list at no numbers, one less than a board has, as many, and one more; links without units, keys without days,
+// and both lists without what is kept of a close.
+fn lists() {
     opened(
         &ONE,
         b"board|L 0 0;y 0\n\
-        board|L 0 673;y 0\n\
         board|L 0 674;y 0\n\
         board|L 0 675;y 0\n\
+        board|L 0 676;y 0\n\
         bytes|L 1 0;y 0\n\
         bytes|L 1 3071;y 0\n\
         bytes|L 1 3072;y 0\n\
@@ -100,15 +100,21 @@ pub fn lines() {
         links|L 2 11265;y 0\n\
         links without units|L 2 10240;y 0\n\
         keys|L 3 0;y 0\n\
-        keys|L 3 2047;y 0\n\
         keys|L 3 2048;y 0\n\
         keys|L 3 2049;y 0\n\
+        keys|L 3 2050;y 0\n\
         keys, properties alone|L 3 1024;y 0\n\
+        board and keys without close day|L 0 674;L 3 2048;y 0\n\
         cents|L 4 0;y 0\n\
         cents|L 4 1023;y 0\n\
         cents|L 4 1024;y 0\n\
         cents|L 4 1025;y 0\n",
     );
+}
+
+// The lists, then the tables, then openings.
+pub fn lines() {
+    lists();
     tables();
     last_bytes();
     damaged(20, 0, 2, b"open, P|L 0 673;o\nP|L 0 0;y 32\n");
@@ -118,6 +124,11 @@ pub fn lines() {
         2,
         b"open, last byte 2|L 0 673;o\nlast byte 2|L 0 0;y 32\nopened, last byte 2|o\n",
     );
-    filled(&P, b"open, 674 numbers|o\nopen, 675 numbers|L 0 675;o\n");
+    filled(
+        &P,
+        b"open, 674 numbers|L 0 674;o\n\
+        open, 675 numbers|o\n\
+        open, 676 numbers|L 0 676;o\n",
+    );
     opened(&ONE, b"30 before 8|L 1 3071;y 32\n");
 }

@@ -1,5 +1,7 @@
 // The board's public calls at their edges. What is printed is held to `oracle.py`, which has the reasons.
 mod acts;
+mod closed;
+mod closing;
 mod days;
 mod full;
 mod jobs;
@@ -26,4 +28,6 @@ fn main() {
     replays::lines();
     days::lines();
     units::lines();
+    closing::lines();
+    closed::lines();
 }

@@ -37,6 +37,7 @@ pub fn lines() {
         rest with a second number|d 0 8 9 0 1;x 0\n",
     );
     idle();
+    closed();
 }
 
 // A job that is not read: sender 3 is idle; then numbers that no job has, though it is not read.
@@ -62,5 +63,25 @@ fn idle() {
         idle, again 256 times|d 3 12 256;x 0\n\
         blocked, phase 10|d 1 8 10;x 0\n\
         the last desk, state 3|d 31 0 3;x 0\n",
+    );
+}
+
+// Whether a day is closed, and which: a flag that no board has, and a day that is read only with the flag.
+fn closed() {
+    sound::lines(
+        b"none closed|n 674 0;x 0\n\
+        day 0 closed|n 674 1;x 0\n\
+        flag of the close day 2|n 674 2;x 0\n\
+        flag of the close day 256|n 674 256;x 0\n\
+        flag of the close day 257|n 674 257;x 0\n\
+        flag of the close day 65,535|n 674 65535;x 0\n\
+        close day 4,294,967,295 without its flag|K 2048 4294967295;x 0\n\
+        day 4,294,967,295 closed|n 674 1;K 2048 4294967295;x 0\n\
+        day 30 closed|n 674 1;K 2048 30;x 0\n\
+        day 31 closed|n 674 1;K 2048 31;x 0\n\
+        day 32 closed|n 674 1;K 2048 32;x 0\n\
+        day 32 closed, status 4|n 674 1;K 2048 32;b 1028 4;x 0\n\
+        day 32 closed, 3,071 bytes|n 674 1;K 2048 32;L 1 3071;x 0\n\
+        day 32 closed, 2,048 keys|n 674 1;K 2048 32;L 3 2048;x 0\n",
     );
 }

@@ -26,6 +26,9 @@ pub fn lines() {
         no room|w 8 4 2 0\n\
         30 before 31|w 7 4 2 0\n\
         rows that fit, a board that is not sound|n 0 1025;w 8 4 2 2\n\
+        rows that fit, a board of 674 numbers|L 0 674;w 8 4 2 2\n\
+        rows that fit, keys of 2,048 numbers|L 3 2048;w 8 4 2 2\n\
+        rows that fit, flag of the close day 2|n 674 2;w 8 4 2 2\n\
         the run of P|w 80 40 20 20;k 0;q;r 0;m 0 1 7 0 0 3;m 1 0 7 5000 0 65535\n",
     );
     acts::section(
@@ -34,4 +37,27 @@ pub fn lines() {
         b"the run, units wanted|w 80 40 20 20;k 0;q;r 0\n",
     );
     acts::section(b"", b"", b"1 before 30|w 7 4 2 0\n");
+    closes();
+}
+
+// Rows of kind 2, which are closes, among others.
+fn closes() {
+    acts::section(
+        &P,
+        b"",
+        b"a close in a row|p 2 0 0 0 5;a 0 0 7 1 5;a 0 0 7 1 6\n\
+        a close in a row, all else out of range|p 2 65535 65535 1000000000000 5;a 0 0 7 1 5;a 0 0 7 1 6\n\
+        kinds 3, 256, 258 and 65,535|p 3 0 0 1 5,256 1 0 1 5,258 2 0 1 5,65535 3 0 1 5;z 0\n\
+        closes and adds|p 1 0 0 1 0,2 0 0 0 5,2 0 0 0 4,2 0 0 0 5,1 1 0 1 5,1 1 0 1 6,2 0 0 0 6,1 2 0 1 6,1 2 0 1 7\
+        ;z 5;z 6\n\
+        refusals in rows|p 2 0 0 0 5,1 32 2 1000000000000 5,1 0 2 1000000000000 5,1 0 0 1000000000000 5,1 0 0 1 5\
+        ,1 0 0 1000000000000 6,1 0 0 1 6,1 0 2 1000000000000 5,0 1 0 0 0,2 0 0 0 4\n\
+        closes of the day that is closed and of one before|z 5;p 2 0 0 0 5,2 0 0 0 4\n\
+        closes one after another|p 2 0 0 0 0,2 0 0 0 4294967295,2 0 0 0 0;p 2 0 0 0 4294967295,1 0 0 1 4294967295\n\
+        a close in a row, a board that is not sound|n 0 1025;p 2 0 0 0 5\n\
+        a close in a row, flag of the close day 2|n 674 2;p 2 0 0 0 5\n\
+        the run of P with closes|p 1 0 1 0 1,0 0 0 0 0,0 0 0 0 0,1 1 0 5000 2,2 0 0 0 9,0 1 0 0 0,0 1 0 0 0,0 1 0 0 0\
+        ,0 1 0 0 0,0 1 0 0 0,0 1 0 0 0,0 1 0 0 0,2 0 0 0 9,0 0 0 0 0,0 0 0 0 0,0 0 0 0 0,0 0 0 0 0,0 0 0 0 0\
+        ,0 0 0 0 0,0 0 0 0 0;k 0;q;r 0;m 0 1 7 0 1;m 1 0 7 5000 2\n",
+    );
 }

@@ -5,11 +5,11 @@ use state::Said;
 
 // The words by their numbers, sixteen bytes each, a letter for the length first: b for 2, and so on, a
 // capital where the word says no number.
-const WORDS: [u8; 288] =
+const WORDS: [u8; 304] =
     *b"ditem           flooked         Fmissed         gclaimed        dlost           \
     hreverted       gmatched        hconsumed       dtold           dwoke           efreed          \
     isignalled      Eagain          Eended          Frested         hanswered       Gresumed        \
-    grefused        ";
+    grefused        Fclosed         ";
 
 pub fn text(t: &[u8]) {
     io::write_all(STDOUT_FILENO, t);
@@ -34,7 +34,7 @@ pub fn kept(yes: bool) {
 
 // A word by its number; whether it says a number.
 fn name(word: usize) -> bool
-    requires { ⌜ word ≤ 17 ⌝ }
+    requires { ⌜ word ≤ 18 ⌝ }
 {
     let words = WORDS;
     let at = 16 * word;
@@ -49,7 +49,7 @@ fn name(word: usize) -> bool
 pub fn answer(a: u32) {
     let number = (a / 65536) as usize;
     text(b" ");
-    if 17 < number {
+    if 18 < number {
         text(b"-");
         return;
     }

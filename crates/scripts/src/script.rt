@@ -1,22 +1,26 @@
 // The parts of a script's lines. A line is a label, `|`, and parts with `;` between them. A part is a letter, and then
-// numbers after single spaces:
+// numbers, each after a space or a comma:
 //     n AT x..         the board's numbers from AT on
 //     d I K x..        sender I's numbers from its number K on
 //     b AT x..         bytes from AT on
 //     l AT x..         links from AT on
 //     c N x, C N x     the cents of message N: x, or -1 - x
+//     K AT x           the key at AT
 //     L K n            list K is lent at n numbers
 //     a I C P x D U    an add by sender I, to channel C, of property P, x cents, day D and unit U; a day or a unit not
 //                      given is 0
 //     A I C P x D U    the same, of -1 - x cents
 //     s I              a step of sender I
-//     x I              a step of sender I, an add of the last sender, and the reads, as numbers
-//     y I              the same by sender I, with the reads on the lists before both
+//     z D              a close of the days up to D
+//     x I              a step of sender I, an add of the last sender, a close of day 31, and the reads, as numbers
+//     y I              a step and an add of sender I, and on the lists before both a close of day I and the reads
 //     o                an opening, as a number
 //     m N C P x D U, M a read of message N, which is to have these
 //     k K, r I, q      reads of match K, of sender I's reply, and whether the board is quiet
 //     w C N A R        a replay of C numbers of calls, four a row, N properties and days, two a row, and A amounts,
 //                      with room for R answers
+//     p K I C x D,..   a replay of rows of these five numbers: kind, sender, channel, cents and day; all have property
+//                      7 and unit 0
 ghost use Prim.Native.Nat.{_≤_, _<_};
 ghost use lib.ListN.{length};
 use boards::Sent;
@@ -30,7 +34,7 @@ pub struct Part {
     pub kind: u8,
     pub len: usize,
     pub next: usize,
-    pub numbers: [u64; 24],
+    pub numbers: [u64; 100],
 }
 
 // Where a byte is next; the end where it is not.
@@ -77,14 +81,14 @@ pub fn read(text: &[u8], at: usize) -> Part
     requires { ⌜ at < length (now text) ⌝ }
     ensures { λ r. ⌜ (at < r .next) × (r .next ≤ length (now (text .entry))) ⌝ }
 {
-    let mut numbers = [0u64; 24];
+    let mut numbers = [0u64; 100];
     let mut len: usize = 0;
     let mut k = at + 1;
     while k < text.len() {
-        if text[k] != b' ' {
+        if (text[k] != b' ') & (text[k] != b',') {
             break;
         }
-        if 24 <= len {
+        if 100 <= len {
             break;
         }
         let n = number(text, k + 1);
@@ -102,7 +106,7 @@ pub fn read(text: &[u8], at: usize) -> Part
 
 // A number of a part; 0 past its last.
 pub fn at(p: Part, k: usize) -> u64 {
-    if k < 24 {
+    if k < 100 {
         return p.numbers[k];
     }
     0
@@ -110,6 +114,10 @@ pub fn at(p: Part, k: usize) -> u64 {
 
 pub fn small(p: Part, k: usize) -> u16 {
     (at(p, k) % 65536) as u16
+}
+
+pub fn long(p: Part, k: usize) -> u32 {
+    (at(p, k) % 4294967296) as u32
 }
 
 // The first number of a part, but 0 where it is a sender's.
@@ -135,14 +143,14 @@ pub fn sent(p: Part, k: usize) -> Sent
 {
     Sent {
         channel: small(p, k),
-        property: (at(p, k + 1) % 4294967296) as u32,
+        property: long(p, k + 1),
         cents: amount(p, k + 2),
-        day: (at(p, k + 3) % 4294967296) as u32,
+        day: long(p, k + 3),
         unit: small(p, k + 4),
     }
 }
 
-// A step, an add, or an opening.
+// A step, an add, a close, or an opening.
 pub fn is_call(kind: u8) -> bool {
     (kind == b's')
         | (kind == b'a')
@@ -150,15 +158,24 @@ pub fn is_call(kind: u8) -> bool {
         | (kind == b't')
         | (kind == b'u')
         | (kind == b'o')
+        | is_close(kind)
 }
 
 pub fn is_step(p: Part) -> bool {
     (p.kind == b's') | (p.kind == b't')
 }
 
+pub fn is_close(kind: u8) -> bool {
+    (kind == b'z') | (kind == b'Z')
+}
+
+pub fn is_replay(kind: u8) -> bool {
+    (kind == b'w') | (kind == b'p')
+}
+
 // A part with one number; its message is of property 7, of one cent, and of day and unit 0.
 pub fn ask(kind: u8, i: u16) -> Part {
-    let mut numbers = [0u64; 24];
+    let mut numbers = [0u64; 100];
     numbers[0] = i as u64;
     numbers[2] = 7;
     numbers[3] = 1;

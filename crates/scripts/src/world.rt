@@ -8,10 +8,10 @@ use state::Said;
 
 // Each list has a number past it, and is lent at a length.
 pub struct World {
-    pub board: [u16; 675],
+    pub board: [u16; 676],
     pub bytes: [u8; 3073],
     pub links: [u16; 11265],
-    pub keys: [u32; 2049],
+    pub keys: [u32; 2050],
     pub cents: [i64; 1025],
     pub lens: [usize; 5],
 }
@@ -28,12 +28,12 @@ pub fn filled(x: u8) -> World {
     let key = x as u32;
     let amount = x as i64;
     World {
-        board: [number; 675],
+        board: [number; 676],
         bytes: [x; 3073],
         links: [number; 11265],
-        keys: [key; 2049],
+        keys: [key; 2050],
         cents: [amount; 1025],
-        lens: [674, 3072, 11264, 2048, 1024],
+        lens: [675, 3072, 11264, 2049, 1024],
     }
 }
 
@@ -41,9 +41,9 @@ pub fn filled(x: u8) -> World {
 pub fn is_same(a: World, b: World) -> bool {
     let mut i: usize = 0;
     while i < 11265 {
-        let n = i % 675;
+        let n = i % 676;
         let y = i % 3073;
-        let k = i % 2049;
+        let k = i % 2050;
         let c = i % 1025;
         let numbers = (a.board[n] == b.board[n])
             & (a.bytes[y] == b.bytes[y])
@@ -66,9 +66,9 @@ pub fn least(n: usize, most: usize) -> usize
 }
 
 // An opening; what is said is a refusal, of number 0 where there is none.
-fn open(table: &[u8], w: World, mut board: [u16; 675], len: usize) -> After {
+fn open(table: &[u8], w: World, mut board: [u16; 676], len: usize) -> After {
     let mut v = w;
-    let n = len % 676;
+    let n = len % 677;
     let number = calls::open(table, &mut board[0..n]);
     v.board = board;
     After {
@@ -82,7 +82,7 @@ pub fn opened(table: &[u8], x: u8) -> World {
     a.world
 }
 
-// A part's step or add on lent lists.
+// A part's step, close or add on lent lists.
 fn called(
     table: &[u8],
     board: &mut [u16],
@@ -95,6 +95,9 @@ fn called(
     let i = script::small(p, 0);
     if script::is_step(p) {
         return calls::step(table, board, bytes, links, keys, cents, i);
+    }
+    if script::is_close(p.kind) {
+        return calls::close(table, board, bytes, links, keys, cents, script::long(p, 0));
     }
     calls::add(
         table,
@@ -122,7 +125,7 @@ fn lent(
     if script::is_call(kind) {
         return called(table, board, bytes, links, keys, cents, p);
     }
-    if kind == b'w' {
+    if script::is_replay(kind) {
         return Said::Refused(replays::replayed(table, board, bytes, links, keys, cents, p));
     }
     shown::reads(table, board, bytes, links, keys, cents, p);
@@ -132,18 +135,18 @@ fn lent(
 // The same, with each list at its length.
 fn lend(
     table: &[u8],
-    mut board: [u16; 675],
+    mut board: [u16; 676],
     mut bytes: [u8; 3073],
     mut links: [u16; 11265],
-    mut keys: [u32; 2049],
+    mut keys: [u32; 2050],
     mut cents: [i64; 1025],
     lens: [usize; 5],
     p: Part,
 ) -> After {
-    let n0 = lens[0] % 676;
+    let n0 = lens[0] % 677;
     let n1 = lens[1] % 3074;
     let n2 = lens[2] % 11266;
-    let n3 = lens[3] % 2050;
+    let n3 = lens[3] % 2051;
     let n4 = lens[4] % 1026;
     let said = lent(
         table,

@@ -6,7 +6,7 @@ use Rattle.scripts.proofs.script.read.Statement.{statement}
 use Rattle.scripts.proofs.script.read.Tie as tie
 
 abbrev Inv-loop : tie.InvT-loop
-Inv-loop text at _ _ _ _ len k = (at + 1 ≤ k) × (k ≤ length text) × (len ≤ 24)
+Inv-loop text at _ _ _ _ len k = (at + 1 ≤ k) × (k ≤ length text) × (len ≤ 100)
 
 abbrev μ-loop : tie.MeasureT-loop
 μ-loop text _ _ _ _ _ _ k = length text - k
@@ -17,6 +17,7 @@ read-spec =
     (tie.spec
     Inv-loop
     μ-loop
+    (λ c. search needs)
     (λ c. search needs)
     (λ c. search needs)
     (λ c. search needs)
