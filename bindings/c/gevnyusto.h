@@ -6,12 +6,12 @@
  * A refusal: 1 to 7 for the table, 30 for a board that is not sound or lists of another length, 31 for a buffer
  * that is too short; 8 no such sender, 9 sender not idle, 10 no such channel, 11 cents out of range, 12 messages full,
  * 13 sender idle, or blocked without signal, 14 no such message, 15 no such match, 17 wrong map of a merge, 18 merged
- * table too large.
+ * table too large, 19 day of an add closed, 20 close day before the present one.
  */
 #ifndef GEVNYUSTO_H
 #define GEVNYUSTO_H
 
-#define GV_VERSION "0.5.0"
+#define GV_VERSION "0.6.0"
 
 #include <stddef.h>
 #include <stdint.h>
@@ -31,16 +31,18 @@ extern "C" {
  *   9 the phase's place (0 for wake, signal, pass end)
  *   10 the phase's second number (revert: claims made; consume: match plus 1; else 0)
  *   11 retry (0, 1)   12 retries   13 to 20 the eight chosen messages
+ *   and at GV_HAS_CLOSE 1 where a day is closed, 0 where none is
  * bytes: a channel for each message; from GV_STATUSES a status (0 pending, 1 claimed, 2 woken, 3 consumed) for each;
  *   from GV_CHORDS a chord for each match
  * links: for each message the match that it notes plus 1, 0 for none; from GV_WAKERS its waker plus 1, 0 for none;
  *   from GV_MEMBERS eight messages for each match; from GV_UNITS a unit for each message
- * keys: a property number for each message; from GV_DAYS a day for each
+ * keys: a property number for each message; from GV_DAYS a day for each; at GV_CLOSE_DAY the close day, which is
+ *   read only where a day is closed; where none is it may be anything, and only an accepted close writes it
  * cents: cents for each message */
-#define GV_BOARD 674
+#define GV_BOARD 675
 #define GV_BYTES 3072
 #define GV_LINKS 11264
-#define GV_KEYS 2048
+#define GV_KEYS 2049
 #define GV_CENTS 1024
 #define GV_STATUSES 1024
 #define GV_CHORDS 2048
@@ -48,6 +50,8 @@ extern "C" {
 #define GV_MEMBERS 2048
 #define GV_UNITS 10240
 #define GV_DAYS 1024
+#define GV_HAS_CLOSE 674
+#define GV_CLOSE_DAY 2048
 #define GV_SENDERS 32
 #define GV_MESSAGES 1024
 #define GV_MATCHES 1024
@@ -57,7 +61,7 @@ extern "C" {
 #define GV_VALUE(answer) ((answer) & 0xffff)
 enum gv_word {
     GV_ITEM, GV_LOOKED, GV_MISSED, GV_CLAIMED, GV_LOST, GV_REVERTED, GV_MATCHED, GV_CONSUMED, GV_TOLD,
-    GV_WOKE, GV_FREED, GV_SIGNALLED, GV_AGAIN, GV_ENDED, GV_RESTED, GV_ANSWERED, GV_RESUMED, GV_REFUSED
+    GV_WOKE, GV_FREED, GV_SIGNALLED, GV_AGAIN, GV_ENDED, GV_RESTED, GV_ANSWERED, GV_RESUMED, GV_REFUSED, GV_CLOSED
 };
 
 /* 0, or the refusal of a table. */
@@ -77,18 +81,20 @@ uint8_t gv_merge_tables(
     const uint8_t *first, size_t first_len, const uint8_t *second, size_t second_len,
     const uint8_t *map, size_t map_len, uint8_t *out, size_t out_len);
 
-/* Writes an empty board; the other lists may hold anything. 0, 1 to 7, or 30 for a board of another length. */
+/* Writes an empty board, with no day closed; the other lists may hold anything. 0, 1 to 7, or 30 for a board of
+ * another length. */
 uint8_t gv_open(const uint8_t *table, size_t table_len, uint16_t *board, size_t board_len);
 
 /* The lists of a call that may write them. An add leaves the matches' chords and messages as they are, a step channels,
- * properties, days, units and cents. */
+ * properties, days, units and cents, and both the close day. A close leaves everything else. */
 #define GV_LISTS \
     uint16_t *board, size_t board_len, uint8_t *bytes, size_t bytes_len, uint16_t *links, size_t links_len, \
     uint32_t *keys, size_t keys_len, int64_t *cents, size_t cents_len
 
 /* Adds a message: an answer. A chord's last byte in the table says which messages of a member's channel fit: 0 all,
  * 1 those with the property of the message in hand, 2 those with its property and its unit. Of those that fit a look
- * takes the one with the least day, the one with the lowest number of equal days. */
+ * takes the one with the least day, the one with the lowest number of equal days.
+ * Refused 8, 9, 10, then 19 for the close day or one before it, then 11, 12. */
 uint32_t gv_add(
     const uint8_t *table, size_t table_len, GV_LISTS,
     uint16_t sender, uint16_t channel, uint32_t property, int64_t amount, uint32_t day, uint16_t unit);
@@ -96,14 +102,20 @@ uint32_t gv_add(
 /* Takes one step of a sender: an answer. */
 uint32_t gv_step(const uint8_t *table, size_t table_len, GV_LISTS, uint16_t sender);
 
-/* Plays a list of calls, one after another, on a board that is tested once. Call i is calls[4 * i] (GV_STEP a step, any
- * other an add), its sender calls[4 * i + 1], and for an add channel calls[4 * i + 2], unit calls[4 * i + 3], property
- * numbers[2 * i], day numbers[2 * i + 1] and amounts[i] cents; its answer goes to answers[i]. There are amounts_len
- * calls.
+/* Closes the books up to a day, that day included: an answer, GV_CLOSED and 0. From then on no message of that day or
+ * of one before it is added; messages that are on the board still match. Any day can be closed, 0 too, which is
+ * another thing than none closed. Refused 20 for a day before the close day; the close day itself is accepted again. */
+uint32_t gv_close(const uint8_t *table, size_t table_len, GV_LISTS, uint32_t day);
+
+/* Plays a list of calls, one after another, on a board that is tested once. Call i is calls[4 * i] (GV_STEP a step,
+ * GV_CLOSE a close, any other an add), its sender calls[4 * i + 1], and for an add channel calls[4 * i + 2], unit
+ * calls[4 * i + 3], property numbers[2 * i], day numbers[2 * i + 1] and amounts[i] cents; of a close the day,
+ * numbers[2 * i + 1], is read and nothing else. Its answer goes to answers[i]. There are amounts_len calls.
  * 0, 1 to 7, 30 also for a calls_len other than 4 * amounts_len or a numbers_len other than 2 * amounts_len, or 31 for
  * too few answers. */
 #define GV_STEP 0
 #define GV_ADD 1
+#define GV_CLOSE 2
 uint8_t gv_replay(
     const uint8_t *table, size_t table_len, GV_LISTS, const uint16_t *calls, size_t calls_len,
     const uint32_t *numbers, size_t numbers_len, const int64_t *amounts, size_t amounts_len,

@@ -1,4 +1,4 @@
-//! What an add or a step answers.
+//! What an add, a step or a close answers.
 
 use crate::Refusal;
 use std::fmt;
@@ -23,6 +23,7 @@ pub enum Answer {
     Rested,
     Answered(u16),
     Resumed,
+    Closed,
 }
 
 impl Answer {
@@ -47,6 +48,7 @@ impl Answer {
             14 => Answer::Rested,
             15 => Answer::Answered(value),
             16 => Answer::Resumed,
+            18 => Answer::Closed,
             _ => return Err(Refusal::from_number(value as u8)),
         })
     }
@@ -72,6 +74,7 @@ impl fmt::Display for Answer {
             Answer::Rested => f.write_str("rested"),
             Answer::Answered(k) => write!(f, "answered {k}"),
             Answer::Resumed => f.write_str("resumed"),
+            Answer::Closed => f.write_str("closed"),
         }
     }
 }

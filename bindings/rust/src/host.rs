@@ -4,22 +4,26 @@
 #![allow(unsafe_code)]
 
 /// The lengths of a board's lists.
-pub const BOARD_NUMBERS: usize = 674;
+pub const BOARD_NUMBERS: usize = 675;
 pub const BYTES: usize = 3072;
 pub const LINKS: usize = 11_264;
-pub const KEYS: usize = 2048;
+pub const KEYS: usize = 2049;
 pub const CENTS: usize = 1024;
 /// Where the days begin in `keys`.
 pub const DAYS: usize = 1024;
+/// Where `board` says whether a day is closed, and `keys` which one.
+pub const HAS_CLOSE: usize = 674;
+pub const CLOSE_DAY: usize = 2048;
 /// Where the units begin in `links`.
 pub const UNITS: usize = 10_240;
 /// The longest table.
 pub const TABLE_BYTES: usize = 412;
 /// A map's byte for a channel that becomes a new one.
 pub const NEW_CHANNEL: u8 = 255;
-/// Kinds of a replay's calls; any other than a step is an add.
+/// Kinds of a replay's calls; any other than a step or a close is an add.
 pub const STEP: u16 = 0;
 pub const ADD: u16 = 1;
+pub const CLOSE: u16 = 2;
 
 /// The lists that a board is; bindings/c/gevnyusto.h says what stands where.
 #[derive(Clone, Debug, PartialEq, Eq)]
@@ -44,7 +48,7 @@ impl Default for Lists {
 }
 
 /// The calls of a replay, a row each: of `calls` the kind, the sender, the channel and the unit, of `numbers` the
-/// property and the day.
+/// property and the day. Of a close the day is read and nothing else.
 #[derive(Clone, Copy, Debug)]
 pub struct Replay<'a> {
     pub calls: &'a [u16],
@@ -104,6 +108,7 @@ unsafe extern "C" {
 }
 board_function!(gv_add, mut, [u16, u16, u32, i64, u32, u16], u32);
 board_function!(gv_step, mut, [u16], u32);
+board_function!(gv_close, mut, [u32], u32);
 board_function!(gv_replay, mut, [*const u16, usize, *const u32, usize, *const i64, usize, *mut u32, usize], u8);
 board_function!(gv_read_message, const, [u16, *mut i64, usize], u8);
 board_function!(gv_read_match, const, [u16, *mut i64, usize], u8);
@@ -144,6 +149,10 @@ pub fn add(
 
 pub fn step(table: &[u8], lists: &mut Lists, sender: u16) -> u32 {
     lend!(gv_step, as_mut_ptr, table, lists, [sender])
+}
+
+pub fn close(table: &[u8], lists: &mut Lists, day: u32) -> u32 {
+    lend!(gv_close, as_mut_ptr, table, lists, [day])
 }
 
 pub fn replay(table: &[u8], lists: &mut Lists, Replay { calls, numbers, amounts }: Replay, answers: &mut [u32]) -> u8 {

@@ -1,7 +1,8 @@
 //! The matching board, a join-pattern matcher after Russo and Turon, proved; here for Rust.
 //!
 //! A [`Matcher`] owns a table of chords and a board. Senders add messages and take steps; the matcher says what each
-//! step did. A refused call alters nothing. [`merge_tables`] makes one table of two.
+//! step did. A close lets no more messages in that are dated up to its day. A refused call alters nothing.
+//! [`merge_tables`] makes one table of two.
 
 mod answer;
 pub mod host;
@@ -47,6 +48,7 @@ pub struct Match {
 pub enum Call {
     Add { sender: u16, channel: u16, property: u32, cents: i64, day: u32, unit: u16 },
     Step { sender: u16 },
+    Close { day: u32 },
 }
 
 #[derive(Clone, Debug)]
@@ -97,6 +99,31 @@ impl Matcher {
     /// One step of a sender.
     pub fn step(&mut self, sender: u16) -> Result<Answer, Refusal> {
         Answer::from_number(host::step(&self.table, &mut self.lists, sender))
+    }
+
+    /// Closes the books up to a day, that day included; it answers [`Answer::Closed`]. From then on messages of that
+    /// day or of one before it are refused, and those on the board match on. The close day may come again, and no day
+    /// before it.
+    ///
+    /// ```
+    /// use gevnyusto::{Answer, Matcher, Refusal};
+    ///
+    /// // Rents and receipts, which leave; a chord of both, of one property.
+    /// const RENTS: [u8; 20] = [2, 0, 1, 0, 2, 0, 12, 0, 14, 0, 18, 0, 0, 0, 0, 0, 2, 1, 0, 1];
+    ///
+    /// let mut matcher = Matcher::open(RENTS)?;
+    /// matcher.add(0, 0, 7, -5000, 30, 0)?;
+    /// while matcher.step(0).is_ok() {}
+    /// assert_eq!(matcher.close(30), Ok(Answer::Closed));
+    /// assert_eq!(matcher.add(0, 1, 7, 5000, 30, 0), Err(Refusal::DayClosed));
+    /// matcher.add(0, 1, 7, 5000, 31, 0)?;
+    /// while matcher.step(0).is_ok() {}
+    /// assert_eq!(matcher.match_(0)?.messages, [0, 1]);
+    /// assert_eq!(matcher.close(29), Err(Refusal::EarlierCloseDay));
+    /// # Ok::<(), Refusal>(())
+    /// ```
+    pub fn close(&mut self, day: u32) -> Result<Answer, Refusal> {
+        Answer::from_number(host::close(&self.table, &mut self.lists, day))
     }
 
     pub fn message(&self, number: u16) -> Result<Message, Refusal> {
@@ -152,6 +179,11 @@ impl Matcher {
     pub fn counts(&self) -> (u16, u16) {
         (self.lists.board[0], self.lists.board[1])
     }
+
+    /// The day up to which the books are closed; none where no day is closed.
+    pub fn close_day(&self) -> Option<u32> {
+        (self.lists.board[host::HAS_CLOSE] == 1).then(|| self.lists.keys[host::CLOSE_DAY])
+    }
 }
 
 /// One table of two. The map has for each channel of the second the channel of the first that it becomes, of the same
@@ -201,6 +233,7 @@ impl Call {
                 ([host::ADD, sender, channel, unit], [property, day], cents)
             }
             Call::Step { sender } => ([host::STEP, sender, 0, 0], [0, 0], 0),
+            Call::Close { day } => ([host::CLOSE, 0, 0, 0], [0, day], 0),
         }
     }
 }

@@ -60,6 +60,8 @@ refusals! {
     LineUnreadable 16 "the line is unreadable"
     ChannelMap 17 "the map has another length, names a channel that is not there or one twice, or joins two kinds"
     MergedCounts 18 "the merged table would have over 16 channels, 32 chords or 256 members"
+    DayClosed 19 "the day is the close day or before it"
+    EarlierCloseDay 20 "the close day is before the present one"
     NotSound 30 "the lent lists are not of their lengths, or the board is not sound"
     BufferTooShort 31 "the buffer is too short"
     NoSuchChord 32 "there is no such chord"

@@ -37,18 +37,20 @@ fn places() {
 
 #[test]
 fn lists_of_another_length() {
-    for list in 0..5 {
+    for list in 0..6 {
         let mut lists = opened();
         match list {
             0 => lists.board.push(0),
             1 => lists.bytes.truncate(1024),
             2 => lists.links.truncate(10_240),
             3 => lists.keys.truncate(1024),
+            4 => lists.keys.push(0),
             _ => lists.cents.truncate(1023),
         }
         let found = lists.clone();
         assert_eq!(host::add(&TABLE_P, &mut lists, 0, 1, 7, 0, 0, 0), NO_BOARD);
         assert_eq!(host::step(&TABLE_P, &mut lists, 0), NO_BOARD);
+        assert_eq!(host::close(&TABLE_P, &mut lists, 0), NO_BOARD);
         assert_eq!(host::quiet(&TABLE_P, &lists, &mut [0]), 30);
         assert_eq!(host::open(&TABLE_P, &mut lists.board), if list == 0 { 30 } else { 0 });
         assert_eq!(lists, found);

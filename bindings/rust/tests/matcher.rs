@@ -44,6 +44,7 @@ fn single_calls() {
             matcher.add(sender, channel, property, cents, day, unit)
         }
         Call::Step { sender } => matcher.step(sender),
+        Call::Close { day } => matcher.close(day),
     };
     let said: Vec<_> = run_of_p().into_iter().map(call).collect();
     assert_eq!(said, printed());
