@@ -1,4 +1,4 @@
-//! What a call answers: one of 01's words, or a refusal number.
+//! What a call answers: one of 01's words, a refusal number, or that a day was closed.
 
 use std::fmt;
 
@@ -25,13 +25,14 @@ pub enum Answer {
     Answered(u16),
     Resumed,
     Refused(Refusal),
+    Closed,
 }
 
-/// 01's words, in the order of their numbers.
+/// The words, in the order of their numbers: 01's, and the one of a close.
 #[rustfmt::skip]
-pub const WORDS: [&str; 18] = [
+pub const WORDS: [&str; 19] = [
     "item", "looked", "missed", "claimed", "lost", "reverted", "matched", "consumed", "told", "woke", "freed",
-    "signalled", "again", "ended", "rested", "answered", "resumed", "refused",
+    "signalled", "again", "ended", "rested", "answered", "resumed", "refused", "closed",
 ];
 
 impl Answer {
@@ -56,6 +57,7 @@ impl Answer {
             Answer::Answered(n) => (15, Some(n)),
             Answer::Resumed => (16, None),
             Answer::Refused(number) => (17, Some(number.into())),
+            Answer::Closed => (18, None),
         }
     }
 

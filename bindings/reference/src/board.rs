@@ -1,4 +1,4 @@
-//! The board: counts, 32 senders, and the columns of messages and matches.
+//! The board: counts, 32 senders, the close day, and the columns of messages and matches.
 
 pub const SENDERS: usize = 32;
 pub const MESSAGES: usize = 1024;
@@ -111,6 +111,8 @@ pub struct Board {
     pub messages: u16,
     pub matches: u16,
     pub senders: [Sender; SENDERS],
+    /// The books are closed up to this day, it included; none where no day is closed.
+    pub close_day: Option<u32>,
     pub columns: Columns,
 }
 
@@ -134,6 +136,11 @@ impl Board {
 
     pub fn set_status(&mut self, message: u16, status: u8) {
         self.columns.statuses[message as usize] = status;
+    }
+
+    /// Whether the books are closed up to that day or a later one.
+    pub fn is_closed(&self, day: u32) -> bool {
+        self.close_day.is_some_and(|close_day| day <= close_day)
     }
 
     pub fn is_quiet(&self) -> bool {

@@ -38,18 +38,27 @@ pub struct Match {
 pub enum Call {
     Add { sender: u16, sent: Sent },
     Step { sender: u16 },
+    Close { day: u32 },
 }
 
 impl Call {
-    pub fn sender(self) -> usize {
+    /// None of a close, which is the office's.
+    pub fn sender(self) -> Option<usize> {
         match self {
-            Call::Add { sender, .. } | Call::Step { sender } => sender.into(),
+            Call::Add { sender, .. } | Call::Step { sender } => Some(sender.into()),
+            Call::Close { .. } => None,
         }
     }
 }
 
+/// Kinds of a replay's calls; any other is an add.
+pub const STEP: u16 = 0;
+pub const ADD: u16 = 1;
+pub const CLOSE: u16 = 2;
+
 /// The calls of a replay in rows, as the host interface has them. Of `calls` the kind, the sender, the channel and the
-/// unit; a kind of 0 is a step, any other an add. Of `numbers` the property and the day.
+/// unit; a kind of 0 is a step, 2 a close, any other an add. Of `numbers` the property and the day. Of a close only
+/// the day is read, of a step only the sender.
 #[derive(Clone, Debug, Default)]
 pub struct Rows {
     pub calls: Vec<u16>,
@@ -80,6 +89,10 @@ pub fn add(table: &[u8], board: &mut Board, sender: u16, sent: Sent) -> Answer {
 
 pub fn step(table: &[u8], board: &mut Board, sender: u16) -> Answer {
     call(table, board, Call::Step { sender })
+}
+
+pub fn close(table: &[u8], board: &mut Board, day: u32) -> Answer {
+    call(table, board, Call::Close { day })
 }
 
 pub fn message(table: &[u8], board: &Board, number: u16) -> Result<Message, Refusal> {
@@ -129,9 +142,10 @@ impl Rows {
     pub fn push(&mut self, call: Call) {
         let (row, numbers, amount) = match call {
             Call::Add { sender, sent: Sent { channel, property, cents, day, unit } } => {
-                ([1, sender, channel, unit], [property, day], cents)
+                ([ADD, sender, channel, unit], [property, day], cents)
             }
-            Call::Step { sender } => ([0, sender, 0, 0], [0, 0], 0),
+            Call::Step { sender } => ([STEP, sender, 0, 0], [0, 0], 0),
+            Call::Close { day } => ([CLOSE, 0, 0, 0], [0, day], 0),
         };
         self.calls.extend(row);
         self.numbers.extend(numbers);
@@ -150,8 +164,11 @@ impl Rows {
     fn at(&self, at: usize) -> Call {
         let [kind, sender, channel, unit] = self.calls.as_chunks().0[at];
         let [property, day] = self.numbers.as_chunks().0[at];
-        let sent = Sent { channel, property, cents: self.amounts[at], day, unit };
-        if kind == 0 { Call::Step { sender } } else { Call::Add { sender, sent } }
+        match kind {
+            STEP => Call::Step { sender },
+            CLOSE => Call::Close { day },
+            _ => Call::Add { sender, sent: Sent { channel, property, cents: self.amounts[at], day, unit } },
+        }
     }
 }
 
@@ -161,7 +178,17 @@ impl Board {
         match call {
             Call::Add { sender, sent } => self.core_add(table, sender, sent),
             Call::Step { sender } => self.core_step(table, sender),
+            Call::Close { day } => self.core_close(day),
         }
+    }
+
+    /// Closes the books up to that day, which is not before the one up to which they are.
+    pub fn core_close(&mut self, day: u32) -> Answer {
+        if self.close_day.is_some_and(|close_day| day < close_day) {
+            return Answer::Refused(20);
+        }
+        self.close_day = Some(day);
+        Answer::Closed
     }
 
     /// A counted message.

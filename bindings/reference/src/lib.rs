@@ -23,9 +23,11 @@ pub use answer::{Answer, Refusal};
 pub use board::{Board, Columns, Phase, Sender, State};
 pub use calls::{Call, Match, Message, Rows, Sent};
 pub use lists::Lists;
-pub use numbers::{NUMBERS, SENDER_NUMBERS};
+pub use numbers::{HAS_CLOSE, NUMBERS, SENDER_NUMBERS};
 pub use table::{Chord, Equality, Table};
 
+#[cfg(test)]
+mod close_tests;
 #[cfg(test)]
 mod look_tests;
 #[cfg(test)]

@@ -13,9 +13,10 @@ pub const WAKERS: usize = MESSAGES;
 pub const MEMBERS: usize = 2 * MESSAGES;
 pub const UNITS: usize = 10 * MESSAGES;
 pub const LINKS: usize = 11 * MESSAGES;
-/// Of `keys`: properties, from here days.
+/// Of `keys`: properties, from here days, and the close day, which says something only where a day is closed.
 pub const DAYS: usize = MESSAGES;
-pub const KEYS: usize = 2 * MESSAGES;
+pub const CLOSE_DAY: usize = 2 * MESSAGES;
+pub const KEYS: usize = CLOSE_DAY + 1;
 
 #[derive(Clone, Debug, PartialEq, Eq)]
 pub struct Lists {
@@ -45,7 +46,7 @@ impl Lists {
         lists
     }
 
-    /// Lists of their lengths hold the board from now on.
+    /// Lists of their lengths hold the board from now on. Where no day is closed, what stands for the close day stays.
     pub fn hold(&mut self, board: &Board) {
         let columns = &board.columns;
         self.board.copy_from_slice(&board.to_numbers());
@@ -57,7 +58,8 @@ impl Lists {
         self.links[MEMBERS..UNITS].copy_from_slice(columns.messages.as_flattened());
         self.links[UNITS..].copy_from_slice(&columns.units[..]);
         self.keys[..DAYS].copy_from_slice(&columns.properties[..]);
-        self.keys[DAYS..].copy_from_slice(&columns.days[..]);
+        self.keys[DAYS..CLOSE_DAY].copy_from_slice(&columns.days[..]);
+        self.keys[CLOSE_DAY] = board.close_day.unwrap_or(self.keys[CLOSE_DAY]);
         self.cents.copy_from_slice(&columns.cents[..]);
     }
 
@@ -75,9 +77,9 @@ impl Lists {
         columns.messages.as_flattened_mut().copy_from_slice(&self.links[MEMBERS..UNITS]);
         columns.units.copy_from_slice(&self.links[UNITS..]);
         columns.properties.copy_from_slice(&self.keys[..DAYS]);
-        columns.days.copy_from_slice(&self.keys[DAYS..]);
+        columns.days.copy_from_slice(&self.keys[DAYS..CLOSE_DAY]);
         columns.cents.copy_from_slice(&self.cents);
-        Board::from_numbers(&self.board, columns)
+        Board::from_numbers(&self.board, self.keys[CLOSE_DAY], columns)
     }
 
     /// Copies the other's contents without asking for memory.

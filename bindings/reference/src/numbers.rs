@@ -1,27 +1,31 @@
-//! The board as the host interface's 674 numbers.
+//! The board as the host interface's 675 numbers, and the close day beside them.
 
 use crate::board::{Board, Columns, Phase, SENDERS, Sender, State, held, kept};
 
 /// Numbers a sender takes.
 pub const SENDER_NUMBERS: usize = 21;
-/// Numbers a board takes: the two counts and the senders.
-pub const NUMBERS: usize = 2 + SENDER_NUMBERS * SENDERS;
+/// Where it stands whether a day is closed: after the two counts and the senders.
+pub const HAS_CLOSE: usize = 2 + SENDER_NUMBERS * SENDERS;
+/// Numbers a board takes.
+pub const NUMBERS: usize = HAS_CLOSE + 1;
 
 impl Board {
     pub fn to_numbers(&self) -> [u16; NUMBERS] {
         let mut numbers = [0; NUMBERS];
         numbers[..2].copy_from_slice(&[self.messages, self.matches]);
-        for (part, sender) in numbers[2..].chunks_exact_mut(SENDER_NUMBERS).zip(&self.senders) {
+        for (part, sender) in numbers[2..HAS_CLOSE].chunks_exact_mut(SENDER_NUMBERS).zip(&self.senders) {
             part.copy_from_slice(&sender.to_numbers());
         }
+        numbers[HAS_CLOSE] = self.close_day.is_some().into();
         numbers
     }
 
-    /// None if the numbers are no board's.
-    pub fn from_numbers(numbers: &[u16], columns: Columns) -> Option<Board> {
+    /// None if the numbers are no board's. The close day is any number where no day is closed.
+    pub fn from_numbers(numbers: &[u16], close_day: u32, columns: Columns) -> Option<Board> {
         let numbers: &[u16; NUMBERS] = numbers.try_into().ok()?;
-        let mut board = Board { messages: numbers[0], matches: numbers[1], columns, ..Board::default() };
-        for (part, sender) in numbers[2..].chunks_exact(SENDER_NUMBERS).zip(&mut board.senders) {
+        let close_day = flag(numbers[HAS_CLOSE])?.then_some(close_day);
+        let mut board = Board { messages: numbers[0], matches: numbers[1], close_day, columns, ..Board::default() };
+        for (part, sender) in numbers[2..HAS_CLOSE].chunks_exact(SENDER_NUMBERS).zip(&mut board.senders) {
             *sender = Sender::from_numbers(part)?;
         }
         Some(board)

@@ -26,6 +26,8 @@ impl Board {
             Some(9)
         } else if sent.channel >= table.channel_count.into() {
             Some(10)
+        } else if self.is_closed(sent.day) {
+            Some(19)
         } else if !(-MOST_CENTS..=MOST_CENTS).contains(&sent.cents) {
             Some(11)
         } else if self.messages as usize == MESSAGES {

@@ -132,13 +132,13 @@ fn numbers_and_back() {
     steps(P, &mut board, 0, 2);
     add(P, &mut board, 1, sent(0, 7, 5000));
     for _ in 0..16 {
-        assert_eq!(Board::from_numbers(&board.to_numbers(), board.columns.clone()), Some(board.clone()));
+        assert_eq!(Board::from_numbers(&board.to_numbers(), 9, board.columns.clone()), Some(board.clone()));
         let sender = board.first_busy().unwrap_or(0);
         step(P, &mut board, sender);
     }
     let mut numbers = board.to_numbers();
     numbers[2] = 3;
-    assert_eq!(Board::from_numbers(&numbers, board.columns.clone()), None);
+    assert_eq!(Board::from_numbers(&numbers, 9, board.columns.clone()), None);
 }
 
 #[test]
@@ -170,7 +170,7 @@ fn lists_and_back() {
             0 => other.board.push(0),
             1 => other.bytes.truncate(3071),
             2 => other.links.truncate(10_240),
-            3 => other.keys.truncate(1024),
+            3 => other.keys.truncate(2048),
             _ => other.cents.truncate(1),
         }
         assert_eq!(other.held(Columns::default()), None);
