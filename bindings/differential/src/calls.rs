@@ -22,6 +22,17 @@ impl Read {
     }
 }
 
+const REFUSED: u32 = 17;
+
+/// The answer of a call that is refused so.
+pub fn refused(number: u32) -> u32 {
+    REFUSED << 16 | number
+}
+
+pub fn is_refusal(answer: u32) -> bool {
+    answer >> 16 == REFUSED
+}
+
 /// The host interface. Answers and refusals are its numbers.
 pub trait Calls {
     fn table_refusal(&mut self, table: &[u8]) -> u8;

@@ -3,8 +3,8 @@
 use crate::invariant::senders;
 use crate::random::Random;
 use reference::board::{CLAIMED, MESSAGES, MOST_CENTS, PENDING};
-use reference::lists::{CHORDS, DAYS, MEMBERS, STATUSES, UNITS, WAKERS};
-use reference::{Lists, SENDER_NUMBERS, Sender, State, Table};
+use reference::lists::{CHORDS, CLOSE_DAY, DAYS, MEMBERS, STATUSES, UNITS, WAKERS};
+use reference::{HAS_CLOSE, Lists, SENDER_NUMBERS, Sender, State, Table};
 
 /// Changes one number anywhere to any value; says in which of `PARTS`, and what.
 pub fn change_any(lists: &mut Lists, random: &mut Random) -> (usize, String) {
@@ -15,7 +15,7 @@ pub fn change_any(lists: &mut Lists, random: &mut Random) -> (usize, String) {
     };
     let (at, match_at) = (place(lists.board[0], random), place(lists.board[1], random));
     let cents = random.pick(&[MOST_CENTS + 1, -MOST_CENTS - 1, i64::MIN, i64::MAX, 5]);
-    match random.below(15) {
+    match random.below(17) {
         0 => (1, put(&mut lists.bytes, at, value as u8)),
         1 => (2, put(&mut lists.bytes, STATUSES + at, value as u8)),
         2 => (3, put(&mut lists.bytes, CHORDS + match_at, value as u8)),
@@ -26,8 +26,10 @@ pub fn change_any(lists: &mut Lists, random: &mut Random) -> (usize, String) {
         7 => (8, put(&mut lists.keys, at, value.into())),
         8 => (9, put(&mut lists.keys, DAYS + at, random.pick(&[0, 1, value.into(), u32::MAX]))),
         9 => (10, put(&mut lists.cents, at, cents)),
+        10 => (11, put(&mut lists.board, HAS_CLOSE, random.pick(&[0, 1, 2, 3, value]))),
+        11 => (12, put(&mut lists.keys, CLOSE_DAY, random.pick(&[0, 1, value.into(), u32::MAX]))),
         _ => {
-            let at = random.below(lists.board.len());
+            let at = random.below(HAS_CLOSE);
             (0, put(&mut lists.board, at, value))
         }
     }
@@ -49,7 +51,15 @@ pub fn put_leftovers(lists: &mut Lists, random: &mut Random) {
     lists.bytes[STATUSES..CHORDS].fill_with(|| random.pick(&[PENDING, PENDING, PENDING, CLAIMED]));
     lists.links[UNITS..].fill_with(|| random.pick(&[0, 1, u16::MAX]));
     lists.keys[..DAYS].fill_with(|| random.below(3) as u32);
-    lists.keys[DAYS..].fill_with(|| random.below(4) as u32);
+    lists.keys[DAYS..CLOSE_DAY].fill_with(|| random.below(4) as u32);
+    lists.keys[CLOSE_DAY] = random.pick(&[0, 2, u32::MAX]);
+}
+
+/// A day closed or none, and a day as messages have it in the close day's place.
+pub fn put_close(lists: &mut Lists, random: &mut Random) {
+    let of_message = lists.keys[DAYS + place(lists.board[0], random)];
+    lists.board[HAS_CLOSE] = random.below(2) as u16;
+    lists.keys[CLOSE_DAY] = random.pick(&[0, 1, 2, of_message, of_message, u32::MAX]);
 }
 
 /// As many matches as a board takes, or one fewer.

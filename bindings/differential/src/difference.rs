@@ -1,7 +1,7 @@
 //! How the lists of two boards differ.
 
-use reference::lists::{CHORDS, DAYS, MEMBERS, STATUSES, UNITS, WAKERS};
-use reference::{Lists, NUMBERS, Phase, SENDER_NUMBERS, Sender, State, Table};
+use reference::lists::{CHORDS, CLOSE_DAY, DAYS, MEMBERS, STATUSES, UNITS, WAKERS};
+use reference::{HAS_CLOSE, Lists, NUMBERS, Phase, SENDER_NUMBERS, Sender, State, Table};
 use std::fmt::Display;
 
 /// The first difference in what the scope paper determines; without a table, in any number.
@@ -36,6 +36,7 @@ fn link_name(at: usize) -> String {
 
 fn key_name(at: usize) -> String {
     match at {
+        CLOSE_DAY.. => "close day".to_string(),
         DAYS.. => format!("day of message {}", at - DAYS),
         _ => format!("property of message {at}"),
     }
@@ -61,7 +62,10 @@ fn boards_differ(ours: &[u16], theirs: &[u16], table: Option<&Table>) -> Option<
         let what = first(name, &determined(table, &one), &determined(table, &two), |_| false);
         what.map(|what| format!("{what} of {one:?} and {two:?}"))
     };
-    first(plain, &ours[..2], &theirs[..2], |_| false).or_else(|| (0..32).find_map(senders_differ))
+    let of_close = |_| "whether a day is closed".to_string();
+    first(plain, &ours[..2], &theirs[..2], |_| false)
+        .or_else(|| first(of_close, &ours[HAS_CLOSE..], &theirs[HAS_CLOSE..], |_| false))
+        .or_else(|| (0..32).find_map(senders_differ))
 }
 
 /// A sender's numbers with 0 for what the scope paper leaves open.

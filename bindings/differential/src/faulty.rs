@@ -1,16 +1,18 @@
 //! The reference with a fault put in, to see that the comparison finds it.
 
-use crate::calls::{Call, Calls, Merge, Read};
+use crate::calls::{Call, Calls, Merge, Read, is_refusal, refused};
+use crate::closes::close_day;
 use crate::looks::{Candidate, LOOKED, Look, MISSED};
+use crate::misclosed::{close_wrongly, refuse_by_sender, refuse_wrongly};
 use crate::plain_rust::Reference;
 use crate::words::{BLOCK, Blocks};
 use reference::board::WOKEN;
 use reference::lists::{DAYS, STATUSES, UNITS, WAKERS};
 use reference::table::HEADER;
-use reference::{Equality, Lists, Rows, Table};
+use reference::{Equality, HAS_CLOSE, Lists, Rows, SENDER_NUMBERS, Sent, Table};
 
 /// Kinds of faults by name.
-pub const FAULTS: [&str; 29] = [
+pub const FAULTS: [&str; 40] = [
     "answer",
     "list",
     "board",
@@ -40,6 +42,17 @@ pub const FAULTS: [&str; 29] = [
     "mark-past",
     "half-property",
     "half-unit",
+    "close-day-open",
+    "cents-first",
+    "full-first",
+    "channel-last",
+    "none-as-0",
+    "none-as-any",
+    "earlier-close",
+    "equal-close",
+    "close-signal",
+    "unwritten-close",
+    "close-sender",
 ];
 
 /// Looks by another equality than the chord's: at which last byte, which one stands for it, and whether properties are
@@ -60,6 +73,34 @@ impl Faulty {
 
     fn due(&self, fault: &str) -> bool {
         self.fault == fault && self.calls >= 1_234
+    }
+
+    /// What a call answers that was made on those lists and answered so, and is to be made wrongly.
+    fn wrongly(&mut self, table: &[u8], lists: &mut Lists, before: Lists, call: Call, answer: u32) -> u32 {
+        if self.fault == "refusal" && is_refusal(answer) {
+            lists.links.iter_mut().last().into_iter().for_each(|link| *link ^= 1);
+        }
+        match (call, answer >> 16) {
+            (Call::Add { sent, .. }, _) if self.is_let_through(&before, sent, answer) => {
+                self.call_with_none_closed(table, lists, call)
+            }
+            (Call::Add { sent, .. }, _) => refuse_wrongly(&self.fault, before, lists, sent, answer),
+            (Call::Close { day }, _) => close_wrongly(&self.fault, &before, lists, day, answer),
+            (_, LOOKED | MISSED) => self.look(table, lists, before, call, answer).unwrap_or(answer),
+            (Call::Step { sender }, _) => step_wrongly(&self.fault, table, lists, sender.into(), answer),
+        }
+    }
+
+    /// Whether it is an add of the close day, which the fault lets through.
+    fn is_let_through(&self, before: &Lists, sent: Sent, answer: u32) -> bool {
+        self.fault == "close-day-open" && answer == refused(19) && close_day(before) == Some(sent.day)
+    }
+
+    fn call_with_none_closed(&mut self, table: &[u8], lists: &mut Lists, call: Call) -> u32 {
+        lists.board[HAS_CLOSE] = 0;
+        let answer = self.inner.call(table, lists, call);
+        lists.board[HAS_CLOSE] = 1;
+        answer
     }
 
     /// What a look answers that is made wrongly; none if the fault is no such one.
@@ -129,28 +170,16 @@ impl Calls for Faulty {
         self.calls += 1;
         let before = self.due(&self.fault).then(|| lists.clone());
         let answer = self.inner.call(table, lists, call);
-        if let (Some(before), LOOKED | MISSED) = (before, answer >> 16) {
-            return self.look(table, lists, before, call, answer).unwrap_or(answer);
-        }
-        if self.due("list") && answer >> 16 == 3 {
-            lists.bytes[STATUSES + usize::from(answer as u16)] = 0;
-        }
-        if self.due("board") && answer >> 16 == 12 {
-            lists.board[2 + 21 * call.sender() + 12] += 1;
-        }
-        if self.due("refusal") && answer >> 16 == 17 {
-            lists.links.iter_mut().last().into_iter().for_each(|link| *link ^= 1);
-        }
-        if self.due("law") && answer >> 16 == 13 {
-            leave_chord_count(&mut lists.board[2 + 21 * call.sender()..][..21], table);
-        }
-        if self.due("answer") && answer >> 16 == 13 { 12 << 16 } else { answer }
+        before.map_or(answer, |before| self.wrongly(table, lists, before, call, answer))
     }
 
     fn replay(&mut self, table: &[u8], lists: &mut Lists, rows: &Rows, answers: &mut [u32]) -> u8 {
         let refusal = self.inner.replay(table, lists, rows, answers);
         if self.due("replay") && refusal == 0 {
             answers[0] += 1;
+        }
+        if self.due("close-sender") && refusal == 0 {
+            refuse_by_sender(rows, answers);
         }
         refusal
     }
@@ -174,6 +203,19 @@ impl Calls for Faulty {
         }
         refusal
     }
+}
+
+/// Puts a claimed message back, counts a retry too many, leaves another chord, or answers another word.
+fn step_wrongly(fault: &str, table: &[u8], lists: &mut Lists, sender: usize, answer: u32) -> u32 {
+    let place = 2 + SENDER_NUMBERS * sender;
+    match (fault, answer >> 16) {
+        ("list", 3) => lists.bytes[STATUSES + usize::from(answer as u16)] = 0,
+        ("board", 12) => lists.board[place + 12] += 1,
+        ("law", 13) => leave_chord_count(&mut lists.board[place..][..SENDER_NUMBERS], table),
+        ("answer", 13) => return 12 << 16,
+        _ => {}
+    }
+    answer
 }
 
 /// Takes another message than the look took: the first that fits, the newest, the last of the oldest, one past the

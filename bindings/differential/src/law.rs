@@ -2,11 +2,12 @@
 //! is answered alike under the first table and the merged one, and leaves the same board.
 
 use crate::calls::{Call, Calls, Merge, Read};
+use crate::closes::{Books, CLOSED};
 use crate::difference::difference;
+use crate::habits::Habits;
 use crate::merges::{merged_len, whole};
 use crate::pair::Checked;
 use crate::random::Random;
-use crate::schedule::Habits;
 use crate::strays::lent_anything;
 use reference::{Lists, Sent, Table};
 
@@ -19,6 +20,7 @@ pub struct Tally {
     pub calls: u64,
     schedules: u64,
     matches: u64,
+    closes: u64,
     reads: u64,
     /// By where they leave the law: schedules that do, and those of them that are answered otherwise.
     outside: [u64; 2],
@@ -58,16 +60,19 @@ pub fn run(side: &mut dyn Calls, random: &mut Random, number: u64, tally: &mut T
 }
 
 fn play_inside(boards: &mut Boards, random: &mut Random, tally: &mut Tally) -> Checked<()> {
-    let (mut habits, length) = (Habits::new(random, 0), random.pick(&[20, 40, 80, 120]));
+    let (mut habits, mut books) = (Habits::new(random, 0), Books::default());
+    let length = random.pick(&[20, 40, 80, 120]);
     for turn in 0..length {
         habits.draining = turn > 2 * length / 3;
         let call = habits.choose(random, &boards.table, &boards.first);
         let call = at_channels(call, &boards.tables.own, random);
         let (one, two) = boards.call(call);
         boards.compare(random, one, two).map_err(|difference| format!("{call:?}: {difference}"))?;
+        books.check(&boards.first, call, one)?;
         tally.calls += 1;
         tally.reads += 4;
         tally.matches += u64::from(one >> 16 == MATCHED);
+        tally.closes += u64::from(one == CLOSED);
     }
     Ok(())
 }
@@ -169,8 +174,10 @@ impl Boards<'_> {
 
 impl Tally {
     pub fn print(&self) {
-        let Tally { schedules, calls, matches, reads, .. } = self;
-        println!("law: {schedules} schedules alike, {calls} calls, {matches} matches, {reads} reads");
+        let Tally { schedules, calls, matches, closes, reads, .. } = self;
+        println!(
+            "law: {schedules} schedules alike, {calls} calls, {matches} matches, {closes} days closed, {reads} reads"
+        );
         for ((place, outside), differing) in OUTSIDE.iter().zip(self.outside).zip(self.differing) {
             println!("outside the law, adds to {place}: {differing} of {outside} schedules differ");
         }
@@ -180,6 +187,8 @@ impl Tally {
     pub fn missing(&self) -> Option<String> {
         let place = OUTSIDE.iter().zip(self.differing).find(|(_, differing)| *differing == 0);
         let place = place.map(|(place, _)| format!("a difference by adds to {place}"));
-        place.or((self.matches == 0).then(|| "a match inside the law".to_string()))
+        let inside = [(self.matches, "a match inside the law"), (self.closes, "a close inside the law")];
+        let inside = inside.into_iter().find(|(times, _)| *times == 0);
+        place.or(inside.map(|(_, what)| what.to_string()))
     }
 }

@@ -3,8 +3,9 @@
 //!     differential [--calls N] [--merges N] [--seed S] [--fault KIND]
 //!
 //! Random schedules, with excursions to sound boards that no schedule reaches, to damaged lists and tables, and to
-//! lists of another length. From 100,000 calls on, every word, the refusals 8 to 13, every sort of damage and looks
-//! that days, units and words of sixty-four messages decide must occur.
+//! lists of another length. From 100,000 calls on, every word, the refusals 8 to 13, 19 and 20, every sort of damage,
+//! looks that days, units and words of sixty-four messages decide, and what closed days decide must occur. After every
+//! call of a schedule no add of a day that was closed before is accepted.
 //!
 //! Then merges of random tables, whole and damaged, and for every hundred of them two schedules that are played under a
 //! table and under a merged one: one inside request 1's law, which is answered alike, and one that leaves it. From
@@ -15,13 +16,16 @@
 
 mod calls;
 mod changes;
+mod closes;
 mod difference;
 mod faulty;
 mod grounds;
+mod habits;
 mod invariant;
 mod law;
 mod looks;
 mod merges;
+mod misclosed;
 mod pair;
 mod plain_rust;
 #[cfg(feature = "host")]
@@ -43,9 +47,9 @@ use std::process::ExitCode;
 
 const HELP: &str = "\
 usage: differential [--calls N] [--merges N] [--seed S] [--fault KIND]
-From 100,000 calls on, every word, the refusals 8 to 13, every sort of damage and looks that days, units and words of
-sixty-four messages decide must occur; from 100,000 merges on, every ground of a refusal and answers that differ outside
-the law.";
+From 100,000 calls on, every word, the refusals 8 to 13, 19 and 20, every sort of damage, looks that days, units and
+words of sixty-four messages decide, and what closed days decide must occur; from 100,000 merges on, every ground of a
+refusal and answers that differ outside the law.";
 
 /// So many calls are enough for every word to occur, so many merges for every ground.
 const COVERING: u64 = 100_000;
@@ -119,14 +123,20 @@ fn play_law(tally: &mut law::Tally, options: &Options) -> Result<(), String> {
     })
 }
 
-/// Every word and the refusals 8 to 13 must have been answered, every list damaged, and looks decided by days, by units
-/// and by words, if there were calls enough.
+/// The words of answers that are no refusals.
+fn accepting() -> impl Iterator<Item = usize> {
+    (0..WORDS.len()).filter(|&word| WORDS[word] != "refused")
+}
+
+/// Every word and the refusals must have been answered, every list damaged, looks decided by days, by units and by
+/// words, and calls by closed days, if there were calls enough.
 fn missing(tally: &Tally) -> Option<String> {
     if tally.calls < COVERING {
         return None;
     }
-    let word = (0..17).find(|&word| tally.words[word] == 0).map(|word| WORDS[word].to_string());
-    let refusal = (8..=13).find(|&number| tally.refusals[number] == 0).map(|number| format!("refused {number}"));
+    let word = accepting().find(|&word| tally.words[word] == 0).map(|word| WORDS[word].to_string());
+    let mut refusals = (8..=13).chain(19..=20);
+    let refusal = refusals.find(|&number| tally.refusals[number] == 0).map(|number| format!("refused {number}"));
     let mut damages = tally.seen.counts().into_iter().flat_map(|(_, counts)| counts);
     word.or(refusal).or_else(|| damages.find(|(_, times)| *times == 0).map(|(what, _)| what))
 }
@@ -141,7 +151,7 @@ fn missing_merges(tally: &Tally, met: &Met, law: &law::Tally) -> Option<String> 
 }
 
 fn print_counts(tally: &Tally) {
-    let words = (0..17).map(|word| format!("{} {}", WORDS[word], tally.words[word]));
+    let words = accepting().map(|word| format!("{} {}", WORDS[word], tally.words[word]));
     let refusals = (0..256).filter(|&n| tally.refusals[n] > 0).map(|n| format!("refused {n}: {}", tally.refusals[n]));
     println!("answered in schedules: {}", words.collect::<Vec<_>>().join(", "));
     println!("refused in schedules: {}", refusals.collect::<Vec<_>>().join(", "));

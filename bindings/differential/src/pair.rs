@@ -1,19 +1,19 @@
 //! Two implementations side by side: every call goes to both, and what each says and leaves is compared.
 
-use crate::calls::{Call, Calls, Merge, Read};
+use crate::calls::{Call, Calls, Merge, Read, is_refusal};
+use crate::closes::{CLOSED, REPLAYED};
 use crate::difference::difference;
 use crate::seen::Seen;
 use crate::stays::altered;
+use reference::calls::CLOSE;
 use reference::{Lists, Rows, Table};
-
-const REFUSED: u32 = 17;
 
 pub type Checked<T> = Result<T, String>;
 
 /// What was compared so far.
 pub struct Tally {
     pub calls: u64,
-    pub words: [u64; 18],
+    pub words: [u64; 19],
     pub refusals: [u64; 256],
     /// Calls on sound boards that no schedule made, on damaged boards and tables; reads, replays and merges.
     pub unreached: u64,
@@ -26,7 +26,7 @@ pub struct Tally {
 
 impl Default for Tally {
     fn default() -> Tally {
-        let (words, refusals) = ([0; 18], [0; 256]);
+        let (words, refusals) = ([0; 19], [0; 256]);
         let seen = Seen::default();
         Tally { calls: 0, words, refusals, unreached: 0, damaged: 0, reads: 0, replays: 0, merges: 0, seen }
     }
@@ -96,11 +96,11 @@ impl Pair {
         if one != two {
             return Err(format!("answer: {} and {}", shown(one), shown(two)));
         }
-        if one >> 16 == REFUSED {
+        if is_refusal(one) {
             self.unchanged("refused calls")?
         } else {
             self.compare_lists()?;
-            let change = altered(&self.ours_before, &self.ours, call.sender());
+            let change = altered(&self.ours_before, &self.ours, call);
             change.map_or(Ok(()), |change| Err(format!("ours, which it may not alter: {change}")))?
         }
         self.tally.calls += 1;
@@ -112,10 +112,15 @@ impl Pair {
         self.theirs_before.copy(&self.theirs);
     }
 
+    /// Our lists as they were before the last call.
+    pub fn before(&self) -> &Lists {
+        &self.ours_before
+    }
+
     /// Counts an answer of a schedule.
     pub fn count(&mut self, answer: u32) {
         self.tally.words[(answer >> 16) as usize] += 1;
-        if answer >> 16 == REFUSED {
+        if is_refusal(answer) {
             self.tally.refusals[answer as u8 as usize] += 1;
         }
     }
@@ -169,11 +174,19 @@ impl Pair {
             return Err(format!("replayed answer {at}: {} and {}", shown(one[at]), shown(two[at])));
         }
         if first == 0 {
+            self.count_closes(rows, &one);
             self.compare_lists()?
         } else {
             self.unchanged("refused replays")?
         }
         Ok((first, one))
+    }
+
+    fn count_closes(&mut self, rows: &Rows, answers: &[u32]) {
+        let kinds = rows.calls.iter().step_by(4);
+        for (_, &answer) in kinds.zip(answers).filter(|(kind, _)| **kind == CLOSE) {
+            self.tally.seen.note(REPLAYED[usize::from(answer != CLOSED)]);
+        }
     }
 
     /// Merges into buffers with those bytes in them; returns the bytes that are there then.

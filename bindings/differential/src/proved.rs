@@ -37,6 +37,7 @@ impl Calls for Host {
                 host::add(table, lists, sender, channel, property, cents, day, unit)
             }
             Call::Step { sender } => host::step(table, lists, sender),
+            Call::Close { day } => host::close(table, lists, day),
         })
     }
 

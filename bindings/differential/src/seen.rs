@@ -1,6 +1,7 @@
-//! Counts of what was lent to the calls, of refused calls that left it as found, and of what days, units and words
-//! decided.
+//! Counts of what was lent to the calls, of refused calls that left it as found, and of what days, units, words and
+//! closes decided.
 
+use crate::closes::by_closes;
 use crate::looks::{BY_DAYS, BY_UNITS};
 use crate::random::LAST_BYTES;
 use crate::words::BY_WORDS;
@@ -8,7 +9,7 @@ use std::collections::HashMap;
 
 /// The lists of a board with their parts, and the lists of a replay's calls.
 pub const LISTS: [&str; 5] = ["board", "bytes", "links", "keys", "cents"];
-pub const PARTS: [&str; 11] = [
+pub const PARTS: [&str; 13] = [
     "board",
     "channels of bytes",
     "statuses of bytes",
@@ -20,10 +21,14 @@ pub const PARTS: [&str; 11] = [
     "properties of keys",
     "days of keys",
     "cents",
+    "close flag of board",
+    "close day of keys",
 ];
 pub const ROWS: [&str; 3] = ["calls", "numbers", "amounts"];
 /// Lengths that are not those of a list.
 pub const LENGTHS: [&str; 4] = ["one longer", "one shorter", "empty", "one part shorter"];
+/// Two lists that are one shorter both.
+pub const WITHOUT_CLOSE: &str = "board and keys without the close";
 /// Calls after which each list of a board is compared with what it was, number by number.
 const AS_FOUND: [&str; 4] = ["refused calls", "refused replays", "refused opens", "reads"];
 const DAMAGES: [&str; 4] = ["tables refused", "tables accepted", "numbers of no board", "numbers of no sound board"];
@@ -45,9 +50,10 @@ impl Seen {
     }
 
     /// All that may be noted, by sort.
-    pub fn counts(&self) -> [(&'static str, Vec<(String, u64)>); 8] {
+    pub fn counts(&self) -> [(&'static str, Vec<(String, u64)>); 9] {
         let lengths = |list: &&str| LENGTHS.map(|length| format!("{list} {length}"));
-        // Any property, any day and any unit is one of a sound board.
+        let lengths = LISTS.iter().chain(&ROWS).flat_map(lengths).chain([WITHOUT_CLOSE.to_string()]);
+        // Any property, any day, any close day and any unit is one of a sound board.
         let any_fits = |part: &str| part.ends_with("keys") || part.starts_with("units");
         let unsound = PARTS.iter().filter(|part| !any_fits(part)).map(|part| format!("{part} refused"));
         let changed = PARTS.iter().map(|part| format!("{part} accepted")).chain(unsound);
@@ -55,11 +61,12 @@ impl Seen {
             ("every list as found", self.of(AS_FOUND.map(String::from).to_vec())),
             ("damaged", self.of(DAMAGES.map(String::from).to_vec())),
             ("last bytes", self.of(LAST_BYTES.map(last_byte_of).to_vec())),
-            ("of another length", self.of(LISTS.iter().chain(&ROWS).flat_map(lengths).collect())),
+            ("of another length", self.of(lengths.collect())),
             ("one number changed", self.of(changed.collect())),
             ("looks by days", self.of(BY_DAYS.map(String::from).to_vec())),
             ("looks by units", self.of(BY_UNITS.map(String::from).to_vec())),
             ("looks by words", self.of(BY_WORDS.map(String::from).to_vec())),
+            ("by closes", self.of(by_closes())),
         ]
     }
 }

@@ -1,17 +1,31 @@
-//! What an accepted call may not alter, whatever else it does: the rows of other senders, but for their signals, the
-//! eight numbers of every match that was recorded before it, and what messages were sent with, in every record but that
-//! of a message that it adds.
+//! What an accepted call may not alter, whatever else it does. An add or a step: the rows of other senders, but for
+//! their signals, the eight numbers of every match that was recorded before it, what messages were sent with, in every
+//! record but that of a message that it adds, and the close day. A close: any other number.
 
+use crate::calls::Call;
+use crate::difference::difference;
 use crate::invariant::sent_at;
 use reference::board::MESSAGES;
-use reference::lists::{MEMBERS, STATUSES, UNITS};
-use reference::{Lists, SENDER_NUMBERS};
+use reference::lists::{CLOSE_DAY, MEMBERS, STATUSES, UNITS};
+use reference::{HAS_CLOSE, Lists, SENDER_NUMBERS};
 
-/// The first of these that differs after a call of that sender.
-pub fn altered(before: &Lists, after: &Lists, caller: usize) -> Option<String> {
+/// The first of these that differs after the call.
+pub fn altered(before: &Lists, after: &Lists, call: Call) -> Option<String> {
+    let Some(caller) = call.sender() else { return beside_the_close_day(before, after) };
     other_sender(&before.board, &after.board, caller)
         .or_else(|| recorded_match(before, after))
         .or_else(|| other_message(before, after))
+        .or_else(|| (close_numbers(before) != close_numbers(after)).then(|| "the close day".to_string()))
+}
+
+fn beside_the_close_day(before: &Lists, after: &Lists) -> Option<String> {
+    let mut after = after.clone();
+    (after.board[HAS_CLOSE], after.keys[CLOSE_DAY]) = close_numbers(before);
+    difference(before, &after, None)
+}
+
+fn close_numbers(lists: &Lists) -> (u16, u32) {
+    (lists.board[HAS_CLOSE], lists.keys[CLOSE_DAY])
 }
 
 fn recorded_match(before: &Lists, after: &Lists) -> Option<String> {
@@ -32,13 +46,13 @@ fn other_message(before: &Lists, after: &Lists) -> Option<String> {
 
 /// Channels, units, properties and days, cents.
 fn columns_sent(lists: &Lists) -> (&[u8], &[u16], &[u32], &[i64]) {
-    (&lists.bytes[..STATUSES], &lists.links[UNITS..], &lists.keys, &lists.cents)
+    (&lists.bytes[..STATUSES], &lists.links[UNITS..], &lists.keys[..CLOSE_DAY], &lists.cents)
 }
 
 fn other_sender(before: &[u16], after: &[u16], caller: usize) -> Option<String> {
     let row = |at: usize| ((at - 2) / SENDER_NUMBERS, (at - 2) % SENDER_NUMBERS);
     let is_kept = |at: usize| row(at).0 != caller && row(at).1 != 1;
-    let at = (2..before.len()).find(|&at| is_kept(at) && before[at] != after[at])?;
+    let at = (2..HAS_CLOSE).find(|&at| is_kept(at) && before[at] != after[at])?;
     Some(format!("sender {} number {}", row(at).0, row(at).1))
 }
 
@@ -47,12 +61,16 @@ mod tests {
     use super::*;
     use reference::lists::DAYS;
 
-    fn found(alter: impl Fn(&mut Lists)) -> Option<String> {
+    fn found_after(call: Call, alter: impl Fn(&mut Lists)) -> Option<String> {
         let mut before = Lists::default();
         before.board[1] = 1;
         let mut after = before.clone();
         alter(&mut after);
-        altered(&before, &after, 3)
+        altered(&before, &after, call)
+    }
+
+    fn found(alter: impl Fn(&mut Lists)) -> Option<String> {
+        found_after(Call::Step { sender: 3 }, alter)
     }
 
     #[test]
@@ -73,5 +91,21 @@ mod tests {
         let added = |unit_at: usize| move |lists: &mut Lists| (lists.board[0], lists.links[UNITS + unit_at]) = (1, 7);
         assert_eq!(found(added(0)), None);
         assert_eq!(found(added(1)), altered(1));
+    }
+    #[test]
+    fn a_close_alters_the_close_day_alone() {
+        let close = |lists: &mut Lists| (lists.board[HAS_CLOSE], lists.keys[CLOSE_DAY]) = (1, 5);
+        assert_eq!(found(close), Some("the close day".into()));
+        assert_eq!(found(|lists| lists.keys[CLOSE_DAY] = 5), Some("the close day".into()));
+        let after_close = |alter: fn(&mut Lists)| {
+            found_after(Call::Close { day: 5 }, |lists| {
+                close(lists);
+                alter(lists);
+            })
+        };
+        assert_eq!(after_close(|_| ()), None);
+        assert_eq!(after_close(|lists| lists.board[2 + 21 * 4 + 1] = 1), Some("board number 87: 0 and 1".into()));
+        assert_eq!(after_close(|lists| lists.keys[CLOSE_DAY - 1] = 1), Some("day of message 1023: 0 and 1".into()));
+        assert_eq!(after_close(|lists| lists.cents[9] = 1), Some("cents of message 9: 0 and 1".into()));
     }
 }

@@ -1,17 +1,17 @@
 //! Boards that no schedule reaches: sound ones, damaged ones, damaged tables, lists of another length.
 
-use crate::calls::{Call, Read};
+use crate::calls::{Call, Read, refused};
 use crate::changes;
+use crate::closes::close_day;
+use crate::habits::odd_call;
 use crate::invariant::senders;
 use crate::pair::{Checked, Pair};
 use crate::plain_rust::{Reference, Verdict};
 use crate::random::{Random, damage, put_last_byte};
-use crate::schedule::odd_call;
-use crate::seen::{LENGTHS, LISTS, PARTS, ROWS, last_byte_of};
+use crate::seen::{LENGTHS, LISTS, PARTS, ROWS, WITHOUT_CLOSE, last_byte_of};
 use reference::board::MESSAGES;
-use reference::{Lists, Rows, SENDER_NUMBERS, Sent, Table};
-
-const NO_BOARD: u32 = 17 * 65_536 + 30;
+use reference::calls::CLOSE;
+use reference::{Lists, NUMBERS, Rows, SENDER_NUMBERS, Sent, Table};
 
 /// An opened board's lent lists may hold anything: zeros, what could be messages, any numbers.
 pub fn lent_anything(random: &mut Random) -> Lists {
@@ -79,8 +79,14 @@ fn random_call(random: &mut Random, table: &Table, lists: &Lists, favoured: usiz
             let (day, unit) = (random.below(3) as u32, random.pick(&[0, 1, u16::MAX]));
             Call::Add { sender, sent: Sent { channel, property, cents: 1, day, unit } }
         }
+        4 => Call::Close { day: random_close_day(random, lists) },
         _ => Call::Step { sender },
     }
+}
+
+fn random_close_day(random: &mut Random, lists: &Lists) -> u32 {
+    let closed = close_day(lists).unwrap_or(1);
+    random.pick(&[0, 1, 2, closed.saturating_sub(1), closed, closed.saturating_add(1), u32::MAX])
 }
 
 fn damaged_table(pair: &mut Pair, random: &mut Random) -> Checked<()> {
@@ -97,11 +103,11 @@ fn damaged_table(pair: &mut Pair, random: &mut Random) -> Checked<()> {
         expect_number(if byte > 2 { 5 } else { 0 }, opened)?;
         pair.tally.seen.note(last_byte_of(byte));
     }
-    let refused = 17 * 65_536 + u32::from(opened);
-    for _ in 0..3 {
-        let answer = pair.call(Call::Step { sender: random.below(33) as u16 })?;
+    let step = Call::Step { sender: random.below(33) as u16 };
+    for call in [step, Call::Close { day: random.next() as u32 }, step] {
+        let answer = pair.call(call)?;
         pair.tally.damaged += 1;
-        if opened != 0 && answer != refused {
+        if opened != 0 && answer != refused(opened.into()) {
             return Err(format!("a table refused {opened} is answered {answer}"));
         }
     }
@@ -116,7 +122,8 @@ fn any_replay(pair: &mut Pair, random: &mut Random) -> Checked<()> {
     let calls: Vec<Call> = (0..count).map(|_| random_call(random, &table, &pair.ours, 1)).collect();
     let mut rows = Rows::of(&calls);
     for kind in rows.calls.iter_mut().step_by(4) {
-        *kind = if random.chance(20) { random.next() as u16 } else { *kind };
+        let any = random.next() as u16;
+        *kind = if random.chance(20) { random.pick(&[CLOSE, 3, any]) } else { *kind };
     }
     let lists = pair.ours.clone();
     let (number, _) = pair.replay(&rows, count)?;
@@ -138,19 +145,20 @@ fn any_replay(pair: &mut Pair, random: &mut Random) -> Checked<()> {
 /// One of the lent lists of another length.
 fn another_length(pair: &mut Pair, random: &mut Random) -> Checked<()> {
     let mut lists = pair.ours.clone();
-    let (list, length) = (random.below(LISTS.len()), random.below(LENGTHS.len()));
+    let (list, length) = (random.below(LISTS.len() + 1), random.below(LENGTHS.len()));
     match list {
         0 => resize(&mut lists.board, length, SENDER_NUMBERS),
         1 => resize(&mut lists.bytes, length, MESSAGES),
         2 => resize(&mut lists.links, length, MESSAGES),
         3 => resize(&mut lists.keys, length, MESSAGES),
-        _ => resize(&mut lists.cents, length, MESSAGES),
+        4 => resize(&mut lists.cents, length, MESSAGES),
+        _ => drop((lists.board.pop(), lists.keys.pop())),
     }
-    let what = format!("{} {}", LISTS[list], LENGTHS[length]);
+    let what = LISTS.get(list).map_or(WITHOUT_CLOSE.to_string(), |list| format!("{list} {}", LENGTHS[length]));
     pair.set(&lists);
     expect_refused(pair).map_err(|difference| format!("{what}: {difference}"))?;
     pair.tally.seen.note(&what);
-    let (opened, expected) = (pair.open(pair.table.clone())?, if list == 0 { 30 } else { 0 });
+    let (opened, expected) = (pair.open(pair.table.clone())?, if lists.board.len() == NUMBERS { 0 } else { 30 });
     if opened == expected { Ok(()) } else { Err(format!("{what}: open answered {opened}")) }
 }
 
@@ -162,6 +170,7 @@ fn resize<T: Clone + Default>(list: &mut Vec<T>, length: usize, part: usize) {
 /// Every call is refused 30 before anything else that is wrong with it.
 fn expect_refused(pair: &mut Pair) -> Checked<()> {
     expect_no_board(pair, Call::Step { sender: 0 })?;
+    expect_no_board(pair, Call::Close { day: 0 })?;
     let sent = Sent { channel: 99, cents: i64::MAX, ..Sent::default() };
     expect_no_board(pair, Call::Add { sender: 40, sent })?;
     for read in [Read::Message(u16::MAX), Read::Match(u16::MAX), Read::Reply(u16::MAX), Read::Quiet] {
@@ -177,7 +186,7 @@ fn expect_number(expected: u8, number: u8) -> Checked<()> {
 fn expect_no_board(pair: &mut Pair, call: Call) -> Checked<()> {
     let answer = pair.call(call)?;
     pair.tally.damaged += 1;
-    if answer == NO_BOARD { Ok(()) } else { Err(format!("{call:?} on no sound board is answered {answer}")) }
+    if answer == refused(30) { Ok(()) } else { Err(format!("{call:?} on no sound board is answered {answer}")) }
 }
 
 /// One number anywhere changed to any value.
@@ -223,6 +232,9 @@ fn unreached_board(pair: &mut Pair, random: &mut Random) -> Checked<()> {
     let sender = random.below(32);
     if random.chance(40) && table.chord_count > 0 && lists.board[0] > 0 {
         changes::put_job(&mut lists, random, &table, sender);
+    }
+    if random.chance(25) {
+        changes::put_close(&mut lists, random);
     }
     for _ in 0..random.below(4) {
         if random.chance(65) {

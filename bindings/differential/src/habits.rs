@@ -1,0 +1,216 @@
+//! How a schedule chooses its calls.
+
+use crate::calls::Call;
+use crate::closes::close_day;
+use crate::invariant::senders;
+use crate::random::{Random, random_table};
+use reference::board::{MESSAGES, MOST_CENTS, PENDING};
+use reference::lists::{DAYS, STATUSES};
+use reference::{Equality, Lists, Sender, Sent, State, Table};
+
+/// How the days of a schedule's messages come.
+#[derive(Clone, Copy)]
+enum Days {
+    None,
+    Equal,
+    Few,
+    Many,
+    Rising,
+    Falling,
+    Extreme,
+}
+
+impl Days {
+    /// A day for the message of that number.
+    fn next(self, random: &mut Random, number: u16) -> u32 {
+        let some = 1 + u32::from(number) / 3;
+        match self {
+            Days::None => 0,
+            Days::Equal => 20_454,
+            Days::Few => random.below(4) as u32,
+            Days::Many => random.next() as u32,
+            Days::Rising => some,
+            Days::Falling => u32::MAX - some,
+            Days::Extreme => random.pick(&[0, 1, u32::MAX - 1, u32::MAX]),
+        }
+    }
+}
+
+/// Units that a schedule's messages have: one, few, the extremes, such as differ in their high bytes only.
+const UNITS: [&[u16]; 5] = [&[0], &[0, 1], &[0, 1, 2, 65_535], &[1, 257, 65_281], &[0, 65_535]];
+/// The same where a board is filled and units must be equal, so that few fit.
+const SEVERAL: [&[u16]; 3] = [&[0, 1], &[0, 1, 2, 65_535], &[0, 1, 2, 3, 257, 258, 259, 65_281, 65_534, 65_535]];
+
+/// How a schedule chooses its calls.
+pub struct Habits {
+    /// Senders below this are chosen while one of them can be.
+    favoured: usize,
+    properties: usize,
+    /// How far apart the properties are.
+    apart: u32,
+    days: Days,
+    units: &'static [u16],
+    /// Closes of a thousand calls.
+    closing: usize,
+    adding: usize,
+    run_on: usize,
+    pub length: usize,
+    /// Adds of leaving messages, until the board is full.
+    filling: bool,
+    /// The first chord wants equal units.
+    by_unit: bool,
+    last: usize,
+    /// No adds, until the board is quiet.
+    pub draining: bool,
+}
+
+impl Habits {
+    pub fn new(random: &mut Random, number: u64) -> Habits {
+        let (filling, by_unit) = (number % 12 == 1, number % 24 == 13);
+        let properties: &[usize] = match (filling, by_unit) {
+            (_, true) => &[3, 10, 30],
+            (true, _) => &[1, 3, 30, 300],
+            _ => &[1, 2, 2, 3, 5],
+        };
+        Habits {
+            favoured: random.pick(&[2, 3, 6, 12, 32]),
+            properties: random.pick(properties),
+            apart: random.pick(&[1, 1, 1, 256, 65_536, 16_777_216]),
+            days: random.pick(&[
+                Days::None,
+                Days::Equal,
+                Days::Few,
+                Days::Many,
+                Days::Rising,
+                Days::Falling,
+                Days::Extreme,
+            ]),
+            units: random.pick(if by_unit { &SEVERAL } else { &UNITS[..] }),
+            closing: random.pick(if filling { &[0, 2, 10] } else { &[0, 0, 5, 20, 60] }),
+            adding: if filling { 90 } else { random.pick(&[10, 20, 35, 50]) },
+            run_on: random.pick(&[0, 30, 70, 95]),
+            length: if filling { 8_000 } else { random.pick(&[100, 300, 600, 1_500]) },
+            filling,
+            by_unit,
+            last: 0,
+            draining: false,
+        }
+    }
+
+    /// A table; to be filled, a board wants one or two chords and a channel that lets its senders go.
+    pub fn table(&self, random: &mut Random) -> Vec<u8> {
+        loop {
+            let table = random_table(random);
+            if !self.filling || Table::read(&table).is_ok_and(|table| self.can_fill(&table)) {
+                return table;
+            }
+        }
+    }
+
+    fn can_fill(&self, table: &Table) -> bool {
+        let few = (1..=2).contains(&table.chord_count) && leaving(table).next().is_some();
+        few && (!self.by_unit || table.chord(0).equality == Equality::Unit)
+    }
+
+    pub fn choose(&mut self, random: &mut Random, table: &Table, lists: &Lists) -> Call {
+        let senders = senders(lists);
+        if !self.draining && random.chance(2) {
+            return odd_call(random, table);
+        }
+        if random.below(1_000) < self.closing {
+            return Call::Close { day: self.day_to_close(random, lists) };
+        }
+        let idle = self.those(&senders, |sender| sender.state == State::Idle);
+        let busy = self.those(&senders, |sender| !sender.at_rest());
+        if !busy.is_empty() && (self.draining || idle.is_empty() || !random.chance(self.adding)) {
+            if !busy.contains(&self.last) || !random.chance(self.run_on) {
+                self.last = random.pick(&busy);
+            }
+            return Call::Step { sender: self.last as u16 };
+        }
+        if idle.is_empty() || self.draining {
+            return Call::Step { sender: random.below(32) as u16 };
+        }
+        let (sender, channel) = (random.pick(&idle) as u16, self.channel(random, table, lists));
+        let (property, day) = (self.property(random), self.day(random, lists));
+        let unit = random.pick(self.units);
+        Call::Add { sender, sent: Sent { channel, property, cents: cents(random), day, unit } }
+    }
+
+    /// The favoured senders that are as wanted; if none is, any such sender.
+    fn those(&self, senders: &[Sender], wanted: impl Fn(&Sender) -> bool) -> Vec<usize> {
+        let all: Vec<usize> = (0..senders.len()).filter(|&i| wanted(&senders[i])).collect();
+        let favoured: Vec<usize> = all.iter().copied().filter(|&i| i < self.favoured).collect();
+        if favoured.is_empty() { all } else { favoured }
+    }
+
+    /// A channel of some chord, often the one that the chord is shortest of.
+    fn channel(&self, random: &mut Random, table: &Table, lists: &Lists) -> u16 {
+        if self.filling {
+            return random.pick(&leaving(table).collect::<Vec<u8>>()).into();
+        }
+        let dice = random.below(10);
+        if dice < 2 || table.chord_count == 0 {
+            return random.below(table.channel_count.into()) as u16;
+        }
+        let members = table.chord(random.below(table.chord_count.into()) as u8).members();
+        if dice < 5 {
+            return random.pick(members).into();
+        }
+        let count = usize::from(lists.board[0]);
+        let pending = |channel: u8| {
+            let kinds = &lists.bytes[..count];
+            let states = &lists.bytes[STATUSES..][..count];
+            kinds.iter().zip(states).filter(|&(&kind, &state)| kind == channel && state == PENDING).count()
+        };
+        members.iter().copied().min_by_key(|&channel| pending(channel)).unwrap_or(0).into()
+    }
+
+    /// A day as the schedule's come; where that is closed, mostly one soon after the close day.
+    fn day(&self, random: &mut Random, lists: &Lists) -> u32 {
+        let day = self.days.next(random, lists.board[0]);
+        match close_day(lists) {
+            Some(closed) if day <= closed && random.chance(75) => closed.saturating_add(random.pick(&[1, 1, 2, 5])),
+            _ => day,
+        }
+    }
+
+    /// The day of a message, mostly; the close day again, one before it, or an extreme. While a board is being filled
+    /// the last day stays open.
+    fn day_to_close(&self, random: &mut Random, lists: &Lists) -> u32 {
+        let (closed, count) = (close_day(lists).unwrap_or(0), usize::from(lists.board[0]));
+        let day = match random.below(16) {
+            0..2 => closed,
+            2 => closed.saturating_sub(1 + random.below(3) as u32),
+            3 => 0,
+            4 if random.chance(10) => u32::MAX,
+            5..8 if count > 0 => lists.keys[DAYS + random.below(count)],
+            8.. if count > 0 => lists.keys[DAYS + count - 1],
+            _ => self.days.next(random, lists.board[0]),
+        };
+        if self.filling && count < MESSAGES { day.min(u32::MAX - 1) } else { day }
+    }
+
+    fn property(&self, random: &mut Random) -> u32 {
+        if random.chance(2) { u32::MAX } else { self.apart.wrapping_mul(random.below(self.properties) as u32) }
+    }
+}
+
+fn leaving(table: &Table) -> impl Iterator<Item = u8> {
+    (0..table.channel_count).filter(|&channel| !table.is_waiting(channel))
+}
+
+fn cents(random: &mut Random) -> i64 {
+    if random.chance(3) { random.pick(&[MOST_CENTS, -MOST_CENTS, 0]) } else { random.below(200_000) as i64 - 100_000 }
+}
+
+/// A call that is mostly refused.
+pub fn odd_call(random: &mut Random, table: &Table) -> Call {
+    let sender = if random.chance(80) { random.below(32) as u16 } else { random.pick(&[32, 33, 255, 65_535]) };
+    let channels = u16::from(table.channel_count);
+    let channel = random.pick(&[0, channels - 1, channels - 1, channels, 65_535]);
+    let cents = random.pick(&[0, 1, MOST_CENTS, MOST_CENTS + 1, -MOST_CENTS - 1, i64::MAX, i64::MIN]);
+    let (day, unit) = (random.pick(&[0, 1, u32::MAX]), random.pick(&[0, 1, u16::MAX]));
+    let sent = Sent { channel, property: 0, cents, day, unit };
+    if random.chance(30) { Call::Step { sender } } else { Call::Add { sender, sent } }
+}
