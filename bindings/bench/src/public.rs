@@ -74,6 +74,9 @@ pub fn calls_of_all_sizes() {
         let name = if messages == 1024 { "add, refused" } else { "add" };
         bounded(name, messages, times(&table, &pairs(&table, messages), add));
     }
+    for messages in [0, 512, 1024] {
+        bounded("close", messages, times(&table, &pairs(&table, messages), Call::Close { day: 30 }));
+    }
 }
 
 /// The tests alone, on a full board of 512 matches, and on an empty one.

@@ -31,6 +31,7 @@ impl Proved {
                 host::add(table, lists, sender, channel, property, cents, day, unit)
             }
             Call::Step { sender } => host::step(table, lists, sender),
+            Call::Close { day } => host::close(table, lists, day),
         }
     }
 
@@ -48,6 +49,7 @@ impl Proved {
 /// Copies a plain board over another, in place.
 pub fn restore(board: &mut Board, saved: &Board) {
     (board.messages, board.matches, board.senders) = (saved.messages, saved.matches, saved.senders);
+    board.close_day = saved.close_day;
     let (to, from) = (&mut board.columns, &saved.columns);
     *to.channels = *from.channels;
     *to.properties = *from.properties;
