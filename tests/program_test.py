@@ -2,9 +2,9 @@
 
     python3 tests/program_test.py [SESSIONS]
 
-The examples, odd files and odd inputs, the run of table P with units, files that cannot be read or written, and
-SESSIONS random sessions (default 300), each on its own random table, against tests/oracle.py. The last line is
-`program: N passed, M failed`.
+The examples, odd files and odd inputs, the run of table P with units and after lines that look like closes, files that
+cannot be read or written, and SESSIONS random sessions (default 300), each on its own random table, against
+tests/oracle.py. The last line is `program: N passed, M failed`.
 """
 
 import os
@@ -37,6 +37,7 @@ UNREADABLE_UNITS = (
     b" ", b" 65536", b" 00065536", b" 65537", b" 4294967295", b" 4294967296", b" 18446744073709551616", b" -1", b" -0",
     b" +1", b" x", b" 1x", b" 0x1", b" 1.5", b" 1 ", b"  1", b" 1 2", b" 1 2 3", b" 1\r", b"\t1", b" " + b"9" * 61,
 )  # fmt: skip
+CLOSES = (b"c", b"c 5", b"c 0", b"c 4294967295", b"c 0 5", b"close", b"close 5", b"C 5", b"2 5", b"s 0 5")
 
 
 def with_end(lines, *ends):
@@ -107,6 +108,14 @@ def unit_cases():
     yield "unreadable units", printed(TABLE_P, unreadable), wanted
 
 
+def close_cases():
+    """A close is a host's call: a line that would be one is unreadable, and no day is closed by it."""
+    run = (ROOT / "examples" / "table-p" / "printout").read_bytes()
+    yield "closes", printed(TABLE_P, b"\n".join(CLOSES)), b"refused 16\n" * len(CLOSES) + b"quiet yes\n"
+    for line in CLOSES:
+        yield f"the run after {line}", printed(TABLE_P, line + b"\n" + RUN_OF_P), b"refused 16\n" + run
+
+
 def failing_cases():
     """What cannot be read or written is said on standard error, and no printout passes for a whole one."""
     with tempfile.TemporaryDirectory() as folder:
@@ -136,7 +145,7 @@ def random_cases(count):
 def main():
     count = int(sys.argv[1]) if len(sys.argv) > 1 else 300
     passed = failed = 0
-    for cases in (example_cases(), odd_cases(), unit_cases(), failing_cases(), random_cases(count)):
+    for cases in (example_cases(), odd_cases(), unit_cases(), close_cases(), failing_cases(), random_cases(count)):
         for name, got, wanted in cases:
             if got == wanted:
                 passed += 1

@@ -1,8 +1,8 @@
 /* A libFuzzer target for the host library. An input plays a short schedule on table P, edits the board it leaves, and
  * makes one call with lengths that are mostly right, twice: every lent list ends at an inaccessible page, then every
  * list begins after one. Both calls must answer the same documented number, alter nothing when they refuse, and leave
- * a board that is accepted when they do not. A merge of two tables, which are edited as its map is, must leave a table
- * that is accepted.
+ * a board that is accepted when they do not. Adds and closes must be refused for a closed day just where they are to
+ * be. A merge of two tables, which are edited as its map is, must leave a table that is accepted.
  */
 #include <stdint.h>
 #include <stdio.h>
@@ -15,7 +15,7 @@
 enum list {
     TABLE, BOARD, BYTES, LINKS, KEYS, CENTS, ROWS, NUMBERS, AMOUNTS, ANSWERS, OUT, SECOND, MAP, MERGED, LISTS
 };
-enum call { REFUSAL, OPEN, ADD, STEP, REPLAY, READ_MESSAGE, READ_MATCH, READ_REPLY, QUIET, MERGE, CALLS };
+enum call { REFUSAL, OPEN, ADD, STEP, CLOSE, REPLAY, READ_MESSAGE, READ_MATCH, READ_REPLY, QUIET, MERGE, CALLS };
 enum { PAGE = 4096, MOST_BYTES = 22536, REPLAYED = 24, MOST_CHANNELS = 16 };
 
 /* Which numbers of a list a call may write: from one to another, and from a third on where that is not 0. */
@@ -25,9 +25,10 @@ struct range {
 #define ALL {0, SIZE_MAX, 0}
 static const struct range written[CALLS][LISTS] = {
     [OPEN] = {[BOARD] = ALL},
-    [ADD] = {[BOARD] = ALL, [BYTES] = {0, GV_CHORDS, 0}, [LINKS] = {0, GV_MEMBERS, GV_UNITS}, [KEYS] = ALL,
-             [CENTS] = ALL},
-    [STEP] = {[BOARD] = ALL, [BYTES] = {GV_STATUSES, GV_BYTES, 0}, [LINKS] = {0, GV_UNITS, 0}},
+    [ADD] = {[BOARD] = {0, GV_HAS_CLOSE, 0}, [BYTES] = {0, GV_CHORDS, 0}, [LINKS] = {0, GV_MEMBERS, GV_UNITS},
+             [KEYS] = {0, GV_CLOSE_DAY, 0}, [CENTS] = ALL},
+    [STEP] = {[BOARD] = {0, GV_HAS_CLOSE, 0}, [BYTES] = {GV_STATUSES, GV_BYTES, 0}, [LINKS] = {0, GV_UNITS, 0}},
+    [CLOSE] = {[BOARD] = {GV_HAS_CLOSE, GV_BOARD, 0}, [KEYS] = {GV_CLOSE_DAY, GV_KEYS, 0}},
     [REPLAY] = {[BOARD] = ALL, [BYTES] = ALL, [LINKS] = ALL, [KEYS] = ALL, [CENTS] = ALL, [ANSWERS] = ALL},
     [READ_MESSAGE] = {[OUT] = ALL},
     [READ_MATCH] = {[OUT] = ALL},
@@ -44,13 +45,14 @@ static const size_t right[LISTS] = {
 };
 
 /* The parts of the lists that are edited. */
-enum { PARTS = 12 };
+enum { PARTS = 14 };
 static const struct part {
     enum list list;
     size_t from, count;
 } parts[PARTS] = {
     {TABLE, 0, sizeof table_p},
-    {BOARD, 0, GV_BOARD},
+    {BOARD, 0, GV_HAS_CLOSE},
+    {BOARD, GV_HAS_CLOSE, 1},
     {BYTES, 0, GV_MESSAGES},
     {BYTES, GV_STATUSES, GV_MESSAGES},
     {BYTES, GV_CHORDS, GV_MATCHES},
@@ -60,6 +62,7 @@ static const struct part {
     {LINKS, GV_UNITS, GV_MESSAGES},
     {KEYS, 0, GV_MESSAGES},
     {KEYS, GV_DAYS, GV_MESSAGES},
+    {KEYS, GV_CLOSE_DAY, 1},
     {CENTS, 0, GV_MESSAGES},
 };
 
@@ -146,6 +149,8 @@ static uint32_t make_call(const struct lent *lent, enum call call) {
         return gv_add(LENT, lent->first, lent->channel, lent->property, lent->amount, lent->day, lent->unit);
     case STEP:
         return gv_step(LENT, lent->first);
+    case CLOSE:
+        return gv_close(LENT, lent->day);
     case REPLAY:
         return gv_replay(LENT, U16(ROWS), U32(NUMBERS), I64(AMOUNTS), U32(ANSWERS));
     case READ_MESSAGE:
@@ -161,19 +166,24 @@ static uint32_t make_call(const struct lent *lent, enum call call) {
     }
 }
 
+/* Whether a call returns an answer, and not a refusal alone. */
+static int answers(enum call call) { return call == ADD || call == STEP || call == CLOSE; }
+
 /* The refusal in what a call returned, 0 for none. */
 static uint32_t refusal_of(enum call call, uint32_t answer) {
-    if (call == ADD || call == STEP)
+    if (answers(call))
         return GV_WORD(answer) == GV_REFUSED ? GV_VALUE(answer) : 0;
     return answer;
 }
 
-/* Whether an answer that refuses nothing is one of an add, or of a step. */
-static int is_answer(int is_add, uint32_t answer) {
+/* Whether an answer that refuses nothing is one of an add, a close or a step. */
+static int is_answer(enum call call, uint32_t answer) {
     uint32_t word = GV_WORD(answer), value = GV_VALUE(answer);
     int plain = word == GV_MISSED || word == GV_AGAIN || word == GV_ENDED || word == GV_RESTED || word == GV_RESUMED;
-    if (is_add)
+    if (call == ADD)
         return word == GV_ITEM && value < GV_MESSAGES;
+    if (call == CLOSE)
+        return word == GV_CLOSED && value == 0;
     return word > GV_ITEM && word < GV_REFUSED && value < GV_MESSAGES && (!plain || value == 0);
 }
 
@@ -181,9 +191,11 @@ static int is_answer(int is_add, uint32_t answer) {
 static int is_own_refusal(enum call call, uint32_t refusal) {
     switch (call) {
     case ADD:
-        return refusal >= 8 && refusal <= 12;
+        return (refusal >= 8 && refusal <= 12) || refusal == 19;
     case STEP:
         return refusal == 8 || refusal == 13;
+    case CLOSE:
+        return refusal == 20;
     case REPLAY:
         return refusal == 31;
     case READ_MESSAGE:
@@ -223,23 +235,23 @@ static void demand_documented(const struct lent *lent, enum call call, uint32_t 
     else if (!has_lengths(lent, call))
         demand(refusal == 30, "a wrong length is not refused 30", call, answer);
     else if (refusal == 0)
-        demand((call != ADD && call != STEP) || is_answer(call == ADD, answer), "no such answer", call, answer);
+        demand(!answers(call) || is_answer(call, answer), "no such answer", call, answer);
     else
         demand((refusal == 30 && call > OPEN && call < MERGE) || is_own_refusal(call, refusal), "no such refusal", call,
                answer);
 }
 
 static void demand_answers(const struct lent *lent) {
-    uint32_t answers[REPLAYED + 1];
-    memcpy(answers, at[ANSWERS], bytes_of(lent, ANSWERS));
+    uint32_t said[REPLAYED + 1];
+    memcpy(said, at[ANSWERS], bytes_of(lent, ANSWERS));
     const uint16_t *rows = (const uint16_t *)(const void *)lent->bytes[ROWS];
     for (size_t i = 0; i < lent->length[AMOUNTS]; i++) {
-        enum call call = rows[4 * i] != GV_STEP ? ADD : STEP;
-        uint32_t refusal = refusal_of(call, answers[i]);
-        demand(refusal ? is_own_refusal(call, refusal) : is_answer(call == ADD, answers[i]), "no answer of a replay",
-               REPLAY, answers[i]);
+        enum call call = rows[4 * i] == GV_STEP ? STEP : rows[4 * i] == GV_CLOSE ? CLOSE : ADD;
+        uint32_t refusal = refusal_of(call, said[i]);
+        demand(refusal ? is_own_refusal(call, refusal) : is_answer(call, said[i]), "no answer of a replay", REPLAY,
+               said[i]);
     }
-    size_t past = lent->length[AMOUNTS] * sizeof answers[0];
+    size_t past = lent->length[AMOUNTS] * sizeof said[0];
     demand(memcmp(at[ANSWERS] + past, lent->bytes[ANSWERS] + past, bytes_of(lent, ANSWERS) - past) == 0,
            "answers past the last call", REPLAY, 0);
 }
@@ -287,6 +299,23 @@ static void demand_unit(const struct lent *lent, uint32_t answer) {
            "the unit of another message has changed", ADD, answer);
 }
 
+/* The close day that is lent decides of an add once sender and channel are right, and of a close; an accepted close
+ * writes its day. */
+static void demand_closed(const struct lent *lent, enum call call, uint32_t answer) {
+    const uint16_t *board = (const uint16_t *)(const void *)lent->bytes[BOARD];
+    const uint32_t *keys = (const uint32_t *)(const void *)lent->bytes[KEYS];
+    uint32_t close_day = keys[GV_CLOSE_DAY], refusal = refusal_of(call, answer);
+    int is_closed = board[GV_HAS_CLOSE] == 1;
+    if (call == ADD && (refusal == 0 || refusal == 11 || refusal == 12 || refusal == 19))
+        demand((refusal == 19) == (is_closed && lent->day <= close_day), "refused 19 or not", call, answer);
+    if (call == CLOSE && (refusal == 0 || refusal == 20))
+        demand((refusal == 20) == (is_closed && lent->day < close_day), "refused 20 or not", call, answer);
+    if (call == CLOSE && refusal == 0)
+        demand(((const uint16_t *)(const void *)at[BOARD])[GV_HAS_CLOSE] == 1 &&
+                   ((const uint32_t *)(const void *)at[KEYS])[GV_CLOSE_DAY] == lent->day,
+               "the close day is not written", call, answer);
+}
+
 /* After a call that wrote the board it is accepted, if the other lists have their lengths. */
 static void demand_sound(const struct lent *lent, enum call call, uint32_t answer) {
     int64_t quiet = -1;
@@ -304,6 +333,7 @@ static uint32_t checked_call(const struct lent *lent, enum call call, int at_end
     demand_documented(lent, call, answer);
     if (call == ADD && refusal_of(ADD, answer) == 0)
         demand_unit(lent, answer);
+    demand_closed(lent, call, answer);
     if (call == REPLAY && answer == 0)
         demand_answers(lent);
     if (call == MERGE && answer == 0)
@@ -334,7 +364,7 @@ static uint32_t call_twice(const struct lent *lent, enum call call) {
 static void count(const struct lent *lent, enum call call, uint32_t answer) {
     uint32_t refusal = refusal_of(call, answer);
     const uint16_t *board = (const uint16_t *)(const void *)lent->bytes[BOARD];
-    seen[call * 64 + (refusal ? 18 + refusal % 46 : GV_WORD(answer) % 18)]++;
+    seen[call * 64 + (refusal ? 19 + refusal % 45 : GV_WORD(answer) % 19)]++;
     for (int sender = 0; call > OPEN && call < MERGE && refusal == 0 && sender < 8; sender++) {
         const uint16_t *numbers = board + 2 + 21 * sender;
         seen[CALLS * 64 + numbers[0] % 4 * 256 + numbers[8] % 16 * 16 + numbers[9] % 8 * 2 + numbers[1] % 2]++;
@@ -342,21 +372,21 @@ static void count(const struct lent *lent, enum call call, uint32_t answer) {
 }
 
 /* One call of the schedule, by one of eight senders; a byte that steps may step up to eight times, behind one that adds
- * is the unit. */
+ * is the unit. A byte of 255 closes the day behind it. */
 static void play(struct lent *lent) {
     uint8_t byte = take();
-    int is_add = (byte & 24) < 16, times = (byte & 24) == 24 ? 8 : 1;
+    enum call call = byte == 255 ? CLOSE : (byte & 24) < 16 ? ADD : STEP;
+    int times = call == STEP && (byte & 24) == 24 ? 8 : 1;
     lent->first = byte & 7;
     lent->channel = byte >> 3 & 1;
     lent->property = byte >> 5 & 1;
-    lent->day = byte >> 6;
-    lent->unit = is_add ? take() & 1 : 0;
+    lent->day = call == CLOSE ? take() : byte >> 6;
+    lent->unit = call == ADD ? take() & 1 : 0;
     lent->amount = byte;
     for (int i = 0; i < times; i++) {
-        uint32_t answer = make_call(lent, is_add ? ADD : STEP);
-        demand(refusal_of(STEP, answer) ? is_own_refusal(is_add ? ADD : STEP, GV_VALUE(answer))
-                                        : is_answer(is_add, answer),
-               "no answer of a schedule", is_add ? ADD : STEP, answer);
+        uint32_t answer = make_call(lent, call), refusal = refusal_of(call, answer);
+        demand(refusal ? is_own_refusal(call, refusal) : is_answer(call, answer), "no answer of a schedule", call,
+               answer);
     }
 }
 
@@ -457,7 +487,7 @@ static void stretch(struct lent *lent) {
 }
 
 int LLVMFuzzerTestOneInput(const uint8_t *data, size_t size) {
-    static const size_t out_numbers[CALLS] = {1, 1, 1, 1, 1, GV_MESSAGE_NUMBERS, GV_MATCH_NUMBERS, 1, 1, 1};
+    static const size_t out_numbers[CALLS] = {1, 1, 1, 1, 1, 1, GV_MESSAGE_NUMBERS, GV_MATCH_NUMBERS, 1, 1, 1};
     static struct lent lent;
     if (room[0] == NULL)
         make_rooms();
