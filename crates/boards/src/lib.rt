@@ -39,7 +39,7 @@ pub struct Sent {
     pub unit: u16,
 }
 
-// An add by a sender, or a step of a sender.
+// A sender's call: an add, or a step. A close is no sender's.
 pub enum Call {
     Add(u16, Sent),
     Step(u16),

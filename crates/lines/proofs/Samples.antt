@@ -54,10 +54,11 @@ readable =
     row (reads (steps 65535)) "s 0000000000000000000000065535" ∷
     step0 78 (reads (steps 0)) ∷ []
 
--- and what is not: fields too few, too many or empty, signs, other bytes, one more than the most, 19 digits, 81 bytes
+-- and what is not: other letters, fields too few, too many or empty, signs, other bytes, one more than the most, 19
+-- digits, 81 bytes
 abbrev unread : List String
 unread =
-    "" ∷ "a" ∷ "s" ∷ "s " ∷ " s 1" ∷ "s  1" ∷ "s 1 " ∷ "s 1 2" ∷ "ss 1" ∷ "S 1" ∷ "1" ∷
+    "" ∷ "a" ∷ "s" ∷ "s " ∷ " s 1" ∷ "s  1" ∷ "s 1 " ∷ "s 1 2" ∷ "ss 1" ∷ "S 1" ∷ "1" ∷ "c" ∷ "c 5" ∷
     "a 0 1 7" ∷ "a 0 1 7 0 0 0 0" ∷ "a 0 1  0" ∷ "a  0 1 7 0" ∷ "a 0 1 7 0 " ∷ "a 0 1 7 0  5" ∷ "a 0 1 7 0 5 " ∷
     "a 0 1 7 0 5  6" ∷ "a 0 1 7 0  6 7" ∷ "a 0 1 7 0 5 6 " ∷
     "a 0 1 7 +1" ∷ "a 0 1 7 -" ∷ "a 0 1 7 --1" ∷ "a 0 1 7 1-" ∷ "s -1" ∷ "a -0 1 7 0" ∷ "a 0 1 -7 0" ∷
