@@ -7,7 +7,7 @@ use crate::timing::{REPLAY_ROUNDS, least_of, timed};
 use reference::Equality::{self, Property, Unit};
 use reference::board::CONSUMED;
 use reference::look::Wanted;
-use reference::{Answer, Board, Columns, Phase, Rows, State, calls, one_by_one};
+use reference::{Answer, Board, Columns, Phase, Rows, Sent, State, Table, calls, one_by_one};
 use std::hint::black_box;
 
 const SPEED: Target = Target::AtLeast(0.8);
@@ -65,17 +65,22 @@ impl Looks {
         32.min(self.messages / 2)
     }
 
-    /// A board whose senders are about to look for the first member of chord 0.
+    /// A board of messages that all 32 added in turn, whose senders are about to look for the first member of chord 0.
     pub fn board(&self) -> Board {
-        let mut board = Board { messages: self.messages, matches: 1, ..Board::default() };
+        let table = Table::read(&self.table).unwrap();
+        let mut board = Board { matches: 1, ..Board::default() };
+        for at in 0..self.messages {
+            let channel = u16::from(at >= self.senders());
+            board.core_add(&table, at % 32, Sent { channel, ..Sent::default() });
+            board.senders = Default::default();
+            if channel == 1 {
+                (self.put)(&mut board.columns, at.into());
+            }
+        }
         for own in 0..self.senders() {
             let sender = &mut board.senders[usize::from(own)];
             sender.state = State::Working;
             (sender.own, sender.subject, sender.phase) = (Some(own), own, Phase::Look(0));
-        }
-        for at in self.senders()..self.messages {
-            board.columns.channels[usize::from(at)] = 1;
-            (self.put)(&mut board.columns, at.into());
         }
         board
     }

@@ -13,7 +13,8 @@ use std::time::Instant;
 const LINES: usize = 1_000_000;
 const ROUNDS: usize = 41;
 
-/// Adds and steps of any of 32 senders, an add in four; nearly all stand on a full board.
+/// Adds and steps of any of 32 senders, an add in four; before long all of them wait, on a board of 609 messages, and
+/// nearly all lines are refused.
 fn write_input(path: &Path, lines: usize) -> io::Result<()> {
     let mut out = BufWriter::new(File::create(path)?);
     let mut random = Random::new(7);

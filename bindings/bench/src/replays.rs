@@ -37,16 +37,16 @@ pub fn times(table: &[u8], board: &Board, rows: &Rows) -> Times {
 }
 
 pub fn matches() {
-    let side = |sender: u16, message: u16| (sender % 2, u32::from(message / 2 % 16));
+    let side = |place: u16, message: u16| (place % 2, u32::from(message / 2 % 16));
     let (pairs, triples) = (tables::rendezvous(), tables::triples());
     let (morning, of_units) = (tables::morning(Property), tables::morning(Unit));
     let lists = [
-        ("pairs, 2 senders", &pairs, in_turn(&pairs, 2, |sender, _| (sender, 0))),
+        ("pairs, 2 senders at a time", &pairs, in_turn(&pairs, 2, |place, _| (place, 0))),
         ("pairs, 32 senders, 16 properties", &pairs, in_turn(&pairs, 32, side)),
-        ("triples, 3 senders", &triples, in_turn(&triples, 3, |sender, _| (sender, 0))),
-        ("contended morning, 32 senders", &morning, by_chance(&morning, 4, 0, 0, 1)),
-        ("the same with 30 days", &morning, by_chance(&morning, 4, 30, 0, 1)),
-        ("the same with 30 days and 4 units", &of_units, by_chance(&of_units, 4, 30, 4, 1)),
+        ("triples, 3 senders at a time", &triples, in_turn(&triples, 3, |place, _| (place, 0))),
+        ("contended morning, 32 senders", &morning, by_chance(&morning, 4, 0, 0, 9564)),
+        ("the same with 30 days", &morning, by_chance(&morning, 4, 30, 0, 3208)),
+        ("the same with 30 days and 4 units", &of_units, by_chance(&of_units, 4, 30, 4, 8018)),
         ("steps of idle senders, refused", &pairs, Schedule { rows: steps_of_each(32, 256), matches: 0 }),
     ];
     let measured: Vec<_> =

@@ -4,6 +4,7 @@ use crate::random::Random;
 use reference::{Answer, Board, Call, Rows, Sent, State, Table};
 
 const MESSAGES: u16 = 1024;
+const SENDERS: u16 = 32;
 
 /// Calls in rows, and the matches that they make.
 #[derive(Default)]
@@ -20,24 +21,28 @@ impl Schedule {
     }
 }
 
-/// Senders in turn until the board is full and quiet: who may step steps, who is idle adds what `next` says of the
-/// sender and the number of messages so far.
-pub fn in_turn(bytes: &[u8], senders: u16, next: impl Fn(u16, u16) -> (u16, u32)) -> Schedule {
+/// So many senders at a time, in turn, until the board is full and quiet. At each of their places who may step steps,
+/// and where it is idle the sender so many further on adds what `next` says of the place and the number of messages so
+/// far; so all senders add equally many.
+pub fn in_turn(bytes: &[u8], at_a_time: u16, next: impl Fn(u16, u16) -> (u16, u32)) -> Schedule {
     let table = Table::read(bytes).unwrap();
     let (mut board, mut schedule) = (Board::default(), Schedule::default());
+    let mut senders: Vec<u16> = (0..at_a_time).collect();
     let mut resting = 0;
-    for sender in (0..senders).cycle() {
-        if resting == senders {
+    for place in (0..at_a_time).cycle() {
+        if resting == at_a_time {
             break;
         }
         resting += 1;
-        let at = board.senders[sender as usize];
+        let sender = &mut senders[usize::from(place)];
+        let at = board.senders[usize::from(*sender)];
         if !at.at_rest() {
-            schedule.play(&table, &mut board, Call::Step { sender });
+            schedule.play(&table, &mut board, Call::Step { sender: *sender });
         } else if at.state == State::Idle && board.messages < MESSAGES {
-            let (channel, property) = next(sender, board.messages);
+            *sender = (*sender + at_a_time) % SENDERS;
+            let (channel, property) = next(place, board.messages);
             let sent = Sent { channel, property, cents: 5, ..Sent::default() };
-            schedule.play(&table, &mut board, Call::Add { sender, sent });
+            schedule.play(&table, &mut board, Call::Add { sender: *sender, sent });
         } else {
             continue;
         }
@@ -48,7 +53,8 @@ pub fn in_turn(bytes: &[u8], senders: u16, next: impl Fn(u16, u16) -> (u16, u32)
 }
 
 /// Senders by chance, 32 of them, until the board is full and quiet; few properties, so that they compete. Each message
-/// is of one of so many days and units, or of day or unit 0 without any.
+/// is of one of so many days and units, or of day or unit 0 without any. The seed is one by which each sender adds 16
+/// or more.
 pub fn by_chance(bytes: &[u8], properties: usize, days: usize, units: usize, seed: u64) -> Schedule {
     let table = Table::read(bytes).unwrap();
     let (mut board, mut schedule) = (Board::default(), Schedule::default());
@@ -82,14 +88,13 @@ fn channel_by_chance(table: &Table, board: &Board, random: &mut Random) -> u16 {
     }
 }
 
-/// A quiet board of so many messages, sent by senders 0 and 1 in turn as pairs that match.
+/// A quiet board of so many messages, sent by all senders in turn as pairs that match.
 pub fn pairs(bytes: &[u8], messages: u16) -> Board {
     let table = Table::read(bytes).unwrap();
     let mut board = Board::default();
     for message in 0..messages {
-        let sender = message % 2;
-        let sent = Sent { channel: sender, cents: 5, ..Sent::default() };
-        board.core_call(&table, Call::Add { sender, sent });
+        let sent = Sent { channel: message % 2, cents: 5, ..Sent::default() };
+        board.core_call(&table, Call::Add { sender: message % SENDERS, sent });
         while let Some(sender) = board.first_busy() {
             board.core_step(&table, sender);
         }

@@ -10,14 +10,14 @@ use std::time::Instant;
 const RENDEZVOUS: [u8; 20] = [2, 0, 1, 0, 2, 0, 12, 0, 14, 0, 18, 0, 1, 1, 0, 0, 2, 1, 0, 1];
 const PAIRS: u16 = 512;
 
-/// Calls of pairs that meet one after the other, until the board is full.
+/// Calls of pairs that meet one after the other, of all 32 senders in turn, until the board is full.
 fn rendezvous() -> Vec<Call> {
     let table = Table::read(&RENDEZVOUS).unwrap();
     let (mut board, mut calls) = (Board::default(), Vec::new());
     for pair in 0..PAIRS {
-        for sender in [0, 1] {
-            let sent = Sent { channel: sender, property: pair.into(), cents: 1, ..Sent::default() };
-            let call = Call::Add { sender, sent };
+        for channel in [0, 1] {
+            let sent = Sent { channel, property: pair.into(), cents: 1, ..Sent::default() };
+            let call = Call::Add { sender: (2 * pair + channel) % 32, sent };
             calls.push(call);
             board.core_call(&table, call);
             while let Some(sender) = board.first_busy() {
