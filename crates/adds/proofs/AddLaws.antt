@@ -8,6 +8,7 @@ use lib.ListN.{getD, set}
 use lib.Seq.{getD-append-seam}
 use Rattle.model.specs.Tables.{Table}
 use Rattle.model.specs.Boards.{Message, Sent, noMessage}
+use Rattle.model.specs.Shares.{tally}
 use Rattle.model.specs.Adds.{newMessage, newSender, added}
 use Rattle.columns.specs.Columns.{Columns, messagesFrom, columnsOf}
 use Rattle.columns.specs.MatchColumns.{MatchColumns}
@@ -18,13 +19,14 @@ use Rattle.boards.specs.Boards.{HeldBoard, boardIn}
 use Rattle.boards.proofs.SenderLaws.{set-sender}
 use Rattle.adds.proofs.MessageLaws.{Room, keyed, close-kept, message-added}
 
--- the board with sender i and one message more
+-- the board with sender i and one message more, which it has added
 abbrev pub withMessage : HeldBoard → ℕ → DD.Sender → HeldBoard
 withMessage b i d = record {
   messages = b .messages + 1;
   matches = b .matches;
   senders = set (b .senders) i d;
   closed = b .closed;
+  tallies = set (b .tallies) i (tally (b .tallies) i + 1);
 }
 
 module _ (t : Table) (b : HeldBoard) (i : ℕ) (x : Sent) (d : DD.Sender) (c : Columns) (m : MatchColumns)
@@ -62,4 +64,5 @@ module _ (t : Table) (b : HeldBoard) (i : ℕ) (x : Sent) (d : DD.Sender) (c : C
     set-sender t (b .senders) i d,
     f is channel-is,
     length-messages c 0 n,
+    add-one (tally (b .tallies) i),
   )

@@ -5,10 +5,10 @@ use lib.Dec.{leb}
 use lib.ListN.{getD, List·getD-map}
 use Rattle.model.specs.Tables.{Table}
 use Rattle.model.specs.Boards.{Sent}
+use Rattle.model.specs.Shares.{hasRoom}
 use Rattle.model.specs.Adds.{addRefusal}
 use Rattle.columns.specs.Columns.{Columns}
 use Rattle.columns.specs.MatchColumns.{MatchColumns}
-use Rattle.columns.proofs.Messages.{length-messages}
 use Rattle.state.specs.Views.{senderIn, idleIs}
 use Rattle.state.proofs.StateLaws.{idle-is}
 use Rattle.boards.specs.Boards.{HeldBoard, boardIn, closedIn, zeroSender}
@@ -17,8 +17,8 @@ use Rattle.adds.specs.Refusals.{refusalBy}
 pub refusal-is : (t : Table) (b : HeldBoard) (c : Columns) (m : MatchColumns) (i : ℕ) (x : Sent)
     → addRefusal t (boardIn t b c m) i x
     ≡ refusalBy t i (idleIs (getD (b .senders) i zeroSender .state)) (leb (closedIn b (c .keys)) (x .day))
-    (x .channel) (x .cents) (b .messages)
+    (x .channel) (x .cents) (hasRoom (b .tallies) i)
 unfolding addRefusal
 refusal-is t b c m i x =
     let d = getD (b .senders) i zeroSender in
-    rw (List·getD-map (senderIn t) (b .senders) i zeroSender, idle-is (d .state) _, length-messages c 0 (b .messages))
+    rw (List·getD-map (senderIn t) (b .senders) i zeroSender, idle-is (d .state) _)

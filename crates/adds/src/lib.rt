@@ -19,11 +19,11 @@ fn amount_ok(x: i64) -> bool
     (-999999999999 <= x) & (x <= 999999999999)
 }
 
-// The first refusal of an add of x by sender i, idle or not, timely or of a closed day, to a board of n messages, in
-// the order checked, or 0.
-pub fn add_refusal(table: &[u8], i: u16, idle: bool, timely: bool, x: Sent, n: u16) -> u8
+// The first refusal of an add of x by sender i, idle or not, timely or of a closed day, with room or not, in the order
+// checked, or 0.
+pub fn add_refusal(table: &[u8], i: u16, idle: bool, timely: bool, x: Sent, room: bool) -> u8
     requires { ⌜ tableRefusal (now table) ≡ 0 ⌝ }
-    ensures { λ r. ⌜ r ≡ refusalBy (tableOf (now (table .entry))) i idle timely (x .channel) (x .cents) n ⌝ }
+    ensures { λ r. ⌜ r ≡ refusalBy (tableOf (now (table .entry))) i idle timely (x .channel) (x .cents) room ⌝ }
 {
     if i >= 32 {
         return 8;
@@ -40,8 +40,8 @@ pub fn add_refusal(table: &[u8], i: u16, idle: bool, timely: bool, x: Sent, n: u
     if !amount_ok(x.cents) {
         return 11;
     }
-    if n >= 1024 {
-        return 12;
+    if !room {
+        return 26;
     }
     0
 }

@@ -16,6 +16,7 @@ use Rattle.model.proofs.Lists.{nth-isIn}
 use Rattle.model.proofs.Pigeon.{pigeon}
 use Rattle.model.proofs.Grows.{apart}
 use Rattle.model.proofs.Matches.{WillConsume, consume-holds}
+use Rattle.model.proofs.Ranges.{messages-few}
 use Rattle.model.proofs.Invariant.{Inv}
 use Rattle.alone.proofs.Rests.{Bounded}
 
@@ -43,10 +44,10 @@ module _ (t : Table) (b : Board) (v : Inv t b) (f : Bounded b) (n : ℕ) (on : n
 
     low : (k : ℕ) → k ≤ 1024 → (k ≡ 1024) ⊎ (k ≢ 1024) → seat k < 1024
     unfolding seat
-    low k l (inl e) = rw (eq-eqb k 1024 e) (omega (arith, v .ranges .messages-few))
+    low k l (inl e) = rw (eq-eqb k 1024 e) (omega (arith, messages-few (v .ranges)))
     low k l (inr e) =
         let z = v .matches .on-board (first k) k (omega arith) (first-in k (omega arith)) in
-        rw (ne-eqb k 1024 e) (omega (arith, v .ranges .messages-few, z))
+        rw (ne-eqb k 1024 e) (omega (arith, messages-few (v .ranges), z))
 
     one : (j k : ℕ) → j ≤ 1024 → k ≤ 1024 → (j ≡ 1024) ⊎ (j ≢ 1024) → (k ≡ 1024) ⊎ (k ≢ 1024) → seat j ≡ seat k → j ≡ k
     unfolding seat

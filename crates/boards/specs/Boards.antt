@@ -14,12 +14,14 @@ use Rattle.state.specs.declared.Sender as DD
 use Rattle.state.specs.Views.{senderIn}
 use Rattle.boards.specs.Layout.{closeDayAt}
 
--- the board without its columns: how many messages and matches there are, the senders, and whether a day is closed
+-- the board without its columns: how many messages and matches there are, the senders, whether a day is closed, and
+-- how many messages each sender has added
 pub record HeldBoard : Type 0 where
   pub messages : ℕ
   pub matches : ℕ
   pub senders : List DD.Sender
   pub closed : Bool
+  pub tallies : List ℕ
 
 -- rule 9.8: the close day plus 1; 0 where no day is closed
 abbrev pub closedBy : Bool → ℕ → ℕ
@@ -37,6 +39,7 @@ boardIn t b c m = record {
   senders = map (senderIn t) (b .senders);
   backoffs = builtinBackoffs;
   closed = closedIn b (c .keys);
+  tallies = b .tallies;
 }
 
 -- what the code reads past the last sender

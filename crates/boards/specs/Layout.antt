@@ -12,12 +12,16 @@ use Rattle.columns.specs.Columns.{Columns, columnsOf, daysAt}
 use Rattle.columns.specs.MatchColumns.{MatchColumns, matchesOf}
 use Rattle.boards.specs.Parts.{part}
 
--- board: 0 messages, 1 matches, then 21 numbers for each of 32 senders, 674 whether a day is closed
+-- board: 0 messages, 1 matches, then 21 numbers for each of 32 senders, 674 whether a day is closed, 675 how many
+-- messages each sender has added
 abbrev pub closedAt : ℕ
 closedAt = 674
 
+abbrev pub talliesAt : ℕ
+talliesAt = 675
+
 abbrev pub boardLen : ℕ
-boardLen = 675
+boardLen = 707
 
 -- bytes: 0 channels, 1,024 statuses, 2,048 the matches' chords
 abbrev pub statusesAt : ℕ

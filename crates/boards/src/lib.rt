@@ -1,12 +1,12 @@
 // The board as the lists that a host lends: where its columns stand in them; and the calls.
 ghost use mathlib.Core.Path.{_≡_};
-ghost use lib.ListN.{length};
-ghost use Rattle.boards.specs.Layout.{bytesLen, linksLen};
+ghost use lib.ListN.{length, drop};
+ghost use Rattle.boards.specs.Layout.{boardLen, talliesAt, bytesLen, linksLen};
 ghost use Rattle.boards.specs.Layout.{channelsIn, statusesIn, chordsIn, matchedIn, wakersIn, membersIn};
 ghost use Rattle.boards.specs.Layout.{unitsIn};
 
 // Lengths, and the places of columns that are not the first of their list.
-pub const BOARD_LEN: usize = 675;
+pub const BOARD_LEN: usize = 707;
 
 pub const BYTES_LEN: usize = 3072;
 
@@ -28,6 +28,8 @@ pub const UNITS: usize = 10240;
 
 pub const CLOSED: usize = 674;
 
+pub const TALLIES: usize = 675;
+
 pub const CLOSE_DAY: usize = 2048;
 
 // A message as it is added.
@@ -43,6 +45,14 @@ pub struct Sent {
 pub enum Call {
     Add(u16, Sent),
     Step(u16),
+}
+
+// How many messages each sender has added.
+pub fn tallies(board: &[u16]) -> &[u16]
+    requires { ⌜ length (now board) ≡ boardLen ⌝ }
+    ensures { λ r. ⌜ (now r ≡ drop talliesAt (now (board .entry))) × (length (now r) ≡ 32) ⌝ }
+{
+    &board[TALLIES..BOARD_LEN]
 }
 
 // The messages' channels.

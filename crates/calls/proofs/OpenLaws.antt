@@ -22,14 +22,14 @@ use Rattle.boards.specs.Layout.{Lists, boardLen, Sized, columnsIn, matchesIn}
 use Rattle.rows.specs.Numbers.{boardNumbers, encodes}
 use Rattle.rows.specs.Decoded.{boardFrom}
 use Rattle.rows.specs.Fits.{SenderFits, SendersFit, BoardFits}
-use Rattle.rows.specs.Fresh.{freshSender}
+use Rattle.rows.specs.Fresh.{freshSender, freshBoard}
 use Rattle.rows.proofs.Encoded.{encoded-ok, board-back}
 use Rattle.refusals.specs.Judged.{statusesOk}
 use Rattle.refusals.specs.Held.{heldOf, Accepted}
 use Rattle.refusals.specs.Calls.{boardOf}
 use Rattle.refusals.proofs.CallLaws.{accepts}
 use Rattle.refusals.proofs.HeldLaws.{columns-sized}
-use Rattle.calls.specs.Opens.{freshBoard, openNumber, openedNumbers}
+use Rattle.calls.specs.Opens.{openNumber, openedNumbers}
 use Rattle.calls.proofs.ReadLaws.{none-first}
 
 module _ (s board : List ℕ) where
@@ -75,6 +75,7 @@ fresh-fits = record {
   all = refl;
   each = same-fit 32 freshSender
       (record { chord = omega arith; phase = tt; chosen = refl; retries = omega arith });
+  tallied = refl;
 }
 
 module _ (s : List ℕ) (l : Lists) where

@@ -1,19 +1,14 @@
 -- Open (rule 6.3): the numbers of an empty board (rule 1.10); the other lists may hold anything.
-use mathlib.Core.Bool.{false}
 use mathlib.Core.List.{List}
 use Prim.Native.Nat.{ℕ}
 use lib.Dec.{eqb}
-use lib.ListN.{length, replicate}
+use lib.ListN.{length}
 use Rattle.model.specs.Basics.{unless, firstOf}
 use Rattle.model.specs.Layout.{tableRefusal}
-use Rattle.boards.specs.Boards.{HeldBoard}
 use Rattle.boards.specs.Layout.{boardLen}
 use Rattle.rows.specs.Numbers.{boardNumbers}
-use Rattle.rows.specs.Fresh.{freshSender}
+use Rattle.rows.specs.Fresh.{freshBoard}
 use Rattle.calls.specs.Reads.{answered}
-
-abbrev pub freshBoard : HeldBoard
-freshBoard = record { messages = 0; matches = 0; senders = replicate 32 freshSender; closed = false }
 
 -- rule 6.3: the table's refusal, then 30 for numbers of another length than a board's
 unfoldable pub openNumber : List ℕ → List ℕ → ℕ

@@ -9,7 +9,13 @@ use Rattle.boards.specs.Layout.{closeDayAt}
 
 -- a day is closed
 abbrev pub closedBoard : HeldBoard → HeldBoard
-closedBoard b = record { messages = b .messages; matches = b .matches; senders = b .senders; closed = true }
+closedBoard b = record {
+  messages = b .messages;
+  matches = b .matches;
+  senders = b .senders;
+  closed = true;
+  tallies = b .tallies;
+}
 
 -- what is held once the days up to this one are closed
 abbrev pub closedHeld : Held → ℕ → Held

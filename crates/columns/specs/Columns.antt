@@ -70,6 +70,7 @@ pub record Others : Type 0 where
   pub senders : List Sender
   pub backoffs : List ℕ
   pub closed : ℕ
+  pub tallies : List ℕ
 
 abbrev pub columnsBy : List ℕ → List ℕ → List ℕ → Others → Columns
 columnsBy channels keys statuses o =
@@ -83,6 +84,7 @@ boardBy channels keys statuses n o = record {
   senders = o .senders;
   backoffs = o .backoffs;
   closed = o .closed;
+  tallies = o .tallies;
 }
 
 -- the columns that a look reads, of 1,024 records, n of which are messages

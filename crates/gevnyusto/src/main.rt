@@ -178,7 +178,7 @@ fn main() {
     let mut file = [0u8; 413];
     let n = load(&mut file);
     let table = &file[..n];
-    let mut board = [0u16; 675];
+    let mut board = [0u16; 707];
     let number = calls::open(table, &mut board);
     if number != 0 {
         refuse(number);

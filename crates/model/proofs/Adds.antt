@@ -18,10 +18,12 @@ use Rattle.model.specs.Effects.{none, turn, Change, records, signals, ma
 use Rattle.model.specs.Jobs.{newPass}
 use Rattle.model.specs.Steps.{more, resumed}
 use Rattle.model.specs.Holdings.{Holds}
+use Rattle.model.specs.Shares.{hasRoom, oneMore}
 use Rattle.model.specs.Adds.{added, newSender, newMessage, centsOk, dayOpen, addRefusal}
 use Rattle.model.specs.Demands.{Same-but-signal}
 use Rattle.model.proofs.Tests.{same?, never, tests, unless-none}
 use Rattle.model.proofs.Lists.{nth-isIn}
+use Rattle.model.proofs.Shares.{Shares, shares-added}
 use Rattle.model.proofs.Words.{isRecord}
 use Rattle.model.proofs.Frame.{unaltered}
 use Rattle.model.proofs.Grows.{SameSent, Grows}
@@ -127,9 +129,14 @@ module _ (t : Table) (b : Board) (i : ℕ) (new : Sent) where
   unfolding added
   senders-now = length-set (b .senders) i _
 
+  pub shares-now : Shares (b .tallies) last → i < 32 → hasRoom (b .tallies) i ≡ true
+      → Shares (b′ .tallies) (length (b′ .messages))
+  unfolding added
+  shares-now s l e = subst⁻¹ (Shares (oneMore (b .tallies) i)) messages-now (shares-added s i l e)
+
   module _ (v : Inv t b) (in-senders : i < length (b .senders)) (was-idle : senderAt b i .state ≡ idle)
       (channel-in : new .channel < length (t .kinds)) (cents-in : centsOk (new .cents) ≡ true)
-      (room : last < 1024) where
+      (l : i < 32) (room : hasRoom (b .tallies) i ≡ true) where
     local : SenderOk t b′ d
     local = record {
       own-in = omega (arith, messages-now);
@@ -186,7 +193,7 @@ module _ (t : Table) (b : Board) (i : ℕ) (new : Sent) where
         tells-new = λ x m z. never (ap isRecord z);
       };
       ranges = record {
-        few = omega (arith, messages-now);
+        shares = shares-now (v .ranges .shares) l room;
         new-sent = λ n z h. let e : n ≡ last = omega (arith, messages-now) in
             subst⁻¹ (λ (m : Message). (m .sent .channel < length (t .kinds)) × (centsOk (m .sent .cents) ≡ true))
             (ap (messageAt b′) e ∙ new-message) (channel-in, cents-in);
@@ -205,7 +212,7 @@ is-idle blocked e = never e
 
 pub add-accepted : (t : Table) (b : Board) (i : ℕ) (x : Sent) → addRefusal t b i x ≡ 0
     → (i < 32) × (senderAt b i .state ≡ idle) × (x .channel < length (t .kinds)) × (centsOk (x .cents) ≡ true)
-    × (length (b .messages) < 1024)
+    × (hasRoom (b .tallies) i ≡ true)
 unfolding addRefusal
 add-accepted t b i x e =
     let p = unless-none (ltb i 32) 7 _ e in
@@ -213,5 +220,5 @@ add-accepted t b i x e =
     let r = unless-none (ltb (x .channel) (length (t .kinds))) 9 _ (q .1) in
     let o = unless-none (dayOpen b (x .day)) 18 _ (r .1) in
     let s = unless-none (centsOk (x .cents)) 10 _ (o .1) in
-    let u = unless-none (ltb (length (b .messages)) 1024) 11 _ (s .1) in
-    (ltb-true _ _ (p .0), is-idle _ (q .0), ltb-true _ _ (r .0), s .0, ltb-true _ _ (u .0))
+    let u = unless-none (hasRoom (b .tallies) i) 25 _ (s .1) in
+    (ltb-true _ _ (p .0), is-idle _ (q .0), ltb-true _ _ (r .0), s .0, u .0)

@@ -1,5 +1,5 @@
 -- What a step leaves at each place: one law for messages, one for senders.
-use mathlib.Core.Path.{_≡_, ap, refl, _∙_, sym}
+use mathlib.Core.Path.{_≡_, ap, refl, _∙_, sym, subst⁻¹}
 use mathlib.Core.Logic.{_⊎_, _≢_, inl, inr}
 use mathlib.Core.Bool.{false}
 use mathlib.Core.List.{List, map, [], _∷_}
@@ -16,6 +16,7 @@ use Rattle.model.specs.Effects.{Change, none, turn, turned, records, cla
 use Rattle.model.specs.Effects.{messagesAfter, signalledSender, sendersAfter, matchesAfter}
 use Rattle.model.specs.Demands.{Same-but-signal}
 use Rattle.model.proofs.Tests.{same?, never}
+use Rattle.model.proofs.Shares.{Shares}
 use Rattle.model.proofs.Words.{isRecord}
 
 -- the message at a place after a change
@@ -51,6 +52,12 @@ messages-count b i s = go (s .change)
     go (turn n τ) = length-set (b .messages) n _
     go (records n r) = length-set (b .messages) n _
     go (signals n) = refl
+
+-- a step adds nothing
+pub shares-still : (b : Board) (i : ℕ) (s : Effect) → Shares (b .tallies) (length (b .messages))
+    → Shares (apply b i s .tallies) (length (apply b i s .messages))
+unfolding apply
+shares-still b i s h = subst⁻¹ (Shares (b .tallies)) (messages-count b i s) h
 
 -- what was sent stays
 pub sents-after : (b : Board) (i : ℕ) (s : Effect)

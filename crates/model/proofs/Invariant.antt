@@ -11,7 +11,7 @@ use Rattle.model.specs.Effects.{Change, Effect, records, valueOf, apply}
 use Rattle.model.specs.Holdings.{Holds}
 use Rattle.model.proofs.Tests.{never}
 use Rattle.model.proofs.Words.{isRecord}
-use Rattle.model.proofs.Frame.{senders-count, messages-count}
+use Rattle.model.proofs.Frame.{senders-count, messages-count, shares-still}
 use Rattle.model.proofs.Grows.{Lawful}
 use Rattle.model.proofs.Passage.{Passage, step-passage}
 use Rattle.model.proofs.Local.{SenderOk, locals-after, Full}
@@ -110,7 +110,7 @@ step-call t b i s l v f = record {
   new-obliged = λ q ns j m h z. absurd (omega (arith, m .inside j h, messages-count b i s));
   answering = f .answering;
   ranges = record {
-    few = omega (arith, v .ranges .messages-few, messages-count b i s);
+    shares = shares-still b i s (v .ranges .shares);
     new-sent = λ n z h. absurd (omega (arith, messages-count b i s));
     new-chord = λ x m e. (f .recorded .subject x m e .1 .selection .chord-in, f .recorded .room x m e);
   };

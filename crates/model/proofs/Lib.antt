@@ -6,6 +6,7 @@ pub mod Lists
 pub mod Parts
 pub mod Walks
 pub mod CentsTest
+pub mod Shares
 -- Tables: what accepted bytes say, and bytes written and read again
 pub mod Accepted
 pub mod AcceptedChords
@@ -67,6 +68,7 @@ pub mod SoundKept
 -- Beside the demand
 pub mod StepFrame
 pub mod StaysClosed
+pub mod FairShares
 pub mod QuietExactly
 pub mod NoChords
 pub mod Samples

@@ -1,4 +1,4 @@
--- The model refuses a call by 20 at most, an add by its first ground.
+-- The model refuses a call by 26 at most, an add by its first ground.
 use mathlib.Core.Path.{_≡_, refl}
 use mathlib.Core.Bool.{Bool, true, false}
 use Prim.Native.Nat.{ℕ, zero, suc, _≤_, _<_}
@@ -13,12 +13,14 @@ use Rattle.model.specs.Boards.{Board, Sent, State, idle, working, blocke
 use Rattle.model.specs.Effects.{Said, Outcome, refused, does, numberOf, wordOf}
 use Rattle.model.specs.Effects.{Item, Looked, Claimed, Lost, Reverted, Matched, Consumed, Told, Woke, Freed}
 use Rattle.model.specs.Effects.{Signalled, Answered, Refused, Missed, Again, Ended, Rested, Resumed, Closed}
+use Rattle.model.specs.Shares.{hasRoom}
 use Rattle.model.specs.Adds.{addRefusal, centsOk, dayOpen}
 use Rattle.model.specs.Closes.{closeRefusal}
 use Rattle.model.specs.Steps.{stepBy, stateStep, senderStep, blockedStep}
 use Rattle.model.specs.Pools.{Call, adds, steps, closes, answerTo, addAnswer, stepAnswer, closeAnswer}
 use Rattle.model.specs.Orders.{Add-order}
 use Rattle.model.proofs.Tests.{tests}
+use Rattle.model.proofs.Shares.{no-room, is-room}
 use Rattle.model.proofs.Words.{OutcomeSpeaks, step-speaks}
 
 -- a word that is no refusal has no number
@@ -43,11 +45,11 @@ no-number Resumed e = refl
 no-number Closed e = refl
 no-number (Refused f) e = absurd (omega tests)
 
-unless-few : (u : Bool) (n next : ℕ) → n ≤ 20 → next ≤ 20 → unless u n next ≤ 20
+unless-few : (u : Bool) (n next : ℕ) → n ≤ 26 → next ≤ 26 → unless u n next ≤ 26
 unless-few true n next l m = m
 unless-few false n next l m = l
 
-add-few : (t : Table) (b : Board) (i : ℕ) (x : Sent) → addRefusal t b i x ≤ 20
+add-few : (t : Table) (b : Board) (i : ℕ) (x : Sent) → addRefusal t b i x ≤ 26
 unfolding addRefusal
 add-few t b i x =
     unless-few (ltb i 32) 8 _ (omega arith)
@@ -55,9 +57,9 @@ add-few t b i x =
     (unless-few (ltb (x .channel) (length (t .kinds))) 10 _ (omega arith)
     (unless-few (dayOpen b (x .day)) 19 _ (omega arith)
     (unless-few (centsOk (x .cents)) 11 _ (omega arith)
-    (unless-few (ltb (length (b .messages)) 1024) 12 0 (omega arith) (omega arith))))))
+    (unless-few (hasRoom (b .tallies) i) 26 0 (omega arith) (omega arith))))))
 
-close-few : (b : Board) (day : ℕ) → closeRefusal b day ≤ 20
+close-few : (b : Board) (day : ℕ) → closeRefusal b day ≤ 26
 unfolding closeRefusal
 close-few b day = unless-few (leb (b .closed) (suc day)) 20 0 (omega arith) (omega arith)
 
@@ -88,13 +90,13 @@ add-order t b i x = record {
     le-leb (b .closed) (x .day) d,
     cents-over (x .cents) c,
   );
-  full = λ h s k d c n. rw (
+  no-room = λ h s k d c m n. rw (
     lt-ltb i 32 h,
     s,
     lt-ltb (x .channel) (length (t .kinds)) k,
     le-leb (b .closed) (x .day) d,
     cents-in (x .cents) c,
-    le-ltb (length (b .messages)) 1024 n,
+    no-room (b .tallies) i m n,
   );
   accepted = λ h s k d c n. rw (
     lt-ltb i 32 h,
@@ -102,12 +104,12 @@ add-order t b i x = record {
     lt-ltb (x .channel) (length (t .kinds)) k,
     le-leb (b .closed) (x .day) d,
     cents-in (x .cents) c,
-    lt-ltb (length (b .messages)) 1024 n,
+    is-room (b .tallies) i n,
   );
 }
 
 abbrev Few : Outcome → Type 0
-Few (refused f) = f ≤ 20
+Few (refused f) = f ≤ 26
 Few (does e) = Unit {0}
 
 step-few : (t : Table) (b : Board) (i : ℕ) → Few (stepBy t b i)
@@ -127,19 +129,19 @@ step-few t b i = at (leb 32 i)
     at true = omega arith
     at false = by (senderAt b i .state)
 
-pub answer-few : (t : Table) (b : Board) (k : Call) → numberOf (answerTo t b k .said) ≤ 20
+pub answer-few : (t : Table) (b : Board) (k : Call) → numberOf (answerTo t b k .said) ≤ 26
 answer-few t b (adds i x) = by (addRefusal t b i x) (add-few t b i x)
   where
-    by : (n : ℕ) → n ≤ 20 → numberOf (addAnswer t b i x n .said) ≤ 20
+    by : (n : ℕ) → n ≤ 26 → numberOf (addAnswer t b i x n .said) ≤ 26
     by zero l = omega arith
     by (suc f) l = l
 answer-few t b (steps i) = by (stepBy t b i) (step-few t b i) (step-speaks t b i)
   where
-    by : (o : Outcome) → Few o → OutcomeSpeaks o → numberOf (stepAnswer b i o .said) ≤ 20
+    by : (o : Outcome) → Few o → OutcomeSpeaks o → numberOf (stepAnswer b i o .said) ≤ 26
     by (refused f) l s = l
     by (does e) l s = omega (arith, no-number (e .said) (s .unrefused))
 answer-few t b (closes day) = by (closeRefusal b day) (close-few b day)
   where
-    by : (n : ℕ) → n ≤ 20 → numberOf (closeAnswer b day n .said) ≤ 20
+    by : (n : ℕ) → n ≤ 26 → numberOf (closeAnswer b day n .said) ≤ 26
     by zero l = omega arith
     by (suc f) l = l

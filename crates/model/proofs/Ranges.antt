@@ -1,4 +1,4 @@
--- Counts, channels, cents and match numbers stay in range.
+-- Shares, channels, cents and match numbers stay in range.
 use mathlib.Core.Path.{_≡_, refl}
 use mathlib.Core.Bool.{true, Bool, false}
 use Prim.Native.Nat.{_≤_, ℕ, _<_, zero, suc}
@@ -10,21 +10,25 @@ use Rattle.model.specs.Tables.{Table}
 use Rattle.model.specs.Boards.{Board, channelOf, messageAt, matchAt, Match, Sender}
 use Rattle.model.specs.Effects.{Change, records, claims, frees, consumes, resumes, wakes-by}
 use Rattle.model.specs.Adds.{centsOk}
+use Rattle.model.proofs.Shares.{Shares, shares-fit}
 use Rattle.model.proofs.Passage.{Passage, After, same, grows, turned-by, MatchIs, old-match, new-match}
 use Rattle.model.proofs.Passage.{match-is}
 use Rattle.model.proofs.Notes.{NotesKept, writes-right}
 
 pub record Ranges (t : Table) (b : Board) : Type 0 where
-  pub messages-few : length (b .messages) ≤ 1024
+  pub shares : Shares (b .tallies) (length (b .messages))
   pub matches-few : length (b .matches) ≤ 1024
   pub sent-in : (n : ℕ) → n < length (b .messages)
       → (channelOf b n < length (t .kinds)) × (centsOk (messageAt b n .sent .cents) ≡ true)
   pub match-in : (n : ℕ) → messageAt b n .match ≤ length (b .matches)
   pub chord-in : (k : ℕ) → k < length (b .matches) → matchAt b k .chord < length (t .chords)
 
+pub messages-few : {t : Table} {b : Board} → Ranges t b → length (b .messages) ≤ 1024
+messages-few r = shares-fit (r .shares)
+
 -- what a call owes: new messages are in range, and a new match
 pub record RangesKept (t : Table) (b b′ : Board) (c : Change) : Type 0 where
-  pub few : length (b′ .messages) ≤ 1024
+  pub shares : Shares (b′ .tallies) (length (b′ .messages))
   pub new-sent : (n : ℕ) → length (b .messages) ≤ n → n < length (b′ .messages)
       → (channelOf b′ n < length (t .kinds)) × (centsOk (messageAt b′ n .sent .cents) ≡ true)
   pub new-chord : (x : ℕ) (m : Match) → c ≡ records x m → (m .chord < length (t .chords)) × (length (b .matches) < 1024)
@@ -55,7 +59,7 @@ module _ {t : Table} {b b′ : Board} {i : ℕ} {c : Change} {d : Sender} (p : P
 
   pub ranges-after : Ranges t b′
   ranges-after = record {
-    messages-few = k .few;
+    shares = k .shares;
     matches-few = few-matches _ refl;
     sent-in = λ n h. sent-now n h _ refl;
     match-in = λ n. match-now n (p .after n);

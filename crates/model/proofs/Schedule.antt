@@ -19,6 +19,7 @@ use Rattle.model.specs.Pools.{Pool, emptyPool, Call, answerTo, adds, add
 use Rattle.model.specs.Pools.{closeAnswer, matchReads, afterAll, playedAll, history}
 use Rattle.model.specs.Demands.{boardAfter, poolAfter, finalReads}
 use Rattle.model.proofs.Tests.{never}
+use Rattle.model.proofs.Shares.{none-added, no-tally}
 use Rattle.model.proofs.AcceptedChords.{TableOk}
 use Rattle.model.proofs.Written.{t}
 use Rattle.model.proofs.Words.{step-speaks, OutcomeSpeaks}
@@ -71,7 +72,7 @@ empty-inv t rests tok = record {
   obligation = λ q ns m u. none (m .inside 0 (omega (arith, m .all, tok .chord-some q (m .chord-in))));
   answering = λ i n k o. absurd (owns-none i (omega (arith, o)));
   ranges = record {
-    messages-few = omega arith;
+    shares = none-added;
     matches-few = omega arith;
     sent-in = λ n l. none l;
     match-in = λ n. omega arith;
@@ -92,7 +93,7 @@ empty-pool : (t : Table) (rests : List ℕ) (last : Board) → PoolOk t last (em
 empty-pool t rests last = record {
   sents = refl;
   own-count = length-replicate {A = ℕ} 32 0;
-  owns = λ i. ap (λ (d : Sender). d .own) (all-idle rests i) ∙ sym (zeros i (ltb i 32) refl);
+  owns = λ i. ap (λ (d : Sender). d .own) (all-idle rests i) ∙ sym (no-tally i);
   inside-is = λ n e. never e;
   is-inside = λ n l. absurd (omega arith);
   number = refl;
@@ -100,11 +101,6 @@ empty-pool t rests last = record {
   once-in = refl;
   total = refl;
 }
-  where
-    zeros : (i : ℕ) (u : Bool) → ltb i 32 ≡ u → _≡_ {A = ℕ} (getD (replicate 32 0) i 0) 0
-    zeros i true e = getD-replicate 32 i 0 0 (ltb-true i 32 e)
-    zeros i false e =
-        List·getD-eq-default (replicate 32 0) 0 {n = i} (omega (arith, ltb-false i 32 e, length-replicate {A = ℕ} 32 0))
 
 -- one call
 pub call-inv : (t : Table) (b : Board) (c : Call) → Inv t b → Inv t (answerTo t b c .board)
@@ -113,7 +109,7 @@ call-inv t b (adds i x) v = go (addRefusal t b i x) refl
     go : (f : ℕ) → addRefusal t b i x ≡ f → Inv t (addAnswer t b i x f .board)
     go zero e =
         let a = A.add-accepted t b i x e in
-        A.added-keeps t b i x v (omega (arith, a .0, v .senders)) (a .1) (a .2) (a .3) (a .4)
+        A.added-keeps t b i x v (omega (arith, a .0, v .senders)) (a .1) (a .2) (a .3) (a .0) (a .4)
     go (suc f) e = v
 call-inv t b (steps i) v = go (stepBy t b i) (step-owes t b i v)
   where

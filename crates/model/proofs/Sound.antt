@@ -13,6 +13,7 @@ use Rattle.model.proofs.Tests.{never}
 use Rattle.model.proofs.Lists.{nth-isIn}
 use Rattle.model.proofs.Written.{t}
 use Rattle.model.proofs.Local.{Selection, Full, Placed, StateOk, SenderOk}
+use Rattle.model.proofs.Ranges.{messages-few}
 use Rattle.model.proofs.Invariant.{Inv}
 use Rattle.model.proofs.PoolMeets.{count}
 use Rattle.model.proofs.SoundFacts.{MessageFacts, MatchFacts, AtChord, AllChosen, Below, PlaceOk, StateFacts}
@@ -101,11 +102,12 @@ module _ (t : Table) (b : Board) (v : Inv t b) where
   pub is-sound : sound t b ≡ true
   is-sound = facts-sound (record {
     senders-all = v .senders;
-    messages-few = v .ranges .messages-few;
+    messages-few = messages-few (v .ranges);
     matches-few = v .ranges .matches-few;
     message-at = message-facts;
     match-at = match-facts;
     sender-at = λ i. sender-facts (senderAt b i) (v .locals i);
     own-apart = λ i j ne p q o.
         ne (v .owners .own-one i j (busy-own (senderAt b i .state) _ _ _ (v .locals i .state-is) p) o);
+    shares = v .ranges .shares;
   })

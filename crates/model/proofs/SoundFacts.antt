@@ -22,6 +22,7 @@ use Rattle.model.specs.Sound.{toWake, allBelow, owns, noneShared, messag
 use Rattle.model.specs.Sound.{senderOk, sound}
 use Rattle.model.proofs.Tests.{and, both, never, eqb-no, no-true, one-of, of-one}
 use Rattle.model.proofs.Lists.{every-nth, nth-every}
+use Rattle.model.proofs.Shares.{Shares, shares-facts, facts-shares}
 
 -- each of the numbers is below m
 abbrev pub Below : ℕ → List ℕ → Type 0
@@ -96,6 +97,7 @@ pub record SoundBoard (t : Table) (b : Board) : Type 0 where
   pub match-at : (k : ℕ) → k < length (b .matches) → MatchFacts t b (matchAt b k)
   pub sender-at : (i : ℕ) → SenderFacts t b (senderAt b i)
   pub own-apart : Apart (b .senders)
+  pub shares : Shares (b .tallies) (length (b .messages))
 
 -- a test and what it stands for
 record Reads (u : Bool) (P : Type 0) : Type 0 where
@@ -213,8 +215,8 @@ module _ (t : Table) (b : Board) where
       let ds = all-and (senderOk t b) _ idleSender sender (search arith) (b .senders) in
       let os = none-shared (b .senders) in
       record {
-        to = λ e. search (reads, ms .to, ks .to, ds .to, os .to);
-        from = λ f. search (shows, ms .from, ks .from, ds .from, os .from);
+        to = λ e. search (reads, ms .to, ks .to, ds .to, os .to, shares-facts) depth 8;
+        from = λ f. search (shows, ms .from, ks .from, ds .from, os .from, facts-shares) depth 8;
       }
 
 pub sound-facts : (t : Table) (b : Board) → sound t b ≡ true → SoundBoard t b

@@ -20,7 +20,8 @@ use Rattle.model.specs.Sound.{toWake}
 use Rattle.model.specs.Demands.{Same-but-signal}
 use Rattle.model.proofs.Tests.{same?}
 use Rattle.model.proofs.Lists.{snoc-all}
-use Rattle.model.proofs.Frame.{messages-count, messages-at, messageAfter, own-at, other-at, senders-count}
+use Rattle.model.proofs.Frame.{messages-count, shares-still, messages-at, messageAfter, own-at, other-at}
+use Rattle.model.proofs.Frame.{senders-count}
 use Rattle.model.proofs.Grows.{message-kept, apart}
 use Rattle.model.proofs.SoundFacts.{MatchFacts, Below, MessageFacts, AtChord, PlaceOk, JobFacts, StateFacts}
 use Rattle.model.proofs.SoundFacts.{SenderFacts, SoundBoard}
@@ -219,4 +220,5 @@ module _ {t : Table} {b : Board} {i : ℕ} {e : Effect} (s : SoundBoard t b) (l 
         sender-at = λ j. now j .0;
         own-apart = λ j k ne p q z.
             s .own-apart j k ne (now j .2 p) (now k .2 q) (sym (now j .1) ∙ z ∙ now k .1);
+        shares = shares-still b i e (s .shares);
       }

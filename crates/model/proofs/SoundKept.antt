@@ -13,6 +13,7 @@ use Rattle.model.specs.Boards.{Board, isIdle, senderAt, Sender, Status, 
 use Rattle.model.specs.Boards.{consumed, idle, State, messageAt, working, Sent, Message, noMessage, emptyBoard}
 use Rattle.model.specs.Effects.{Outcome, refused, does, Effect}
 use Rattle.model.specs.Steps.{resumed, resumeBy, blockedStep, resume-step, stateStep, senderStep, stepBy}
+use Rattle.model.specs.Shares.{hasRoom, sharesOk}
 use Rattle.model.specs.Adds.{centsOk, added, newMessage, newSender, addRefusal}
 use Rattle.model.specs.Closes.{closeRefusal, closedTo}
 use Rattle.model.specs.Sound.{sound, senderOk}
@@ -20,8 +21,10 @@ use Rattle.model.specs.Pools.{stepAnswer, addAnswer, closeAnswer, adds, 
 use Rattle.model.specs.Demands.{Sound-kept}
 use Rattle.model.proofs.Tests.{tests, same?}
 use Rattle.model.proofs.Lists.{snoc-all}
+use Rattle.model.proofs.Shares.{Shares, shares-fit}
 use Rattle.model.proofs.Grows.{apart}
 use Rattle.model.proofs.Adds.{messages-now, matches-now, old-message, sender-now, sender-old, add-accepted}
+use Rattle.model.proofs.Adds.{shares-now}
 use Rattle.model.proofs.SoundFacts.{SoundBoard, SenderFacts, StateFacts, facts-sound, sound-facts}
 use Rattle.model.proofs.SoundFacts.{MessageFacts, Apart}
 use Rattle.model.proofs.SoundFrame.{StepFacts, owes, step-kept, InRange, Wider, sender-wider}
@@ -29,7 +32,7 @@ use Rattle.model.proofs.SoundFrame.{message-wider, match-wider}
 use Rattle.model.proofs.SoundJobs.{passes, in-state, goes-idle, job-facts}
 
 pub empty-sound : (t : Table) (rests : List ℕ) → sound t (emptyBoard rests) ≡ true
-unfolding sound senderOk
+unfolding sound senderOk sharesOk
 empty-sound t rests = refl
 
 abbrev pub OutcomeFacts : Table → Board → ℕ → Outcome → Type 0
@@ -100,7 +103,7 @@ step-sound t b i s =
 -- an accepted add
 module _ (t : Table) (b : Board) (i : ℕ) (x : Sent) (s : SoundBoard t b) (l : i < 32)
     (channel-in : x .channel < length (t .kinds)) (cents-in : centsOk (x .cents) ≡ true)
-    (room : length (b .messages) < 1024) where
+    (room : hasRoom (b .tallies) i ≡ true) where
   abbrev b′ : Board
   b′ = added t b i x
 
@@ -162,11 +165,14 @@ module _ (t : Table) (b : Board) (i : ℕ) (x : Sent) (s : SoundBoard t b) (l : 
       go (inr y) (inr z) =
           λ e. s .own-apart j k ne (old j y .1 p) (old k z .1 q) (sym (old j y .0) ∙ e ∙ old k z .0)
 
+  shares-so : Shares (b′ .tallies) (length (b′ .messages))
+  shares-so = shares-now t b i x (s .shares) l room
+
   added-kept : SoundBoard t b′
   unfolding added
   added-kept = record {
     senders-all = length-set (b .senders) i _ ∙ s .senders-all;
-    messages-few = omega (arith, messages-now t b i x);
+    messages-few = shares-fit shares-so;
     matches-few = s .matches-few;
     message-at =
         snoc-all (λ n. MessageFacts t b′) (b .messages) (newMessage x) noMessage
@@ -174,6 +180,7 @@ module _ (t : Table) (b : Board) (i : ℕ) (x : Sent) (s : SoundBoard t b) (l : 
     match-at = λ k m. match-wider t g (s .match-at k m);
     sender-at = senders-so;
     own-apart = apart-so;
+    shares = shares-so;
   }
 
 pub add-sound : (t : Table) (b : Board) (i : ℕ) (x : Sent) → sound t b ≡ true
@@ -195,6 +202,7 @@ closed-sound t b day e = facts-sound (record {
   match-at = λ k m. match-wider t g (s .match-at k m);
   sender-at = λ j. sender-wider t g (s .sender-at j);
   own-apart = s .own-apart;
+  shares = s .shares;
 })
   where
     s : SoundBoard t b

@@ -1,6 +1,6 @@
 -- What a call leaves as it was, for every table and every board: a step alters one message, its sender and signals, and
--- records one match, at most; an add alters its sender and no message that was there; a close alters the close day; a
--- refusal alters nothing.
+-- records one match, at most; an add alters its sender with its tally, and no message that was there; a close alters
+-- the close day; a refusal alters nothing.
 use mathlib.Core.Path.{_≡_, refl, ap, sym, subst, subst⁻¹, _∙_}
 use mathlib.Core.Logic.{_≢_}
 use mathlib.Core.Bool.{false}
@@ -83,6 +83,7 @@ step-applied b i e = record {
       (but-signals (e .change) (set (b .senders) i (e .sender)) j);
   backoffs = refl;
   closed = refl;
+  tallies = refl;
 }
 
 step-refused : (b : Board) (i : ℕ) → Step-frame b b i
@@ -97,6 +98,7 @@ step-refused b i = record {
   other-senders = λ j ne. unaltered _;
   backoffs = refl;
   closed = refl;
+  tallies = refl;
 }
 
 step-frame : (t : Table) (b : Board) (i : ℕ) → Step-frame b (answerTo t b (steps i) .board) i
@@ -119,6 +121,7 @@ add-frame t b i x = go (addRefusal t b i x)
       other-senders = λ j ne. getD-set-other (b .senders) i j _ idleSender ne;
       backoffs = refl;
       closed = refl;
+      other-tallies = λ j ne. getD-set-other (b .tallies) i j _ 0 ne;
     }
     go (suc f) = record {
       appended = [];
@@ -128,6 +131,7 @@ add-frame t b i x = go (addRefusal t b i x)
       other-senders = λ j ne. refl;
       backoffs = refl;
       closed = refl;
+      other-tallies = λ j ne. refl;
     }
 
 close-frame : (t : Table) (b : Board) (day : ℕ) → Close-frame b (answerTo t b (closes day) .board)
@@ -140,6 +144,7 @@ close-frame t b day = go (closeRefusal b day) refl
       senders = refl;
       backoffs = refl;
       closed = close-accepted b day e;
+      tallies = refl;
     }
     go (suc f) e = record {
       messages = refl;
@@ -147,6 +152,7 @@ close-frame t b day = go (closeRefusal b day) refl
       senders = refl;
       backoffs = refl;
       closed = omega arith;
+      tallies = refl;
     }
 
 not-refused : (a : Said) (f : ℕ) → eqb (wordOf a) 17 ≡ false → a ≢ Refused f

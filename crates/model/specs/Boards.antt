@@ -74,13 +74,14 @@ pub record Sender : Type 0 where
   pub matched : ℕ
 
 -- rule 1.6. backoffs: the backoff table (rule 1.9) that the board was opened with; closed: the close day plus 1 (rule
--- 9.8), so that the days below it are closed
+-- 9.8), so that the days below it are closed; tallies: how many messages each sender has added (rule 9.9)
 pub record Board : Type 0 where
   pub messages : List Message
   pub matches : List Match
   pub senders : List Sender
   pub backoffs : List ℕ
   pub closed : ℕ
+  pub tallies : List ℕ
 
 abbrev pub noSent : Sent
 noSent = record { channel = 0; property = 0; cents = pos 0; day = 0; unit = 0 }
@@ -114,6 +115,7 @@ emptyBoard rests = record {
   senders = replicate 32 idleSender;
   backoffs = rests;
   closed = 0;
+  tallies = replicate 32 0;
 }
 
 -- rule 1.9

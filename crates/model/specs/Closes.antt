@@ -16,4 +16,5 @@ closedTo b day = record {
   senders = b .senders;
   backoffs = b .backoffs;
   closed = suc day;
+  tallies = b .tallies;
 }

@@ -1,22 +1,25 @@
 -- What the board owes its users, as types: the frame of a call (rule 6.8), sound boards kept, quiet (rule 5.6), closed
--- days (rule 9.8), and demand 3 (rules 7.2 to 7.9). That tables survive stands in Layout.
+-- days (rule 9.8), fair shares (rule 9.9), and demand 3 (rules 7.2 to 7.9). That tables survive stands in Layout.
 use mathlib.Core.Path.{_≡_}
 use mathlib.Core.Logic.{_≢_}
-use mathlib.Core.Bool.{true, false}
+use mathlib.Core.Bool.{Bool, true, false, _&&_}
 use mathlib.Core.List.{List, _++_, _∷_, []}
-use Prim.Native.Nat.{ℕ, _≤_, _<_, suc}
+use Prim.Native.Nat.{ℕ, _≤_, _<_, _+_, suc}
 use lib.Dec.{eqb}
 use lib.IntN.{_+ℤ_}
 use lib.ListN.{length, getD}
-use Rattle.model.specs.Basics.{isIn, every}
+use Rattle.model.specs.Basics.{isIn, every, flag}
 use Rattle.model.specs.Tables.{Table, isSync, chordAt}
 use Rattle.model.specs.Layout.{tableRefusal, tableOf}
 use Rattle.model.specs.Boards.{Sender, Board, messageAt, Match, senderAt, Message, Sent, emptyBoard, pending}
 use Rattle.model.specs.Boards.{isPending}
-use Rattle.model.specs.Effects.{Refused, refused, Answered, Closed}
+use Rattle.model.specs.Effects.{Said, Refused, refused, Answered, Closed, wordOf}
 use Rattle.model.specs.Steps.{stepBy}
+use Rattle.model.specs.Shares.{tally, addedTotal}
+use Rattle.model.specs.Adds.{addRefusal}
 use Rattle.model.specs.Sound.{sound}
 use Rattle.model.specs.Pools.{answerTo, steps, adds, closes, Call, quiet, afterAll, MatchRead, Pool, playedAll}
+use Rattle.model.specs.Pools.{Exchange}
 use Rattle.model.specs.Pools.{emptyPool, history, matchReads, ownOf, sentAt, noRead, timesHeld, meets}
 use Rattle.model.specs.Pools.{centsAdded, centsMatched, poolCents}
 
@@ -43,6 +46,7 @@ pub record Step-frame (b b′ : Board) (i : ℕ) : Type 0 where
   pub other-senders : (j : ℕ) → j ≢ i → Same-but-signal (senderAt b j) (senderAt b′ j)
   pub backoffs : b′ .backoffs ≡ b .backoffs
   pub closed : b′ .closed ≡ b .closed
+  pub tallies : b′ .tallies ≡ b .tallies
 
 -- rule 6.8: an add by sender i; a message may be appended, all else but that sender stays
 pub record Add-frame (b b′ : Board) (i : ℕ) : Type 0 where
@@ -53,6 +57,7 @@ pub record Add-frame (b b′ : Board) (i : ℕ) : Type 0 where
   pub other-senders : (j : ℕ) → j ≢ i → senderAt b′ j ≡ senderAt b j
   pub backoffs : b′ .backoffs ≡ b .backoffs
   pub closed : b′ .closed ≡ b .closed
+  pub other-tallies : (j : ℕ) → j ≢ i → tally (b′ .tallies) j ≡ tally (b .tallies) j
 
 -- rule 9.8: a close; nothing but the close day alters, and that does not fall
 pub record Close-frame (b b′ : Board) : Type 0 where
@@ -61,6 +66,7 @@ pub record Close-frame (b b′ : Board) : Type 0 where
   pub senders : b′ .senders ≡ b .senders
   pub backoffs : b′ .backoffs ≡ b .backoffs
   pub closed : b .closed ≤ b′ .closed
+  pub tallies : b′ .tallies ≡ b .tallies
 
 -- rules 6.1, 6.8 and 9.8
 pub record Frame : Type 0 where
@@ -88,6 +94,47 @@ Stays-closed = (t : Table) (b : Board) (day : ℕ) (cs : List Call) (i : ℕ) (x
     → x .day ≤ day
     → (f : ℕ) × (isIn f (8 ∷ 9 ∷ 10 ∷ 19 ∷ []) ≡ true)
     × (answerTo t (afterAll t b (closes day ∷ cs)) (adds i x) .said ≡ Refused f)
+
+-- Fair shares
+
+-- rule 9.9: on every board no add is refused 12, and none of a sender's first 16 is refused 26
+pub record Own-share (t : Table) (b : Board) : Type 0 where
+  pub never-12 : (i : ℕ) (x : Sent) → answerTo t b (adds i x) .said ≢ Refused 12
+  pub first-16 : (i : ℕ) (x : Sent) → tally (b .tallies) i < 16 → answerTo t b (adds i x) .said ≢ Refused 26
+
+-- rule 9.9: what a sound board's tallies bound; the 1,024 follow from them
+pub record Shared-out (t : Table) (b : Board) : Type 0 where
+  pub sender-most : (i : ℕ) → tally (b .tallies) i ≤ 528
+  pub all-most : addedTotal (b .tallies) ≤ 1024
+  pub fits : (i : ℕ) (x : Sent) → addRefusal t b i x ≡ 0 → length (b .messages) < 1024
+
+-- rule 9.9: an accepted add of sender i
+abbrev pub addsOne : ℕ → Call → Said → Bool
+addsOne i (adds j x) a = eqb j i && eqb (wordOf a) 0
+addsOne i (steps j) a = false
+addsOne i (closes day) a = false
+
+-- how many adds of sender i were accepted
+abbrev pub acceptedAdds : ℕ → List Exchange → ℕ
+acceptedAdds i [] = 0
+acceptedAdds i (e ∷ es) = flag (addsOne i (e .call) (e .said)) + acceptedAdds i es
+
+-- rule 9.9: after any calls a tally has risen by the sender's accepted adds
+abbrev pub Tallied : Table → Board → List Call → Type 0
+Tallied t b cs = (i : ℕ)
+    → tally (afterAll t b cs .tallies) i ≡ tally (b .tallies) i + acceptedAdds i (history t b cs)
+
+-- rule 9.9
+pub record Fair-shares : Type 0 where
+  pub own-share : (t : Table) (b : Board) → Own-share t b
+  pub shared-out : (t : Table) (b : Board) → sound t b ≡ true → Shared-out t b
+  pub tallied : (t : Table) (b : Board) (cs : List Call) → sound t b ≡ true → Tallied t b cs
+  -- by a schedule's calls and answers alone
+  pub never-26 : (t : Table) (rests : List ℕ) (cs : List Call) (i : ℕ) (x : Sent)
+      → acceptedAdds i (history t (emptyBoard rests) cs) < 16
+      → answerTo t (afterAll t (emptyBoard rests) cs) (adds i x) .said ≢ Refused 26
+  pub at-most-528 : (t : Table) (rests : List ℕ) (cs : List Call) (i : ℕ)
+      → acceptedAdds i (history t (emptyBoard rests) cs) ≤ 528
 
 -- Demand 3
 

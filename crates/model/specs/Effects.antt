@@ -169,6 +169,7 @@ apply b i e = record {
   senders = sendersAfter (e .change) (set (b .senders) i (e .sender));
   backoffs = b .backoffs;
   closed = b .closed;
+  tallies = b .tallies;
 }
 
 -- a call refused by its number, or the effect that it has

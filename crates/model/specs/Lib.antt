@@ -8,6 +8,7 @@ pub mod Jobs
 pub mod Looks
 pub mod Steps
 pub mod Holdings
+pub mod Shares
 pub mod Adds
 pub mod Closes
 pub mod Sound

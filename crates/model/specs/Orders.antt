@@ -1,6 +1,7 @@
--- Orders that the rules fix, as types: of an add's refusals (rules 6.1, 6.4 and 9.8), and of the rests of a job's
--- retries (rule 4.10).
+-- Orders that the rules fix, as types: of an add's refusals (rules 6.1, 6.4, 9.8 and 9.9), and of the rests of a
+-- job's retries (rule 4.10).
 use mathlib.Core.Path.{_≡_}
+use mathlib.Core.Logic.{_⊎_}
 use mathlib.Core.Bool.{true, false, _&&_}
 use mathlib.Core.List.{map, [], _∷_}
 use Prim.Native.Nat.{ℕ, zero, suc, _≤_, _<_, min}
@@ -12,9 +13,10 @@ use Rattle.model.specs.Boards.{isOpen, messageAt}
 use Rattle.model.specs.Effects.{Again, none}
 use Rattle.model.specs.Jobs.{inJob}
 use Rattle.model.specs.Steps.{more, pass-end-step, restsThen}
+use Rattle.model.specs.Shares.{tally, commonUsed}
 use Rattle.model.specs.Adds.{addRefusal}
 
--- rules 6.1, 6.4 and 9.8: each number where its ground holds and none before it, whatever comes after
+-- rules 6.1, 6.4, 9.8 and 9.9: each number where its ground holds and none before it, whatever comes after
 pub record Add-order (t : Table) (b : Board) (i : ℕ) (x : Sent) : Type 0 where
   pub no-sender : 32 ≤ i → addRefusal t b i x ≡ 8
   pub not-idle : i < 32 → isIdle (senderAt b i .state) ≡ false → addRefusal t b i x ≡ 9
@@ -33,19 +35,20 @@ pub record Add-order (t : Table) (b : Board) (i : ℕ) (x : Sent) : Type 0 where
       → b .closed ≤ x .day
       → 999_999_999_999 < natAbs (x .cents)
       → addRefusal t b i x ≡ 11
-  pub full : i < 32
+  pub no-room : i < 32
       → isIdle (senderAt b i .state) ≡ true
       → x .channel < length (t .kinds)
       → b .closed ≤ x .day
       → natAbs (x .cents) ≤ 999_999_999_999
-      → 1024 ≤ length (b .messages)
-      → addRefusal t b i x ≡ 12
+      → 16 ≤ tally (b .tallies) i
+      → 512 ≤ commonUsed (b .tallies)
+      → addRefusal t b i x ≡ 26
   pub accepted : i < 32
       → isIdle (senderAt b i .state) ≡ true
       → x .channel < length (t .kinds)
       → b .closed ≤ x .day
       → natAbs (x .cents) ≤ 999_999_999_999
-      → length (b .messages) < 1024
+      → (tally (b .tallies) i < 16) ⊎ (commonUsed (b .tallies) < 512)
       → addRefusal t b i x ≡ 0
 
 -- what a job that said `again` k times keeps of that

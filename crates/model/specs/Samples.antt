@@ -1,8 +1,8 @@
--- The rules at their edges, as a table of samples; the run of table P, and runs of retries: bytes, calls, and what the
--- rules say of them. That a table without chords gives no match is about every schedule, and so a theorem of its own
--- (proofs/NoChords).
+-- The rules at their edges, as a table of samples; the run of table P, runs of retries, and shares: bytes, calls,
+-- tallies, and what the rules say of them. That a table without chords gives no match is about every schedule, and so a
+-- theorem of its own (proofs/NoChords).
 use mathlib.Core.Path.{_≡_}
-use mathlib.Core.Bool.{Bool, true}
+use mathlib.Core.Bool.{Bool, true, false}
 use mathlib.Core.List.{List, map, [], _∷_, _++_}
 use Prim.Native.Nat.{ℕ, zero, suc, _+_}
 use lib.Dec.{T}
@@ -14,6 +14,7 @@ use Rattle.model.specs.Boards.{emptyBoard, builtinBackoffs, Status, cons
 use Rattle.model.specs.Effects.{Said, Item, Missed, Ended, Refused, Looked, Claimed, Woke, Freed, Signalled}
 use Rattle.model.specs.Effects.{Resumed, Matched, Consumed, Lost, Reverted, Again, Told, Answered, Rested, Closed}
 use Rattle.model.specs.Pools.{Call, history, adds, steps, closes, MatchRead, quiet, matchReads}
+use Rattle.model.specs.Shares.{addedTotal, hasRoom, sharesOk}
 use Rattle.model.specs.Demands.{boardAfter}
 
 -- a table's bytes and calls; the reader's number and what the calls are to answer
@@ -255,3 +256,15 @@ samples =
     (saidOne ++ Item 1 ∷ Looked 1 ∷ Looked 0 ∷ Claimed 1 ∷ Matched 0 ∷ Consumed 1 ∷ Consumed 0 ∷ []) ∷
     -- rules 4.2 to 4.6, 4.8 to 4.10 and 5.3 to 5.5: a claim is lost, put back and retried; a sender is told
     runAs contendedTable contended saidContended ∷ []
+
+-- rule 9.9 at its edges: who has room, and whether the shares are kept
+pub record Shares-out : Type 0 where
+  -- one sender has taken all that is common, each other still has its own; then all is used, by all senders
+  pub one-alone : map (hasRoom (528 ∷ replicate 31 0)) (0 ∷ 1 ∷ 31 ∷ []) ≡ false ∷ true ∷ true ∷ []
+  pub one-less : hasRoom (527 ∷ replicate 31 0) 0 ≡ true
+  pub last-own : map (hasRoom (528 ∷ 15 ∷ replicate 30 16)) (0 ∷ 1 ∷ 2 ∷ []) ≡ false ∷ true ∷ false ∷ []
+  pub all-used : map (hasRoom (replicate 32 32)) (0 ∷ 31 ∷ []) ≡ false ∷ false ∷ []
+  pub kept : map (λ ks. sharesOk ks 1024) ((528 ∷ replicate 31 16) ∷ replicate 32 32 ∷ []) ≡ true ∷ true ∷ []
+  pub one-over : map (λ ks. sharesOk ks (addedTotal ks)) ((529 ∷ replicate 31 0) ∷ (33 ∷ replicate 31 32) ∷ [])
+      ≡ false ∷ false ∷ []
+  pub sum-off : map (sharesOk (16 ∷ replicate 31 0)) (15 ∷ 16 ∷ 17 ∷ []) ≡ false ∷ true ∷ false ∷ []

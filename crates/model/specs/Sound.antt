@@ -1,4 +1,4 @@
--- Sound boards (rules 3.1 to 3.6), clause by clause.
+-- Sound boards (rules 3.1 to 3.6 and 9.9), clause by clause.
 use mathlib.Core.Bool.{not, Bool, true, _&&_, _||_}
 use mathlib.Core.List.{_∷_, [], List}
 use Prim.Native.Nat.{ℕ, suc}
@@ -10,6 +10,7 @@ use Rattle.model.specs.Boards.{Message, Status, pending, claimed, claim,
 use Rattle.model.specs.Boards.{Match, Job, channelOf, Phase, look, revert, tell, free, signal, pass-end}
 use Rattle.model.specs.Boards.{backoff, Sender, State, idle, working, blocked, isIdle}
 use Rattle.model.specs.Steps.{toTell}
+use Rattle.model.specs.Shares.{sharesOk}
 use Rattle.model.specs.Adds.{centsOk}
 
 -- rule 3.2: what a consumed and a woken message note
@@ -108,7 +109,7 @@ abbrev pub noneShared : List Sender → Bool
 noneShared [] = true
 noneShared (d ∷ ds) = (isIdle (d .state) || every (λ e. not (owns (d .own) e)) ds) && noneShared ds
 
--- rule 3.1, and 3.2 to 3.6 of every message, match and sender
+-- rules 3.1 and 9.9, and 3.2 to 3.6 of every message, match and sender
 unfoldable pub sound : Table → Board → Bool
 sound t b =
     allOf
@@ -118,4 +119,5 @@ sound t b =
     every (messageOk t b) (b .messages) ∷
     every (matchOk t b) (b .matches) ∷
     every (senderOk t b) (b .senders) ∷
-    noneShared (b .senders) ∷ [])
+    noneShared (b .senders) ∷
+    sharesOk (b .tallies) (length (b .messages)) ∷ [])

@@ -13,6 +13,7 @@ use Rattle.model.specs.Layout.{tableOf}
 use Rattle.model.specs.Tables.{Table}
 use Rattle.model.specs.Boards.{Sent}
 use Rattle.model.specs.Effects.{Refused}
+use Rattle.model.specs.Shares.{hasRoom}
 use Rattle.model.specs.Adds.{centsOk}
 use Rattle.model.specs.Closes.{closeRefusal}
 use Rattle.model.specs.Pools.{Call, adds, steps, closes}
@@ -47,30 +48,30 @@ module _ (t : Table) (b : HeldBoard) (keys : List ℕ) (i : ℕ) where
   step-0 l e = rw (lt-ltb i 32 l, e)
 
 -- an add is refused by what is read at its sender's place
-pub add-by : (t : Table) (b : HeldBoard) (keys : List ℕ) (i : ℕ) (x : Sent) (idle timely : Bool) (n : ℕ)
+pub add-by : (t : Table) (b : HeldBoard) (keys : List ℕ) (i : ℕ) (x : Sent) (idle timely room : Bool)
     → idle ≡ idleIs (getD (b .senders) (placeOf i) zeroSender .state) → timely ≡ leb (closedIn b keys) (x .day)
-    → n ≡ b .messages
-    → refusalBy t i idle timely (x .channel) (x .cents) n ≡ callRefusal t b keys (adds i x)
-add-by t b keys i x idle timely n e d k = rw (e, d, k) (go (ltb i 32) refl)
+    → room ≡ hasRoom (b .tallies) (placeOf i)
+    → refusalBy t i idle timely (x .channel) (x .cents) room ≡ callRefusal t b keys (adds i x)
+add-by t b keys i x idle timely room e d k = rw (e, d, k) (go (ltb i 32) refl)
   where
     go : (u : Bool) → ltb i 32 ≡ u
         → refusalBy t i (idleIs (getD (b .senders) (placeOf i) zeroSender .state)) (leb (closedIn b keys) (x .day))
-        (x .channel) (x .cents) (b .messages)
+        (x .channel) (x .cents) (hasRoom (b .tallies) (placeOf i))
         ≡ callRefusal t b keys (adds i x)
     go true l = rw (place-in i (ltb-true i 32 l))
     go false l = rw l
 
 -- what an add that is not refused has
-pub unrefused : (t : Table) (i : ℕ) (idle timely : Bool) (channel : ℕ) (cents : ℤ) (n : ℕ)
-    → refusalBy t i idle timely channel cents n ≡ 0 → (i < 32) × (channel < length (t .kinds)) × (n < 1024)
-unrefused t i idle timely channel cents n e =
+pub unrefused : (t : Table) (i : ℕ) (idle timely : Bool) (channel : ℕ) (cents : ℤ) (room : Bool)
+    → refusalBy t i idle timely channel cents room ≡ 0 → (i < 32) × (channel < length (t .kinds)) × (room ≡ true)
+unrefused t i idle timely channel cents room e =
     let p = unless-none (ltb i 32) 7 _ e in
     let q = unless-none idle 8 _ (p .1) in
     let u = unless-none (ltb channel (length (t .kinds))) 9 _ (q .1) in
     let d = unless-none timely 18 _ (u .1) in
     let v = unless-none (centsOk cents) 10 _ (d .1) in
-    let w = unless-none (ltb n 1024) 11 0 (v .1) in
-    (ltb-true i 32 (p .0), ltb-true channel _ (u .0), ltb-true n 1024 (w .0))
+    let w = unless-none room 25 0 (v .1) in
+    (ltb-true i 32 (p .0), ltb-true channel _ (u .0), w .0)
 
 -- what a step that is not refused has
 pub may-step : (t : Table) (b : HeldBoard) (keys : List ℕ) (i : ℕ) → callRefusal t b keys (steps i) ≡ 0
@@ -83,7 +84,7 @@ pub caller-in : (t : Table) (b : HeldBoard) (keys : List ℕ) (c : DC.Call) → 
     → callerOf (callIn c) < 32
 caller-in t b keys (C.Add i x) e =
     unrefused t i (idleIs (getD (b .senders) i zeroSender .state)) (leb (closedIn b keys) (x .day)) (x .channel)
-    (x .cents) (b .messages) e .0
+    (x .cents) (hasRoom (b .tallies) i) e .0
 caller-in t b keys (C.Step i) e = may-step t b keys i e .0
 
 module _ (s : List ℕ) (h : Held) (z : refusalOf s h ≡ 0) where

@@ -112,6 +112,7 @@ module _ (s : List ℕ) (b : HeldBoard) (c : Columns) (m : MatchColumns) (e : bo
     senders = map (senderIn t) (b .senders);
     backoffs = builtinBackoffs;
     closed = closedIn b (c .keys);
+    tallies = b .tallies;
   }
 
   lent-all : Lent (b .messages) (c .channels) (c .keys) (c .units) (c .statuses)

@@ -68,9 +68,11 @@ pub fn call_refusal(table: &[u8], board: &[u16], keys: &[u32], call: Call) -> u8
 {
     match call {
         Call::Add(i, x) => {
-            let idle = rows::is_idle(board, place_of(i));
+            let place = place_of(i);
+            let idle = rows::is_idle(board, place);
             let timely = closes::day_open(board[boards::CLOSED], keys[boards::CLOSE_DAY], x.day);
-            adds::add_refusal(table, i, idle, timely, x, board[0])
+            let room = shares::has_room(boards::tallies(board), place);
+            adds::add_refusal(table, i, idle, timely, x, room)
         }
         Call::Step(i) => step_refusal(board, i),
     }

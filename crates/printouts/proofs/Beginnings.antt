@@ -8,7 +8,7 @@ use lib.ListN.{getD}
 use Rattle.columns.proofs.Passed.{passed-none}
 use Rattle.boards.specs.Layout.{Lists, statusesIn}
 use Rattle.rows.specs.Numbers.{boardNumbers}
-use Rattle.calls.specs.Opens.{freshBoard}
+use Rattle.rows.specs.Fresh.{freshBoard}
 use Rattle.calls.proofs.OpenLaws.{unrefused, opened-empty, opened-accepted}
 use Rattle.schedules.specs.Schedules.{Opened}
 use Rattle.printouts.specs.declared.Stage as DS

@@ -10,6 +10,7 @@ use lib.ListN.{length}
 use Rattle.model.specs.Layout.{tableRefusal, tableOf}
 use Rattle.model.specs.Sound.{sound}
 use Rattle.model.proofs.Tests.{both, unless-none, first-none}
+use Rattle.model.proofs.Shares.{Shares}
 use Rattle.model.proofs.SoundFacts.{SoundBoard, sound-facts}
 use Rattle.columns.specs.Columns.{Columns}
 use Rattle.columns.specs.MatchColumns.{MatchColumns, matchIn}
@@ -71,6 +72,9 @@ module _ (s : List ℕ) (b : HeldBoard) (c : Columns) (m : MatchColumns) (e : bo
 
   pub messages-few : b .messages ≤ 1024
   messages-few = omega (arith, length-messages c 0 (b .messages), sound-board .messages-few)
+
+  pub board-shares : Shares (b .tallies) (b .messages)
+  board-shares = rw (length-messages c 0 (b .messages)) at (sound-board .shares)
 
   pub matches-few : b .matches ≤ 1024
   matches-few = omega (arith, length-from (matchIn (tableOf s) m) 0 (b .matches), sound-board .matches-few)

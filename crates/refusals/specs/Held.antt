@@ -15,7 +15,8 @@ use Rattle.rows.specs.Decoded.{boardFrom}
 use Rattle.refusals.specs.Judged.{statusesOk, boardRefusal}
 
 abbrev pub nothing : Held
-nothing = heldBy (record { messages = 0; matches = 0; senders = []; closed = false }) [] [] [] [] [] [] [] [] []
+nothing =
+    heldBy (record { messages = 0; matches = 0; senders = []; closed = false; tallies = [] }) [] [] [] [] [] [] [] [] []
 
 -- what lists of their lengths hold
 abbrev pub heldOf : Lists → Held

@@ -5,14 +5,14 @@ use mathlib.Core.List.{List, [], _∷_, _++_, append-assoc}
 use Prim.Native.Nat.{ℕ, zero, suc, _+_, _*_, _<_, _≤_}
 use borrow.Author.Tests.{eqb-false}
 use lib.Dec.{eqb}
-use lib.ListN.{length, getD, take, drop, length-drop, take-append-drop, drop-of-length-le}
+use lib.ListN.{length, getD, take, drop, length-drop, take-append-drop}
 use lib.Seq.{drop-drop, drop-cons, length-take-le}
 use native.Mathlib.Omega.{arith}
 use Rattle.model.proofs.Tests.{both}
 use Rattle.model.proofs.Parts.{drop-next}
 use Rattle.model.proofs.Tests.{flag-byte}
 use Rattle.state.specs.declared.Sender as DD
-use Rattle.boards.specs.Layout.{boardLen, closedAt}
+use Rattle.boards.specs.Layout.{boardLen, closedAt, talliesAt}
 use Rattle.rows.specs.Numbers.{stateNumber, phaseNumbers, senderNumbers, sendersNumbers, boardNumbers}
 use Rattle.rows.specs.Numbers.{placeless, encodesPhase, encodesSender, encodesSenders, encodes}
 use Rattle.rows.specs.Decoded.{stateFrom, phaseFrom, senderFrom, sendersFrom, boardFrom}
@@ -81,11 +81,9 @@ senders-from-back (suc n) s l ok =
       omega (arith, r .2),
     )
 
--- the number behind the senders
-flag-last : (s : List ℕ) → length s ≡ boardLen → drop 672 (drop 2 s) ≡ getD s closedAt 0 ∷ []
-flag-last s l =
-    rw (drop-drop 672 2 s, drop-cons s closedAt 0 (omega (arith, l)))
-    (cc (drop-of-length-le s {i = 675} (omega (arith, l))))
+-- the numbers behind the senders
+behind : (s : List ℕ) → length s ≡ boardLen → drop 672 (drop 2 s) ≡ getD s closedAt 0 ∷ drop talliesAt s
+behind s l = rw (drop-drop 672 2 s) (drop-cons s closedAt 0 (omega (arith, l)))
 
 -- numbers that pass are those of their board, which fits its types
 pub from-back : (s : List ℕ) → encodes s ≡ true → (boardNumbers (boardFrom s) ≡ s) × BoardFits (boardFrom s)
@@ -93,8 +91,8 @@ unfolding boardNumbers boardFrom
 from-back s ok =
     let p = all-numbers s ok in
     let r = senders-from-back 32 (drop 2 s) (omega (arith, p .0, length-drop 2 s)) (p .1) in (
-      rw (flag-byte (getD s closedAt 0) (p .2), ← flag-last s (p .0), r .0) (counts-read s (omega (arith, p .0))),
-      record { all = r .2; each = r .1 },
+      rw (flag-byte (getD s closedAt 0) (p .2), ← behind s (p .0), r .0) (counts-read s (omega (arith, p .0))),
+      record { all = r .2; each = r .1; tallied = omega (arith, length-drop talliesAt s, p .0) },
     )
 
 senders-from : (n i : ℕ) (s : List ℕ) (z : DD.Sender) → i < n

@@ -1,12 +1,12 @@
 -- A board's numbers pass, and decode to it.
-use mathlib.Core.Path.{_≡_, refl}
+use mathlib.Core.Path.{_≡_, refl, ap, _∙_}
 use mathlib.Core.Bool.{Bool, true, false, _||_}
 use mathlib.Core.List.{List, [], _∷_, _++_, append-assoc}
-use Prim.Native.Nat.{ℕ, _*_}
+use Prim.Native.Nat.{ℕ, _+_, _*_}
 use borrow.Author.Tests.{le-leb, eq-eqb}
 use lib.Dec.{eqb, leb}
-use lib.ListN.{length, length-append}
-use lib.Seq.{take-at, drop-at, getD-at}
+use lib.ListN.{length, drop, length-append}
+use lib.Seq.{take-at, drop-at, getD-at, drop-append-add}
 use native.Mathlib.Omega.{arith}
 use Rattle.model.specs.Basics.{flag}
 use Rattle.model.proofs.Tests.{and, flag-small, flag-read}
@@ -16,7 +16,7 @@ use Rattle.state.specs.declared.State as DS
 use Rattle.state.specs.declared.State.the-variants as S
 use Rattle.state.specs.declared.Sender as DD
 use Rattle.boards.specs.Boards.{HeldBoard}
-use Rattle.boards.specs.Layout.{boardLen, closedAt}
+use Rattle.boards.specs.Layout.{boardLen, closedAt, talliesAt}
 use Rattle.rows.specs.Numbers.{stateNumber, kind, place, second, senderNumbers, sendersNumbers, boardNumbers}
 use Rattle.rows.specs.Numbers.{encodesPhase, encodesSender, encodesSenders, encodes}
 use Rattle.rows.specs.Decoded.{stateFrom, phaseFrom, senderFrom, sendersFrom, boardFrom}
@@ -79,11 +79,11 @@ senders-pass (d ∷ ds) rest f =
 pub encoded-ok : (b : HeldBoard) → BoardFits b → encodes (boardNumbers b) ≡ true
 unfolding encodes boardNumbers
 encoded-ok b f =
-    let rest = flag (b .closed) ∷ [] in
+    let rest = flag (b .closed) ∷ b .tallies in
     let l = senders-long (b .senders) (f .each) in
     let n : length (b .messages ∷ b .matches ∷ (sendersNumbers (b .senders) ++ rest)) ≡ boardLen =
-    omega (arith, length-append (sendersNumbers (b .senders)) rest, l, f .all) in
-    let z = getD-at (b .messages ∷ b .matches ∷ sendersNumbers (b .senders)) (flag (b .closed)) [] 0 closedAt
+    omega (arith, length-append (sendersNumbers (b .senders)) rest, l, f .all, f .tallied) in
+    let z = getD-at (b .messages ∷ b .matches ∷ sendersNumbers (b .senders)) (flag (b .closed)) (b .tallies) 0 closedAt
     (omega (arith, l, f .all)) in
     and (eq-eqb _ boardLen n)
     (and (rw (f .all) at (senders-pass (b .senders) rest (f .each))) (rw z (flag-small (b .closed))))
@@ -132,7 +132,11 @@ senders-back (d ∷ ds) rest f =
 pub board-back : (b : HeldBoard) → BoardFits b → boardFrom (boardNumbers b) ≡ b
 unfolding boardNumbers boardFrom
 board-back b f =
-    let rest = flag (b .closed) ∷ [] in
-    let z = getD-at (b .messages ∷ b .matches ∷ sendersNumbers (b .senders)) (flag (b .closed)) [] 0 closedAt
-    (omega (arith, senders-long (b .senders) (f .each), f .all)) in
-    rw (rw (f .all) at (senders-back (b .senders) rest (f .each)), z, flag-read (b .closed))
+    let front = b .messages ∷ b .matches ∷ sendersNumbers (b .senders) in
+    let rest = flag (b .closed) ∷ b .tallies in
+    let l = senders-long (b .senders) (f .each) in
+    let z = getD-at front (flag (b .closed)) (b .tallies) 0 closedAt (omega (arith, l, f .all)) in
+    let past : talliesAt ≡ length front + 1 = omega (arith, l, f .all) in
+    let k : drop talliesAt (front ++ rest) ≡ b .tallies =
+    ap (λ (n : ℕ). drop n (front ++ rest)) past ∙ drop-append-add front rest 1 in
+    rw (rw (f .all) at (senders-back (b .senders) rest (f .each)), z, flag-read (b .closed), k)

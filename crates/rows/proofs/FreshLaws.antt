@@ -1,16 +1,17 @@
--- Laws of an empty board's numbers, written: the same sender at each of 32 places, then two counts and a flag of 0.
+-- Laws of an empty board's numbers, written: the same sender at each of 32 places, then two counts and a flag of 0, and
+-- no sender has added a message.
 use mathlib.Core.Path.{_≡_, ap, _∙_, sym}
-use mathlib.Core.Bool.{false}
 use mathlib.Core.List.{List, [], _∷_, _++_, append-assoc}
 use Prim.Native.Nat.{ℕ, _+_, _*_, _<_, _≤_}
 use lib.ListN.{length, getD, take, drop, set, replicate, getD-replicate, length-replicate, length-append}
-use lib.ListN.{take-append-drop, drop-of-length-le}
+use lib.ListN.{take-append-drop, drop-of-length-le, length-drop}
 use lib.Seq.{paste, drop-cons, length-take-le, set-at}
 use native.Mathlib.Omega.{arith}
+use Rattle.model.proofs.Parts.{paste-behind}
 use Rattle.state.specs.declared.Sender as DD
-use Rattle.boards.specs.Layout.{boardLen, closedAt}
+use Rattle.boards.specs.Layout.{boardLen, closedAt, talliesAt}
 use Rattle.rows.specs.Numbers.{senderNumbers, sendersNumbers, boardNumbers}
-use Rattle.rows.specs.Fresh.{freshSender}
+use Rattle.rows.specs.Fresh.{freshSender, freshBoard}
 use Rattle.rows.proofs.WalkLaws.{write-next, write-end, counts-set}
 
 module _ (d : DD.Sender) (s front : List ℕ) (i : ℕ) where
@@ -28,25 +29,45 @@ same-next d s s′ front i h n l p e =
     let p′ : s′ ≡ paste s (2 + 21 * i) (senderNumbers (getD (replicate 32 d) i d)) 21 = rw is p in
     write-next (replicate 32 d) d s s′ front i few (omega arith) l′ p′ e
 
-pub fresh-end : (d : DD.Sender) (s front : List ℕ) (i : ℕ) → d ≡ freshSender → length s ≡ boardLen → 2 ≤ length front
+-- the senders' numbers, and those behind them
+abbrev idle : List ℕ
+idle = sendersNumbers (replicate 32 freshSender)
+
+fresh-front : (d : DD.Sender) (s front : List ℕ) (i : ℕ) → d ≡ freshSender → length s ≡ boardLen → 2 ≤ length front
     → i ≡ 32 → Written d s (take 2 front) i
-    → set (set (set s 0 0) 1 0) closedAt 0
-    ≡ boardNumbers (record { messages = 0; matches = 0; senders = replicate 32 freshSender; closed = false })
-unfolding boardNumbers
-fresh-end d s front i is n l h e =
-    let ds = sendersNumbers (replicate 32 freshSender) in
-    let last = getD s closedAt 0 ∷ [] in
+    → (set (set (set s 0 0) 1 0) closedAt 0 ≡ (0 ∷ 0 ∷ idle) ++ (0 ∷ drop talliesAt s))
+    × (length (0 ∷ 0 ∷ idle) ≡ closedAt)
+fresh-front d s front i is n l h e =
+    let last = getD s closedAt 0 ∷ drop talliesAt s in
     let all : take closedAt s ≡ take 2 front ++ sendersNumbers (replicate 32 d) =
     write-end (replicate 32 d) s (take 2 front) i (length-replicate 32 d) h e in
-    let idle = ap (λ (x : DD.Sender). take 2 front ++ sendersNumbers (replicate 32 x)) is in
-    let end : drop closedAt s ≡ last =
-    drop-cons s closedAt 0 (omega (arith, n)) ∙ cc (drop-of-length-le s {i = 675} (omega (arith, n))) in
-    let split : s ≡ (take 2 front ++ ds) ++ last =
-    sym (take-append-drop closedAt s) ∙ rw (end, all ∙ idle) in
-    let m : length (take 2 front ++ ds) ≡ closedAt =
-    rw (← (all ∙ idle)) (length-take-le closedAt s (omega (arith, n))) in
-    let long : length (0 ∷ 0 ∷ ds) ≡ closedAt =
-    omega (arith, m, length-append (take 2 front) ds, length-take-le 2 front l) in
-    ap (λ (x : List ℕ). set (set (set x 0 0) 1 0) closedAt 0) (split ∙ append-assoc (take 2 front) ds last)
-    ∙ ap (λ (x : List ℕ). set x closedAt 0) (counts-set front (ds ++ last) 0 0 l)
-    ∙ set-at (0 ∷ 0 ∷ ds) (getD s closedAt 0) [] 0 closedAt long
+    let same = ap (λ (x : DD.Sender). take 2 front ++ sendersNumbers (replicate 32 x)) is in
+    let end : drop closedAt s ≡ last = drop-cons s closedAt 0 (omega (arith, n)) in
+    let split : s ≡ (take 2 front ++ idle) ++ last =
+    sym (take-append-drop closedAt s) ∙ rw (end, all ∙ same) in
+    let m : length (take 2 front ++ idle) ≡ closedAt =
+    rw (← (all ∙ same)) (length-take-le closedAt s (omega (arith, n))) in
+    let long : length (0 ∷ 0 ∷ idle) ≡ closedAt =
+    omega (arith, m, length-append (take 2 front) idle, length-take-le 2 front l) in (
+      ap (λ (x : List ℕ). set (set (set x 0 0) 1 0) closedAt 0) (split ∙ append-assoc (take 2 front) idle last)
+          ∙ ap (λ (x : List ℕ). set x closedAt 0) (counts-set front (idle ++ last) 0 0 l)
+          ∙ set-at (0 ∷ 0 ∷ idle) (getD s closedAt 0) (drop talliesAt s) 0 closedAt long,
+      long,
+    )
+
+pub fresh-end : (d : DD.Sender) (s s′ front : List ℕ) (i : ℕ) → d ≡ freshSender → length s ≡ boardLen
+    → 2 ≤ length front → i ≡ 32 → Written d s (take 2 front) i
+    → s′ ≡ paste (set (set (set s 0 0) 1 0) closedAt 0) talliesAt (replicate 32 0) 32
+    → s′ ≡ boardNumbers freshBoard
+unfolding boardNumbers
+fresh-end d s s′ front i is n l h e p =
+    let z : List ℕ = replicate 32 0 in
+    let q = fresh-front d s front i is n l h e in
+    let k : talliesAt ≡ length (0 ∷ 0 ∷ idle) + 1 = omega (arith, q .1) in
+    let none : drop 33 (0 ∷ drop talliesAt s) ≡ [] =
+    drop-of-length-le (0 ∷ drop talliesAt s) {i = 33} (omega (arith, length-drop talliesAt s, n)) in
+    p
+    ∙ ap (λ (x : List ℕ). paste x talliesAt z 32) (q .0)
+    ∙ ap (λ (m : ℕ). paste ((0 ∷ 0 ∷ idle) ++ (0 ∷ drop talliesAt s)) m z 32) k
+    ∙ paste-behind (0 ∷ 0 ∷ idle) (0 ∷ drop talliesAt s) z 1 32
+    ∙ rw none

@@ -80,7 +80,7 @@ counts-read [] h = absurd (omega arith)
 counts-read (x ∷ []) h = absurd (omega arith)
 counts-read (x ∷ y ∷ s) h = refl
 
--- numbers that pass are of their length, their senders pass, and the last is a flag
+-- numbers that pass are of their length, their senders pass, and the one behind these is a flag
 pub all-numbers : (s : List ℕ) → encodes s ≡ true
     → (length s ≡ boardLen) × (encodesSenders 32 (drop 2 s) ≡ true) × (getD s closedAt 0 ≤ 1)
 unfolding encodes

@@ -33,3 +33,4 @@ SendersFit (d ∷ ds) = SenderFits d × SendersFit ds
 pub record BoardFits (b : HeldBoard) : Type 0 where
   pub all : length (b .senders) ≡ 32
   pub each : SendersFit (b .senders)
+  pub tallied : length (b .tallies) ≡ 32

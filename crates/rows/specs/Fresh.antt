@@ -1,9 +1,10 @@
--- An idle sender as it is opened (rule 1.10); its job is not read.
+-- The empty board (rule 1.10), and an idle sender of it; its job is not read.
 use mathlib.Core.Bool.{false}
 use lib.ListN.{replicate}
 use Rattle.state.specs.declared.Phase.the-variants as P
 use Rattle.state.specs.declared.State.the-variants as S
 use Rattle.state.specs.declared.Sender as DD
+use Rattle.boards.specs.Boards.{HeldBoard}
 
 abbrev pub freshSender : DD.Sender
 freshSender = record {
@@ -14,4 +15,13 @@ freshSender = record {
   reply = 0;
   matched = 0;
   job = record { subject = 0; chord = 0; phase = P.PassEnd; chosen = replicate 8 0; retry = false; retries = 0 };
+}
+
+abbrev pub freshBoard : HeldBoard
+freshBoard = record {
+  messages = 0;
+  matches = 0;
+  senders = replicate 32 freshSender;
+  closed = false;
+  tallies = replicate 32 0;
 }

@@ -1,5 +1,5 @@
--- The board as 675 plain numbers (rules 1.11 and 9.8): how many messages and matches there are, then 21 numbers for
--- each of 32 senders, then whether a day is closed.
+-- The board as 707 plain numbers (rules 1.11, 9.8 and 9.9): how many messages and matches there are, then 21 numbers
+-- for each of 32 senders, then whether a day is closed, then how many messages each sender has added.
 use mathlib.Core.Bool.{Bool, true, _&&_, _||_, not}
 use mathlib.Core.List.{List, [], _∷_, _++_}
 use Prim.Native.Nat.{ℕ, zero, suc}
@@ -53,9 +53,9 @@ unfoldable pub sendersNumbers : List DD.Sender → List ℕ
 sendersNumbers [] = []
 sendersNumbers (d ∷ ds) = senderNumbers d ++ sendersNumbers ds
 
--- 0 messages, 1 matches, then the senders, then the flag of a closed day
+-- 0 messages, 1 matches, then the senders, then the flag of a closed day and the tallies
 unfoldable pub boardNumbers : HeldBoard → List ℕ
-boardNumbers b = b .messages ∷ b .matches ∷ (sendersNumbers (b .senders) ++ (flag (b .closed) ∷ []))
+boardNumbers b = b .messages ∷ b .matches ∷ (sendersNumbers (b .senders) ++ (flag (b .closed) ∷ b .tallies))
 
 -- wake, signal and pass end have no place
 abbrev pub placeless : ℕ → Bool

@@ -9,11 +9,11 @@ ghost use lib.Seq.{paste};
 ghost use Rattle.model.specs.Basics.{flag};
 ghost use Rattle.state.specs.Views.{stepsIn, senderSteps, idleIs};
 ghost use Rattle.boards.specs.Boards.{zeroSender};
-ghost use Rattle.boards.specs.Layout.{boardLen};
+ghost use Rattle.boards.specs.Layout.{boardLen, talliesAt};
 ghost use Rattle.rows.specs.Decoded.{stateFrom, boardFrom};
 ghost use Rattle.rows.specs.Numbers.{stateNumber, phaseNumbers, kind, place, second};
 ghost use Rattle.rows.specs.Numbers.{senderNumbers, boardNumbers};
-ghost use Rattle.rows.specs.Fresh.{freshSender};
+ghost use Rattle.rows.specs.Fresh.{freshSender, freshBoard};
 ghost use Rattle.rows.specs.Fits.{PhaseFits, SenderFits};
 ghost use Rattle.rows.specs.Numbers.{encodesPhase, encodesSender, encodes};
 use state::Job;
@@ -292,11 +292,22 @@ fn fresh_sender() -> Sender
     }
 }
 
+// No sender has added a message.
+fn clear_tallies(s: &mut [u16])
+    requires { ⌜ length (now s) ≡ boardLen ⌝ }
+    ensures { λ _. ⌜ now (s .exit) ≡ paste (now (s .entry)) talliesAt (replicate 32 0) 32 ⌝ }
+{
+    let mut i: usize = 0;
+    while i < 32 {
+        s[boards::TALLIES + i] = 0;
+        i += 1;
+    }
+}
+
 // The numbers of an empty board: no messages, no matches, every sender idle, no day closed.
 pub fn put_fresh(s: &mut [u16])
     requires { ⌜ length (now s) ≡ boardLen ⌝ }
-    ensures { λ _. ⌜ now (s .exit) ≡ boardNumbers
-        (record { messages = 0; matches = 0; senders = replicate 32 freshSender; closed = false }) ⌝ }
+    ensures { λ _. ⌜ now (s .exit) ≡ boardNumbers freshBoard ⌝ }
 {
     let idle = fresh_sender();
     let mut i: usize = 0;
@@ -307,4 +318,5 @@ pub fn put_fresh(s: &mut [u16])
     s[0] = 0;
     s[1] = 0;
     s[boards::CLOSED] = 0;
+    clear_tallies(s);
 }

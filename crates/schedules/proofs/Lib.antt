@@ -5,5 +5,6 @@ pub mod HeldParts
 pub mod PublicMerge
 pub mod Mixed
 pub mod PublicClosing
+pub mod PublicSharing
 pub mod Unseen
 pub mod Outcomes

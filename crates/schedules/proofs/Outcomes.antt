@@ -50,8 +50,8 @@ matches-more t b (closes day) = omega (arith, ap length (frame .close t b day .m
 
 -- One call
 
-abbrev boardBy : ℕ → ℕ → List DD.Sender → Bool → HeldBoard
-boardBy n m ds u = record { messages = n; matches = m; senders = ds; closed = u }
+abbrev boardBy : ℕ → ℕ → List DD.Sender → Bool → List ℕ → HeldBoard
+boardBy n m ds u ks = record { messages = n; matches = m; senders = ds; closed = u; tallies = ks }
 
 -- two close days plus 1 that are equal
 same-flag : (u v : Bool) (x y : ℕ) → closedBy u x ≡ closedBy v y → u ≡ v
@@ -114,6 +114,9 @@ module _ (s : List ℕ) (h : Held) (k : Call) (v w : Said) (f g : Held) (z : ref
 
   closed-same : f .board .closed ≡ g .board .closed
   closed-same = same-flag _ _ _ _ (ap (λ (b : Board). b .closed) boards)
+
+  tallies-same : f .board .tallies ≡ g .board .tallies
+  tallies-same = ap (λ (b : Board). b .tallies) boards
 
   day-same : getD (f .columns .keys) closeDayAt 0 ≡ getD (g .columns .keys) closeDayAt 0
   day-same = go (f .board .closed) refl
@@ -255,11 +258,20 @@ module _ (s : List ℕ) (h : Held) (k : Call) (v w : Said) (f g : Held) (z : ref
   outcome-same : f ≡ g
   outcome-same = go
     where
-      go : held (boardBy (f .board .messages) (f .board .matches) (f .board .senders) (f .board .closed)) (f .columns)
-          (matchesOf (f .matches .chords) (f .matches .messages))
-          ≡ held (boardBy (g .board .messages) (g .board .matches) (g .board .senders) (g .board .closed)) (g .columns)
-          (matchesOf (g .matches .chords) (g .matches .messages))
-      go = cc (messages-count, matches-count, senders-same, closed-same, columns-same, chords-same, members-same)
+      go : held (boardBy (f .board .messages) (f .board .matches) (f .board .senders) (f .board .closed)
+          (f .board .tallies)) (f .columns) (matchesOf (f .matches .chords) (f .matches .messages))
+          ≡ held (boardBy (g .board .messages) (g .board .matches) (g .board .senders) (g .board .closed)
+          (g .board .tallies)) (g .columns) (matchesOf (g .matches .chords) (g .matches .messages))
+      go = cc (
+        messages-count,
+        matches-count,
+        senders-same,
+        closed-same,
+        tallies-same,
+        columns-same,
+        chords-same,
+        members-same,
+      )
 
 -- All calls
 

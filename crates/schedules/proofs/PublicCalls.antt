@@ -79,7 +79,7 @@ reads-as s h e =
     }
 
 few-said : (t : Table) (b : Board) (ks : List Call) (n : ℕ) (z : Exchange) → numberOf (z .said) ≡ 0
-    → numberOf (getD (history t b ks) n z .said) ≤ 20
+    → numberOf (getD (history t b ks) n z .said) ≤ 26
 few-said t b [] n z e = omega (arith, e)
 few-said t b (k ∷ ks) zero z e = answer-few t b k
 few-said t b (k ∷ ks) (suc n) z e = few-said t (answerTo t b k .board) ks n z e

@@ -4,4 +4,5 @@ pub mod InPeace
 pub mod Merged
 pub mod Mixes
 pub mod Closing
+pub mod Sharing
 pub mod Outcomes

@@ -16,12 +16,19 @@ use Rattle.boards.proofs.PartLaws.{set-here, set-before, set-after}
 use Rattle.rows.specs.Decoded.{boardFrom}
 use Rattle.refusals.specs.Held.{heldOf}
 use Rattle.writes.specs.declared.Move as DM
-use Rattle.writes.specs.Moves.{putIf, movedBoard, movedHeld}
+use Rattle.writes.specs.Moves.{putIf, talliedBoard, movedBoard, movedHeld}
 use Rattle.writes.specs.Written.{Written, columnsAfter, matchesWith}
 
 pub length-put : {A : Type 0} (u : Bool) (s : List A) (i : ℕ) (a : A) → length (putIf u s i a) ≡ length s
 length-put true s i a = length-set s i a
 length-put false s i a = refl
+
+-- where nothing is added, and where something is
+pub put-none : {A : Type 0} (u : Bool) (s : List A) (i : ℕ) (a : A) → u ≡ false → s ≡ putIf u s i a
+put-none u s i a e = rw e
+
+pub put-one : {A : Type 0} (u : Bool) (s : List A) (i : ℕ) (a : A) → u ≡ true → set s i a ≡ putIf u s i a
+put-one u s i a e = rw e
 
 module _ (n : ℕ) (x : DS.Sent) where
   abbrev pub addedBytes : Bool → List ℕ → List ℕ
@@ -125,7 +132,7 @@ module _ (m : DM.Move) (i : ℕ) (s s′ b w ks : List ℕ) (cs : List ℤ) (b�
   matches-then : matchesIn (lists s b₁ w₁ ks₁ cs₁) ≡ matchesIn l
   matches-then = rw (a .0, a .1) (added-matches n (m .sent) (m .adds) l room)
 
-  pub moved-held : boardFrom s′ ≡ movedBoard (boardFrom s) i m
+  pub moved-held : boardFrom s′ ≡ movedBoard (talliedBoard (boardFrom s) i (m .adds)) i m
       → heldOf (lists s′ b′ w′ ks₁ cs₁) ≡ movedHeld (heldOf l) i m
   unfolding boardFrom
   moved-held e =

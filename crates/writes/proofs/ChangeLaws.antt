@@ -50,5 +50,5 @@ module _ (g : DG.Change) (x : ℕ) (e : x ≡ signalBy g) (ds : List DD.Sender) 
 pub moved-by : (b : HeldBoard) (i : ℕ) (m : DM.Move) (n k : ℕ) (ds : List DD.Sender)
     → n ≡ messagesBy (m .adds) (b .messages)
     → k ≡ matchesBy (m .change) (b .matches) → ds ≡ sendersBy (m .change) (set (b .senders) i (m .sender))
-    → record { messages = n; matches = k; senders = ds; closed = b .closed } ≡ movedBoard b i m
+    → record { messages = n; matches = k; senders = ds; closed = b .closed; tallies = b .tallies } ≡ movedBoard b i m
 moved-by b i m n k ds en ek ed = rw (en, ek, ed)

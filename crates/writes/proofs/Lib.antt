@@ -11,5 +11,6 @@ pub mod AddLaws
 pub mod ChangeLaws
 pub mod PlaceLaws
 pub mod SignalLaws
+pub mod TallyLaws
 pub mod MovedLaws
 pub mod StartLaws

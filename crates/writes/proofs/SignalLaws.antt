@@ -94,6 +94,7 @@ signalledTo n i b = record {
   matches = b .matches;
   senders = map (signalledBy n) (take i (b .senders)) ++ drop i (b .senders);
   closed = b .closed;
+  tallies = b .tallies;
 }
 
 module _ (n : ℕ) where
@@ -113,7 +114,7 @@ module _ (n : ℕ) where
   to-fits : (b : HeldBoard) (i : ℕ) → BoardFits b → BoardFits (signalledTo n i b)
   to-fits b i f =
       let p = part-fits (b .senders) i (f .each) in
-      record { all = p .1 ∙ f .all; each = p .0 }
+      record { all = p .1 ∙ f .all; each = p .0; tallied = f .tallied }
 
   -- one sender more is signalled
   pub signal-next : (b : HeldBoard) (i own : ℕ) (s s′ : List ℕ) → BoardFits b → i < 32 → own ≡ n + 1
@@ -125,7 +126,8 @@ module _ (n : ℕ) where
       let ds = map (signalledBy n) (take i (b .senders)) ++ drop i (b .senders) in
       let step = in-place-step (signalledBy n) zeroSender (b .senders) i (omega (arith, f .all)) in
       q ∙ ap (λ (x : List ℕ). signalAt x (2 + 21 * i) own) p
-      ∙ signal-here (b .messages) (b .matches) ds (flag (b .closed) ∷ []) i (omega (arith, g .all)) (g .each) n own e
+      ∙ signal-here (b .messages) (b .matches) ds (flag (b .closed) ∷ b .tallies) i (omega (arith, g .all)) (g .each) n
+      own e
       ∙ rw (step, add-one i)
 
   -- all are signalled

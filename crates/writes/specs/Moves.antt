@@ -4,6 +4,7 @@ use mathlib.Core.Bool.{Bool, true, false}
 use mathlib.Core.List.{List}
 use Prim.Native.Nat.{ℕ, _+_, _<_, _≤_}
 use lib.ListN.{set}
+use Rattle.model.specs.Shares.{tally}
 use Rattle.columns.specs.Columns.{columnsOf, daysAt}
 use Rattle.columns.specs.MatchColumns.{matchesOf}
 use Rattle.state.specs.declared.Change as DG
@@ -30,13 +31,24 @@ turnedFrom (G.Turn n u) start = n
 turnedFrom (G.Record n) start = n
 turnedFrom (G.Signal n) start = start
 
--- the board after a move of the sender at place i
+-- the board whose sender at place i has added one more, where a message is added
+abbrev pub talliedBoard : HeldBoard → ℕ → Bool → HeldBoard
+talliedBoard b i u = record {
+  messages = b .messages;
+  matches = b .matches;
+  senders = b .senders;
+  closed = b .closed;
+  tallies = putIf u (b .tallies) i (tally (b .tallies) i + 1);
+}
+
+-- the board after a move of the sender at place i, but for its tally
 abbrev pub movedBoard : HeldBoard → ℕ → DM.Move → HeldBoard
 movedBoard b i m = record {
   messages = messagesBy (m .adds) (b .messages);
   matches = matchesBy (m .change) (b .matches);
   senders = sendersBy (m .change) (set (b .senders) i (m .sender));
   closed = b .closed;
+  tallies = b .tallies;
 }
 
 -- what is held after it
@@ -44,7 +56,7 @@ abbrev pub movedHeld : Held → ℕ → DM.Move → Held
 movedHeld h i m =
     let n = h .board .messages in
     let k = h .board .matches in
-    held (movedBoard (h .board) i m)
+    held (movedBoard (talliedBoard (h .board) i (m .adds)) i m)
     (columnsOf (putIf (m .adds) (h .columns .channels) n (m .sent .channel))
     (putIf (m .adds) (putIf (m .adds) (h .columns .keys) n (m .sent .property)) (daysAt + n) (m .sent .day))
     (putIf (m .adds) (h .columns .cents) n (m .sent .cents))

@@ -23,4 +23,5 @@ signalledBoard n b = record {
   matches = b .matches;
   senders = map (signalledBy n) (b .senders);
   closed = b .closed;
+  tallies = b .tallies;
 }

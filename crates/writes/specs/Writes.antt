@@ -133,4 +133,5 @@ effectBoard b i e = record {
   matches = matchesBy (e .change) (b .matches);
   senders = sendersBy (e .change) (set (b .senders) i (e .sender));
   closed = b .closed;
+  tallies = b .tallies;
 }

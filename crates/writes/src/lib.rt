@@ -9,7 +9,7 @@ ghost use lib.ListN.{length, getD, set};
 ghost use lib.Seq.{paste};
 ghost use Rattle.columns.specs.Columns.{daysAt, Passed};
 ghost use Rattle.boards.specs.Parts.{splice};
-ghost use Rattle.boards.specs.Layout.{bytesLen, linksLen, keysLen, centsLen, statusesAt, wakersAt};
+ghost use Rattle.boards.specs.Layout.{boardLen, talliesAt, bytesLen, linksLen, keysLen, centsLen, statusesAt, wakersAt};
 ghost use Rattle.boards.specs.Layout.{chordsAt, membersAt, unitsAt, statusesIn, chordsIn, membersIn, lists, Sized};
 ghost use Rattle.rows.specs.Numbers.{encodes};
 ghost use Rattle.rows.specs.Decoded.{boardFrom};
@@ -64,15 +64,18 @@ fn put_message(
     cents[k] = amount;
 }
 
-// Writes message n where a move adds it.
+// Writes message n where a move adds it, and that the sender at a place has added one more.
 fn put_added(
     m: Move,
+    i: u8,
     n: u16,
+    board: &mut [u16],
     bytes: &mut [u8],
     links: &mut [u16],
     keys: &mut [u32],
     cents: &mut [i64],
 )
+    requires { ⌜ (length (now board) ≡ boardLen) × (i < 32) × (getD (now board) (talliesAt + i) 0 ≤ 1024) ⌝ }
     requires { ⌜ (m .adds ≡ true → n < 1024) × (m .adds ≡ true → m .sent .channel ≤ 255)
         × (length (now bytes) ≡ bytesLen) × (length (now links) ≡ linksLen) × (length (now keys) ≡ keysLen)
         × (length (now cents) ≡ centsLen) ⌝ }
@@ -83,12 +86,16 @@ fn put_added(
         × (now (keys .exit)
         ≡ putIf (m .adds) (putIf (m .adds) (now (keys .entry)) n (m .sent .property)) (daysAt + n) (m .sent .day))
         × (now (cents .exit) ≡ putIf (m .adds) (now (cents .entry)) n (m .sent .cents)) ⌝ }
+    ensures { λ _. ⌜ now (board .exit) ≡ putIf (m .adds) (now (board .entry)) (talliesAt + i)
+        (getD (now (board .entry)) (talliesAt + i) 0 + 1) ⌝ }
 {
     if !m.adds {
         return;
     }
     let x = m.sent;
     put_message(n, x, bytes, links, keys, cents);
+    let at = boards::TALLIES + (i as usize);
+    board[at] = board[at] + 1;
 }
 
 // The status that a turn leaves.
@@ -297,7 +304,7 @@ pub fn write_move(
 )
     requires { ⌜ (encodes (now board) ≡ true) × (i < 32)
         × Sized (lists (now board) (now bytes) (now links) (now keys) (now cents))
-        × (getD (now board) 0 0 ≤ 1024) × (getD (now board) 1 0 ≤ 1024)
+        × (getD (now board) 0 0 ≤ 1024) × (getD (now board) 1 0 ≤ 1024) × (getD (now board) (talliesAt + i) 0 ≤ 1024)
         × Fits (getD (now board) 0 0) (getD (now board) 1 0) m ⌝ }
     ensures { λ _. ⌜ (heldOf (lists (now (board .exit)) (now (bytes .exit)) (now (links .exit)) (now (keys .exit))
         (now (cents .exit))) ≡ movedHeld (heldOf (lists (now (board .entry)) (now (bytes .entry)) (now (links .entry))
@@ -308,7 +315,7 @@ pub fn write_move(
 {
     let n = board[0];
     let k = board[1];
-    put_added(m, n, bytes, links, keys, cents);
+    put_added(m, i, n, board, bytes, links, keys, cents);
     let c = m.change;
     let d = m.sender;
     let j = d.job;

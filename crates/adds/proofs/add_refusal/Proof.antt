@@ -104,7 +104,7 @@ returns-6 c =
       known l,
       opened (dated (c .before .before)),
       cents-in (c .before),
-      le-ltb (a .n) 1024 (omega arith),
+      not-true (a .room) (c .if6 .taken),
     )
 
 returns-7 : tie.Need-returns-7
@@ -117,7 +117,7 @@ returns-7 c =
       known l,
       opened (dated (c .before .before)),
       cents-in (c .before),
-      lt-ltb (a .n) 1024 (omega arith),
+      not-false (a .room) (c .if6 .left),
     )
 
 pub add-refusal-spec : {M : Type 1} → statement M

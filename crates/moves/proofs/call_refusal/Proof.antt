@@ -1,21 +1,22 @@
 -- `moves::call_refusal` meets its contract: each kind of call by its own test.
-use mathlib.Core.Path.{_≡_, refl, sym, subst, ap, _∙_}
+use mathlib.Core.Path.{_≡_, sym, subst, ap, _∙_}
 use mathlib.Core.Bool.{Bool}
 use mathlib.Core.List.{List}
 use Prim.Native.Nat.{ℕ}
 use native.Mathlib.Omega.{arith}
 use borrow.Author.Needs.{needs}
 use lib.Dec.{leb}
-use lib.ListN.{getD, length}
+use lib.ListN.{getD, length, drop}
 use Rattle.model.specs.Tables.{Table}
 use Rattle.model.specs.Layout.{tableOf}
 use Rattle.model.specs.Boards.{Sent}
+use Rattle.model.specs.Shares.{hasRoom}
 use Rattle.model.specs.Pools.{adds}
 use Rattle.state.specs.Views.{idleIs}
 use Rattle.boards.specs.declared.Call as DC
 use Rattle.boards.specs.Boards.{HeldBoard, closedIn, zeroSender}
 use Rattle.boards.specs.Calls.{sentIn, callIn}
-use Rattle.boards.specs.Layout.{boardLen}
+use Rattle.boards.specs.Layout.{boardLen, talliesAt}
 use Rattle.rows.specs.Decoded.{boardFrom}
 use Rattle.rows.proofs.WalkLaws.{all-numbers}
 use Rattle.adds.specs.Refusals.{refusalBy}
@@ -36,12 +37,24 @@ idle-is c =
     let b = boardFrom (start c .args .board .now) in
     c .is-idle .ensures ∙ ap (λ j. idleIs (getD (b .senders) j zeroSender .state)) (c .before .place-of .ensures .0)
 
--- an add is refused by the number of messages
-by-add : (t : Table) (b : HeldBoard) (keys : List ℕ) (i : ℕ) (x : Sent) (idle timely : Bool) (n number : ℕ)
+room-is : (c : tie.After-has-room)
+    → let d = c .before .before .before .before .before in
+    let i = d .before .before .before .call .given .0 .0 in
+    c .has-room .result ≡ hasRoom (boardFrom (start d .args .board .now) .tallies) (placeOf i)
+unfolding boardFrom
+room-is c =
+    let d = c .before .before .before .before .before in
+    let at = d .before .place-of in
+    c .has-room .ensures
+    ∙ ap (λ (ks : List ℕ). hasRoom ks (at .result)) (c .before .tallies .ensures .0)
+    ∙ ap (hasRoom (drop talliesAt (start d .args .board .now))) (at .ensures .0)
+
+-- an add is refused by what is read
+by-add : (t : Table) (b : HeldBoard) (keys : List ℕ) (i : ℕ) (x : Sent) (idle timely room : Bool) (number : ℕ)
     → idle ≡ idleIs (getD (b .senders) (placeOf i) zeroSender .state) → timely ≡ leb (closedIn b keys) (x .day)
-    → n ≡ b .messages
-    → number ≡ refusalBy t i idle timely (x .channel) (x .cents) n → number ≡ callRefusal t b keys (adds i x)
-by-add t b keys i x idle timely n number e d k r = r ∙ add-by t b keys i x idle timely n e d k
+    → room ≡ hasRoom (b .tallies) (placeOf i)
+    → number ≡ refusalBy t i idle timely (x .channel) (x .cents) room → number ≡ callRefusal t b keys (adds i x)
+by-add t b keys i x idle timely room number e d k r = r ∙ add-by t b keys i x idle timely room e d k
 
 -- the numbers of the board are all there
 numbers : (s : tie.Start) → length (s .args .board .now) ≡ boardLen
@@ -53,13 +66,13 @@ shared-slice-read-day-open c = omega (arith, numbers (start (c .before)))
 shared-slice-read-day-open-2 : tie.Need-shared-slice-read-day-open-2
 shared-slice-read-day-open-2 c = omega (arith, start (c .before .before) .pre .2)
 
-shared-slice-read-add-refusal : tie.Need-shared-slice-read-add-refusal
-shared-slice-read-add-refusal c = omega (arith, numbers (start (c .before .before .before .before)))
+tallies-requires : tie.Need-tallies-requires
+tallies-requires c κs = numbers (start (c .before .before .before))
 
 returns : tie.Need-returns
 unfolding boardFrom
 returns c =
-    let o = c .before .before in
+    let o = c .before .before .before in
     let d = o .before .before .before in
     let k = d .before .before .before in
     let s = start d in
@@ -69,7 +82,7 @@ returns c =
     let g = k .call .given in
     subst (λ (x : DC.Call). c .add-refusal .result ≡ callRefusal t b (a .keys .now) (callIn x)) (sym (g .1))
     (by-add t b (a .keys .now) (g .0 .0) (sentIn (g .0 .1 .0)) (d .is-idle .result) (o .day-open .result)
-    (getD (a .board .now) 0 0) (c .add-refusal .result) (idle-is d) (o .day-open .ensures) refl
+    (c .before .has-room .result) (c .add-refusal .result) (idle-is d) (o .day-open .ensures) (room-is (c .before))
     (c .add-refusal .ensures))
 
 returns-2 : tie.Need-returns-2
@@ -91,7 +104,8 @@ call-refusal-spec =
     shared-slice-read-day-open
     shared-slice-read-day-open-2
     (λ c κs. search needs)
-    shared-slice-read-add-refusal
+    tallies-requires
+    (λ c κs. search needs)
     (λ c κs. search needs)
     (λ c. search needs)
     (λ c κs. search needs)

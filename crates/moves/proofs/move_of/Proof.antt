@@ -8,6 +8,8 @@ use lib.Dec.{leb}
 use lib.ListN.{getD}
 use Rattle.model.specs.Layout.{tableOf}
 use Rattle.model.specs.Effects.{numberOf}
+use Rattle.model.specs.Shares.{hasRoom}
+use Rattle.model.proofs.Shares.{room-left}
 use Rattle.state.specs.Views.{saidIn, idleIs, senderSteps}
 use Rattle.boards.specs.declared.Call as DC
 use Rattle.boards.specs.declared.Call.the-variants as G
@@ -18,7 +20,7 @@ use Rattle.rows.specs.Decoded.{boardFrom}
 use Rattle.rows.proofs.WalkLaws.{all-numbers}
 use Rattle.refusals.specs.Held.{heldOf}
 use Rattle.refusals.specs.Calls.{callerOf, Plays}
-use Rattle.refusals.proofs.Refusals.{table-accepted}
+use Rattle.refusals.proofs.Refusals.{table-accepted, board-shares}
 use Rattle.writes.specs.declared.Move as DM
 use Rattle.writes.specs.Moves.{movedHeld, Fits}
 use Rattle.moves.specs.Refused.{callRefusal}
@@ -75,9 +77,10 @@ add-move-requires c κs =
     let x = g .1 .0 in
     let u = unrefused (tableOf (s .args .table .now)) (g .0)
     (idleIs (getD (view s .board .senders) (g .0) zeroSender .state))
-    (leb (closedIn (view s .board) (s .args .keys .now)) (x .day)) (x .channel) (x .cents) (view s .board .messages)
-    (add-free k) in
-    (table-accepted _ _ _ _ (s .pre .0 .accepted), u .1, u .2)
+    (leb (closedIn (view s .board) (s .args .keys .now)) (x .day)) (x .channel) (x .cents)
+    (hasRoom (view s .board .tallies) (g .0)) (add-free k) in
+    let z = s .pre .0 .accepted in
+    (table-accepted _ _ _ _ z, u .1, room-left (board-shares _ _ _ _ z) (g .0) (u .0) (u .2))
 
 cast-step-move : tie.Need-cast-step-move
 cast-step-move c = omega (arith, step-free (c .before) .0)

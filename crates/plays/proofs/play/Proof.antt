@@ -1,17 +1,19 @@
 -- `plays::play` meets its contract: refused by itself, or its move, written.
 use mathlib.Core.Path.{_≡_, sym, ap, _∙_}
-use Prim.Native.Nat.{_<_, _≤_}
+use Prim.Native.Nat.{ℕ, _+_, _<_, _≤_}
 use native.Mathlib.Omega.{arith}
 use borrow.Author.Needs.{needs}
 use lib.ListN.{getD}
+use lib.Seq.{getD-drop}
 use Rattle.model.specs.Layout.{tableOf}
+use Rattle.model.proofs.Shares.{share-most}
 use Rattle.state.specs.Views.{saidIn}
 use Rattle.boards.specs.Calls.{Held, callIn}
-use Rattle.boards.specs.Layout.{Lists, lists, statusesIn}
+use Rattle.boards.specs.Layout.{talliesAt, Lists, lists, statusesIn}
 use Rattle.rows.specs.Decoded.{boardFrom}
 use Rattle.rows.proofs.WalkLaws.{all-numbers}
 use Rattle.refusals.specs.Held.{Accepted}
-use Rattle.refusals.proofs.Refusals.{table-accepted, messages-few, matches-few}
+use Rattle.refusals.proofs.Refusals.{table-accepted, messages-few, matches-few, board-shares}
 use Rattle.moves.specs.Refused.{callRefusal}
 use Rattle.moves.proofs.RefusedLaws.{caller-in}
 use Rattle.plays.specs.Plays.{PlaysIn}
@@ -69,6 +71,15 @@ few : (s : tie.Start) → (getD (s .args .board .now) 0 0 ≤ 1024) × (getD (s 
 unfolding boardFrom
 few s = (messages-few _ _ _ _ (accepted s .accepted), matches-few _ _ _ _ (accepted s .accepted))
 
+tally-few : (s : tie.Start) (i : ℕ) → getD (s .args .board .now) (talliesAt + i) 0 ≤ 1024
+unfolding boardFrom
+tally-few s i =
+    omega (
+      arith,
+      share-most (board-shares _ _ _ _ (accepted s .accepted)) i,
+      getD-drop talliesAt (s .args .board .now) i 0,
+    )
+
 -- the lists once the move is written
 abbrev left : tie.After-write-move → Lists
 left c =
@@ -120,7 +131,7 @@ write-move-requires c κs =
     let k = c .before .before .before .before .before in
     let s = begun (k .before) in
     let a = accepted s in
-    (a .numbers, caller-few k, a .sized, few s .0, few s .1, k .before .move-of .ensures .1 .0)
+    (a .numbers, caller-few k, a .sized, few s .0, few s .1, tally-few s _, k .before .move-of .ensures .1 .0)
 
 slice-read-start-after : tie.Need-slice-read-start-after
 slice-read-start-after c =

@@ -1,6 +1,6 @@
 -- `refusals::is_sound` meets its contract: a part that is not sound is a no, and the senders decide the rest.
 use mathlib.Core.List.{List, [], map}
-use mathlib.Core.Bool.{_&&_, true}
+use mathlib.Core.Bool.{Bool, _&&_, true}
 use mathlib.Core.Path.{_≡_, ap, sym, subst, _∙_}
 use Prim.Native.Nat.{ℕ, _≤_}
 use borrow.Author.Tests.{not-true, not-false, leb-true}
@@ -12,11 +12,12 @@ use native.Mathlib.Omega.{arith}
 use Rattle.model.proofs.Tests.{both}
 use Rattle.model.specs.Boards.{Board}
 use Rattle.model.specs.Layout.{tableOf}
+use Rattle.model.specs.Shares.{sharesOk}
 use Rattle.model.specs.Sound.{noneShared}
 use Rattle.model.specs.Tables.{Table}
 use Rattle.columns.specs.Columns.{columnsOf}
 use Rattle.state.specs.Views.{senderIn}
-use Rattle.boards.specs.Layout.{Lists, lists, columnsIn, matchesIn, unitsIn}
+use Rattle.boards.specs.Layout.{talliesAt, Lists, lists, columnsIn, matchesIn, unitsIn}
 use Rattle.soundness.specs.Tests.{messagesOk}
 use Rattle.senders.specs.Seen.{Seen}
 use Rattle.rows.specs.Decoded.{boardFrom}
@@ -33,6 +34,10 @@ table s = tableOf (s .args .table .now)
 abbrev numbers : tie.Start → List ℕ
 numbers s = s .args .board .now
 
+-- the counts and the shares
+abbrev countsTest : List ℕ → Bool
+countsTest s = (leb (getD s 0 0) 1024 && leb (getD s 1 0) 1024) && sharesOk (drop talliesAt s) (getD s 0 0)
+
 -- what is lent, with any keys
 module _ (s : tie.Start) (keys : List ℕ) where
   abbrev lent : Lists
@@ -45,8 +50,7 @@ module _ (s : tie.Start) (keys : List ℕ) where
   sees = seen-numbers (table s) (numbers s) (columnsIn lent) (matchesIn lent)
 
   in-order : soundIn (s .args .table .now) lent
-      ≡ ((leb (getD (numbers s) 0 0) 1024 && leb (getD (numbers s) 1 0) 1024)
-      && (messagesOk (table s) board (columnsIn lent) (getD (numbers s) 0 0)
+      ≡ (countsTest (numbers s) && (messagesOk (table s) board (columnsIn lent) (getD (numbers s) 0 0)
       && (matchesTest (table s) (boardFrom (numbers s)) (columnsIn lent) (matchesIn lent)
       && (rowsOk (table s) board 32 (drop 2 (numbers s))
       && noneShared (map (senderIn (table s)) (sendersIn (numbers s)))))))
@@ -58,20 +62,20 @@ same-columns p us k e f g h = rw (e, f, g, h)
 
 -- where the function starts, and where the counts are tested
 abbrev start : tie.Else1 → tie.Start
-start c = c .before .before .before .before .before .before .before
+start c = c .before .before .before .before .before .before
 
 abbrev counts : tie.After-messages-ok → tie.Else1
-counts c = c .before .before .before .before .before
+counts c = c .before .before .before .before .before .before .before
 
 -- the counts are within the limits
-counted : (c : tie.Else1)
-    → (leb (getD (numbers (start c)) 0 0) 1024 && leb (getD (numbers (start c)) 1 0) 1024) ≡ true
-counted c = not-false _ (c .if1 .left)
+counted : (c : tie.Else1) → countsTest (numbers (start c)) ≡ true
+counted c = sym (c .before .counts-ok .ensures) ∙ not-false _ (c .if1 .left)
 
 few : (c : tie.Else1) → (getD (numbers (start c)) 0 0 ≤ 1024) × (getD (numbers (start c)) 1 0 ≤ 1024)
 few c =
     let n = numbers (start c) in
-    let e = both {t = leb (getD n 0 0) 1024} (counted c) in
+    let d = both {t = leb (getD n 0 0) 1024 && leb (getD n 1 0) 1024} (counted c) in
+    let e = both {t = leb (getD n 0 0) 1024} (d .0) in
     (leb-true (getD n 0 0) 1024 (e .0), leb-true (getD n 1 0) 1024 (e .1))
 
 -- the messages and the matches, as the two functions say
@@ -103,13 +107,12 @@ matches-say c keys =
 
 returns : tie.Need-returns
 returns c keys =
-    let s = c .before .before .before .before .before .before .before in
-    let e = not-true (leb (getD (numbers s) 0 0) 1024 && leb (getD (numbers s) 1 0) 1024) (c .if1 .taken) in
-    rw (in-order s keys, e)
+    let s = c .before .before .before .before .before .before in
+    rw (in-order s keys, sym (c .before .counts-ok .ensures) ∙ not-true _ (c .if1 .taken))
 
 messages-ok-requires : tie.Need-messages-ok-requires
 messages-ok-requires c κs =
-    let d = c .before .before .before .before in
+    let d = c .before .before .before .before .before .before in
     let s = start d in
     let f = few d in
     let m = c .before in
@@ -187,9 +190,10 @@ pub is-sound-spec : {M : Type 1} → statement M
 is-sound-spec =
     tie.close
     (tie.spec
-    (λ c. search needs)
-    (λ c. search needs)
+    (λ c κs. search needs)
     returns
+    (λ c. search needs)
+    (λ c. search needs)
     (λ c κs. search needs)
     (λ c κs. search needs)
     (λ c κs. search needs)

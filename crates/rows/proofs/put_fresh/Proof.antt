@@ -1,10 +1,13 @@
--- `rows::put_fresh` meets its contract: each turn writes one idle sender more, then the counts and the flag.
-use mathlib.Core.Path.{_≡_, sym, _∙_}
-use Prim.Native.Nat.{_-_, _≤_}
+-- `rows::put_fresh` meets its contract: each turn writes one idle sender more, then the counts, the flag and the
+-- tallies.
+use mathlib.Core.Path.{_≡_, sym, ap, _∙_}
+use mathlib.Core.List.{List}
+use Prim.Native.Nat.{ℕ, _-_, _≤_}
 use borrow.Author.Needs.{needs}
-use lib.ListN.{length, take, set, length-set}
+use lib.ListN.{length, take, set, length-set, replicate, length-replicate}
+use lib.Seq.{length-paste}
 use native.Mathlib.Omega.{arith}
-use Rattle.boards.specs.Layout.{boardLen, closedAt}
+use Rattle.boards.specs.Layout.{boardLen, closedAt, talliesAt}
 use Rattle.rows.proofs.SenderLaws.{sender-long}
 use Rattle.rows.proofs.WalkLaws.{none-written}
 use Rattle.rows.proofs.FreshLaws.{Written, same-next, fresh-end}
@@ -33,20 +36,34 @@ loop-again c =
           (p .loop .inv .2),
     )
 
+-- the senders written, from the tallies on
+abbrev wrote : tie.After-clear-tallies-arg Inv-loop μ-loop → tie.At-loop Inv-loop μ-loop
+wrote c = c .before .before
+
+long : (c : tie.After-clear-tallies-arg Inv-loop μ-loop)
+    → length (set (set (set (wrote c .loop .s) 0 0) 1 0) closedAt 0) ≡ boardLen
+long c =
+    let s = wrote c .loop .s in
+    length-set (set (set s 0 0) 1 0) closedAt 0 ∙ length-set (set s 0 0) 1 0 ∙ length-set s 0 0 ∙ wrote c .loop .inv .1
+
 same-length : tie.Need-same-length Inv-loop μ-loop
 same-length c =
-    let p = c .before in
-    let s = p .loop .s in
-    length-set (set (set s 0 0) 1 0) closedAt 0 ∙ length-set (set s 0 0) 1 0 ∙ length-set s 0 0 ∙ p .loop .inv .1
-    ∙ sym (p .before .before .before .pre)
+    let v = c .before .before in
+    let w = wrote (v .before) in
+    let s = set (set (set (w .loop .s) 0 0) 1 0) closedAt 0 in
+    let z : List ℕ = replicate 32 0 in
+    ap length (v .clear-tallies .ensures)
+    ∙ length-paste s talliesAt z 32 (omega (arith, long (v .before))) (omega (arith, length-replicate {A = ℕ} 32 0))
+    ∙ long (v .before) ∙ sym (w .before .before .before .pre)
 
 returns : tie.Need-returns Inv-loop μ-loop
 returns c =
-    let p = c .before in
-    let f = p .before in
+    let v = c .before .before in
+    let w = wrote (v .before) in
+    let f = w .before in
     let s = f .before .before in
-    fresh-end (f .fresh-sender .result) (p .loop .s) (s .args .s .now) (p .loop .i) (f .fresh-sender .ensures)
-    (p .loop .inv .1) (omega (arith, s .pre)) (omega arith) (p .loop .inv .2)
+    fresh-end (f .fresh-sender .result) (w .loop .s) _ (s .args .s .now) (w .loop .i) (f .fresh-sender .ensures)
+    (w .loop .inv .1) (omega (arith, s .pre)) (omega arith) (w .loop .inv .2) (v .clear-tallies .ensures)
 
 pub put-fresh-spec : {M : Type 1} → statement M
 put-fresh-spec =
@@ -65,5 +82,6 @@ put-fresh-spec =
     (λ c. search needs)
     (λ c. search needs)
     (λ c. search needs)
+    (λ c κs. long c)
     same-length
     returns)

@@ -1,0 +1,2 @@
+-- Sums over the tallies, and the functions' contracts.
+pub mod SumLaws
