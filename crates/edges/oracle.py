@@ -1,5 +1,5 @@
 #!/usr/bin/env python3
-# The expected printout of edges, from document 01 and requests 2, 3 and 8 of document 02 alone: each line with the
+# The expected printout of edges, from document 01 and requests 2, 3, 8 and 13 of document 02 alone: each line with the
 # sentence or the reason that gives it.
 # Run: python3 oracle.py | diff - stdout
 #
@@ -9,14 +9,14 @@
 # after it, of day 0, a close of day 31, each with its `kept`, then quiet, that desk's slip, item 0, match 0; in the
 # lines on tables and lengths each call is made on an empty board, all by one desk, whose number is the day closed.
 #
-# The five lists: board, 675 numbers (items, matches, then 21 for each of 32 desks, and 1 where a day is closed, 0 where
-# none is); bytes, 3,072 (trays, statuses, rules of matches); links, 11,264 (matches of items, wakers, eight items of
-# each match, units); keys, 2,049 (properties, days, and the close day, anything where none is closed); cents, 1,024. A
-# desk's 21: state (0 idle, 1 at work, 2 blocked), signal, own item, waker, slip, match made (these four plus 1, 0 for
-# none), item in hand, rule, phase, place, second number, mark, how often `again`, eight chosen items. Phases: 0 look, 1
-# claim, 2 revert (second: claims made), 3 consume (second: match plus 1), 4 tell, 5 wake, 6 free, 7 signal, 8 pass end,
-# 9 rest (place: rests left less 1). Wake, signal and pass end have no place. A rule, a place, the claims made and the
-# count of `again` are bytes; signal and mark are 0 or 1.
+# The five lists: board, 707 numbers (items, matches, then 21 for each of 32 desks, 1 where a day is closed, else 0, and
+# for each desk its tally, how many items it has added); bytes, 3,072 (trays, statuses, rules of matches); links, 11,264
+# (matches of items, wakers, eight items of each match, units); keys, 2,049 (properties, days, and the close day,
+# anything where none is closed); cents, 1,024. A desk's 21: state (0 idle, 1 at work, 2 blocked), signal, own item,
+# waker, slip, match made (these four plus 1, 0 for none), item in hand, rule, phase, place, second number, mark, how
+# often `again`, eight chosen items. Phases: 0 look, 1 claim, 2 revert (second: claims made), 3 consume (second: match
+# plus 1), 4 tell, 5 wake, 6 free, 7 signal, 8 pass end, 9 rest (place: rests left less 1). Wake, signal and pass end
+# have no place. A rule, a place, the claims made and the count of `again` are bytes; signal and mark are 0 or 1.
 
 
 def marked(word):
@@ -47,18 +47,27 @@ def words(desk, *said):
     one(f"desk {desk}", *said)
 
 
-# 1. "A board takes 1,024 items", numbered from 0. Table: one leave tray, no rule, so one step ends each job.
+# An add of each desk, in turn.
+def everyone(*said):
+    one("every desk", *said)
+
+
+# 1. "A board takes 1,024 items", numbered from 0. Table: one leave tray, no rule, so one step ends each job. The desks
+# add in turn: "Each desk has 16 items of its own; the other 512 are common", so each gets 32.
 print("taken 1023, ended 1023")
+# the last common one to desk 0, its 33rd; then "26 if the desk has added 16 or more and the common ones are used up"
+one("item 1,024, desk 0", "item 1023", "ended", "refused 26", "refused 26")
 one("item 1,024", "item 1023")  # "Item 1,024 in number (index 1,023) is taken"
-one("full, desk 32, tray and cents out of range", "refused 8")  # before 9, 10, 11, 12
+one("full, desk 32, tray and cents out of range", "refused 8")  # before 9, 10, 11, 26
 one("full, desk at work, the same", "refused 9")  # desk 31 has not stepped
 one("full, desk idle, the same", "refused 10")
 one("full, cents out of range", "refused 11")
-one("full", "refused 12")  # "the next is 12"
+one("full", "refused 26")  # "it stands where 12 stood, in 01's edge item too"
 print("full, item 1,023: 0 as sent")
 print("full, item 1,024: 14")  # "no such item"
 one("full, step", "ended")  # no rule names the tray
 one("full, step of an idle desk", "refused 13")
+everyone(*["refused 26"] * 31, "refused 9")  # desk 31 is at work
 # Day 5 is closed on the full board. "An add dated on the close day or before it is refused, even if the board is full
 # or the cents are wild": 19, "after 10 and before 11"
 one("full, closed, desk 32, tray and cents out of range", "closed", "refused 8")
@@ -67,7 +76,7 @@ one("full, closed, desk idle, the same", "closed", "refused 10")
 one("full, closed, cents out of range", "closed", "refused 19")
 one("full, closed", "closed", "refused 19")
 one("full, closed, the day after, cents out of range", "closed", "refused 11")
-one("full, closed, the day after", "closed", "refused 12")
+one("full, closed, the day after", "closed", "refused 26")
 one("full, closed, a day before", "closed", "refused 20")
 one("full, closed, item 1,023", "closed", "0 as sent")  # it is of day 0, and still read
 one("full, closed, step", "closed", "ended")
@@ -115,11 +124,13 @@ for name in ["board", "bytes", "links", "keys", "cents"]:
     # an empty board: desk 0 idle: 13; its add taken; "no day is closed", so day 0 can be; no item 0, no match 0
     seven(name, 13, 0, 0, 0, 0, 14, 15)
     broken(name)
+    if name == "board":
+        broken("board without tallies")  # 675 numbers
     if name == "links":
         broken("links without units")  # 10,240 numbers
     if name == "keys":
         broken("keys, properties alone")  # 1,024 numbers, no days
-        broken("board and keys without close day")  # 674 and 2,048; each alone is one less
+        broken("board and keys without close day")  # 674 and 2,048
 
 # 4. "a call given them first gives the reader's numbers": before 30 (a list too short) and 8 (desk 32).
 for n, label in [(1, "11 bytes"), (2, "17 trays"), (3, "a byte less"), (4, "tray byte 2"), (5, "a rule of 9"),
@@ -132,8 +143,10 @@ print("open, last byte 2: 30 kept")  # "the last byte is now wrong when over 2":
 broken("last byte 2")
 print("opened, last byte 2: 0")
 print("open, 674 numbers: 30 kept")
-print("open, 675 numbers: 0")
-print("open, 676 numbers: 30 kept")
+print("open, 675 numbers: 30 kept")
+print("open, 706 numbers: 30 kept")
+print("open, 707 numbers: 0")
+print("open, 708 numbers: 30 kept")
 broken("30 before 8")
 
 # 5. Refusals in their order, on table P where desk 0 is blocked.
@@ -190,8 +203,9 @@ print("claim past the records: not claimed")
 # 8. Table Q: trays leave, waiting, waiting; rules 0 1, 0 0, 1 2 0. Six items in trays 0 1 1 1 2 0: 0 and 4 pending,
 # 1 and 5 consumed in match 0 of rule 0, 2 woken by 0, 3 claimed. Desk 0 has item 0 in hand at rule 0, looking at 1;
 # desk 1 is blocked on item 2; desk 2 has item 3 in hand at rule 2, consuming; desk 3 is idle, with item 1 and slip 0.
+# The tallies of desks 0 to 3 are 1 1 1 3. Where there are more items, so are there adds.
 accepted("the sound board")
-seven("1,024 items", 0, 12, 0, 0, 0, 0, 0)  # the records counted beside are of tray 0, pending: sound, and full
+seven("1,024 items", 0, 26, 0, 0, 0, 0, 0)  # the records counted beside are of tray 0, pending: sound, and full
 broken("1,025 items")  # "its counts are within the limits"
 broken("65,535 items")
 accepted("1,024 matches")  # those counted beside are of rule 0 and item 0
@@ -353,7 +367,10 @@ replay("room for one", "31 kept")
 replay("no room", "31 kept")
 replay("30 before 31", "30 kept")
 replay("rows that fit, a board that is not sound", "30 kept")
-replay("rows that fit, a board of 674 numbers", "30 kept")
+replay("rows that fit, a board of 675 numbers", "30 kept")
+replay("rows that fit, a board of 706 numbers", "30 kept")
+replay("rows that fit, an add too many", "30 kept")
+replay("rows that fit, 529 adds of desk 0", "30 kept")
 replay("rows that fit, keys of 2,048 numbers", "30 kept")
 replay("rows that fit, flag of the close day 2", "30 kept")
 # then match 0, quiet, and desk 0's slip: "match 0 rule 0 cents 5000 items 1 0 / quiet yes"; the slip is match 0 plus 1;
@@ -384,6 +401,22 @@ replay("a close in a row, flag of the close day 2", "30 kept")
 # close is of the same day, and desk 0 is signalled
 replay("the run of P with closes", 0, *RUN[:3], RUN[4], "closed", *RUN[5:12], "closed", *RUN[12:19],
        "0 rule 0 members 2 items 1 0 cents 5000", "0 quiet", "0 reply 1", *["0 as sent"] * 2)
+
+# A table of one leave tray; boards with items that are counted, all of tray 0, and as many adds: adds and steps of desk
+# 0, which has 526 of them, and an add of desk 1; then one of desk 0 by itself
+replay("items 527 and 528 in rows", 0, "item 526", "ended", "item 527", "ended", "refused 26", "item 528", "-",
+       "refused 26 kept", "ended")
+replay("rows that are all refused", 0, "refused 26", "refused 26", "-", "kept")
+# 528 are desk 0's, 15 desk 1's; its adds to tray 1, of cents out of range, and two that are right; a step, an add of
+# it, of desk 0 and of desk 2
+replay("the last of a share in rows", 0, "refused 10", "refused 11", "item 543", "refused 9", "ended", "refused 26",
+       "refused 26", "item 544", "-", "refused 26 kept", "ended")
+# 528 are desk 0's; day 5 is closed, then as in "refusals in rows", and of day 6 desk 1 adds what desk 0 may not
+replay("refusals in rows before 26", 0, "closed", *[f"refused {n}" for n in (8, 10, 19, 19, 11, 26)], "item 528",
+       "refused 13", "refused 9", "-")
+# 528 are desk 0's, 14 desk 31's, 16 each other's: two of desk 31, with an add of desk 0 between; then desks 31, 0, 16
+replay("items 1,023 and 1,024 in rows", 0, "item 1022", "ended", "refused 26", "item 1023", "ended",
+       *["refused 26"] * 3, "-", "refused 26 kept", "0 quiet")
 
 
 # 11. "A look takes the fitting pending item with the least day, equal days by lowest number". Items are added by a desk
@@ -566,3 +599,99 @@ one("desk 0 told", "item 0", "missed", "looked 0", "missed", "ended", "item 1", 
 one("told, closed", "0 reply 0", "closed", "0", "0 reply 0", "answered 0", "0 reply 1")
 one("desk 0 blocks, closed", *RUN[:3], "closed")
 one("no signal", "refused 13", "0 quiet")  # a close signals nobody
+
+# 15. "An add past the desk's 16 uses a common one. So no desk is refused any of its 16 for want of space, however the
+# rest behave, and none ever has more than 528." The table of 1., desk 0 alone; its 528th is left at work.
+print("taken 527, ended 527")
+one("item 528", "item 527")
+# "Turned away: 26 if the desk has added 16 or more and the common ones are used up; it stands where 12 stood": last
+one("spent, desk 32", "refused 8")
+one("spent, at work", "refused 9")
+one("spent, no such tray", "ended", "refused 10")
+one("spent, a closed day", "ended", "closed", "refused 19")
+one("spent, cents 1,000,000,000,000", "ended", "refused 11")
+one("spent, cents -1,000,000,000,000", "ended", "refused 11")
+# day 5 is closed; adds of that day to no such tray, of cents out of range: by desk 32, by desk 0 at work, and after its
+# step; then to the tray there is, and of the day after
+one("spent, all of these", "closed", "refused 8", "refused 9", "ended", "refused 10", "refused 19", "refused 11")
+one("spent, the day after", "ended", "closed", "refused 26")
+one("spent, cents 999,999,999,999", "ended", "refused 26")
+one("spent", "ended", "refused 26", "refused 26", "refused 13")  # a desk that is refused stays idle
+one("spent, opened anew", "ended", "refused 26", "0", "item 0")  # an empty board, where nobody has added
+one("item 528, step", "ended")
+everyone("refused 26", *[f"item {n}" for n in range(528, 559)])  # each other has its own
+# desk 1's own, but one
+print("taken 543, ended 543")
+one("desk 1, its last", "item 543", "refused 9", "ended", "refused 26", "refused 26", "item 544")
+# adds of tray 1, of cents out of range, and of day 5, closed; one of desk 0; a refused add uses nothing up
+one("desk 1, its last, after adds that are refused", "refused 10", "refused 11", "closed", "refused 19", "refused 26",
+    "item 543", "ended", "refused 26")
+# the last of desk 1, then 16 of each desk to 30, and 15 of desk 31
+print("taken 1023, ended 1023")
+one("item 1,024, desk 31", "item 1023", "ended")
+everyone(*["refused 26"] * 32)
+
+# Adds count, not the items that are left. Rule: trays 0 1; 527 items of desk 0 in tray 0, then one of it in tray 1.
+one("item 528, matched", "item 527", "looked 0", "looked 527", "claimed 0", "matched 0", "consumed 0", "consumed 527",
+    "refused 26", "0 quiet")
+# 528 in tray 0, and one of desk 1 in tray 1
+one("item 528 and another's, matched", "item 528", "looked 0", "looked 528", "claimed 0", "matched 0", "consumed 0",
+    "consumed 528", "refused 26", "item 529")
+# Table P: 527 of desk 0 in tray 0, of property 0, and one of property 7 that waits; desk 1 wakes it, and it matches
+one("item 528, waiting", "item 527", "missed", "ended", "refused 9", "item 528", "looked 528", "looked 527",
+    "claimed 528", "claimed 527", "woke 527", "freed 528", "signalled 527", "resumed", "looked 528", "looked 527",
+    "claimed 528", "matched 0", "consumed 528", "consumed 527", "refused 26", "item 529")
+
+# "A sound board's adds by desk now sum to its items": after an add that desk's tally is 1, and with 0 or 2 there the
+# board is not sound.
+for desk in (0, 5, 31):
+    one(f"an add of desk {desk}", "item 0", "refused 30", "refused 30", "looked 0")
+
+# 528 items of desk 0 in tray 0; on each of the lists a step and an add of desk 0, a close of day 0, and reads.
+broken("30 before 26")
+seven("26", 13, 26, 0, 0, 0, 0, 15)
+seven("1 before 26", *[1] * 7)
+
+
+# 16. "A sound board's adds by desk now sum to its items, and the parts above 16 to at most 512." The board of 8., whose
+# tallies are 1 1 1 3; the items counted beside its six are of tray 0, pending. The add is of desk 31.
+def spent(label):
+    seven(label, 0, 26, 0, 0, 0, 0, 0)
+
+
+broken("an add too many")
+broken("an add too few")
+broken("an add too many, of desk 31")
+broken("no adds")
+broken("an item more")
+accepted("an item and an add more")
+accepted("all adds of desk 31")
+broken("262 adds")  # not 6
+# 65,535 and 101: modulo 65,536 these are 100, and 65,519 and 85 above 16 are 68
+broken("100 items, 65,636 adds")
+# 31 times 65,535, and 631: 600 and 88
+broken("600 items, 2,032,216 adds")
+broken("65,535 adds of each desk")
+
+accepted("528 items of desk 0")  # 512 above 16
+broken("529 items of desk 0")  # 513
+spent("528 items of desk 31")
+accepted("544 items, 527 and 17")  # 511 and 1
+broken("545 items, 528 and 17")
+accepted("545 items, 528, 16 and 1")
+spent("1,024 items, 33 and 31, 32 of each other")
+broken("1,024 items, 49 and 15, 32 of each other")  # 33 and 30 times 16: 513
+spent("1,024 items, 528 and 16 of each other")
+broken("1,024 items, 529 and 15, 16 of each other")
+
+# 26 wants both: 16 or more of desk 31, and 512 above 16 of all
+accepted("543 items, 16 of desk 31, 527 of desk 0")
+spent("544 items, 16 of desk 31, 528 of desk 0")
+spent("544 items, 16 of desk 31, 528 of desk 30")
+accepted("544 items, 15 of desk 31, 528 and 1")
+accepted("544 items, 16 of desk 31, 527 and 1")
+spent("544 items, 527 of desk 31, 17 of desk 0")
+accepted("544 items, 527 of desk 31, 16 and 1")
+accepted("1,023 items, 15 of desk 31, 528 of desk 0")
+spent("1,023 items, 528 of desk 31, 15 of desk 0")
+accepted("1,023 items, 31 of desk 31, 32 of each other")  # 511

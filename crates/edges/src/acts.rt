@@ -10,7 +10,7 @@ use state::Said;
 fn set(w: World, kind: u8, at: usize, x: u16) -> World {
     let mut v = w;
     match kind {
-        b'n' => v.board[at % 676] = x,
+        b'n' => v.board[at % 708] = x,
         b'b' => v.bytes[at % 3073] = (x % 256) as u8,
         b'l' => v.links[at % 11265] = x,
         b'L' => v.lens[at % 5] = x as usize,
@@ -45,6 +45,17 @@ fn put_key(w: World, at: u16, x: u32) -> World {
     v
 }
 
+// The same tally for every sender.
+fn put_tallies(w: World, x: u16) -> World {
+    let mut v = w;
+    let mut i: usize = 0;
+    while i < 32 {
+        v.board[675 + i] = x;
+        i += 1;
+    }
+    v
+}
+
 // Where a sender's number stands on the board.
 fn sender_at(p: Part) -> u16 {
     2 + 21 * (script::small(p, 0) % 32) + script::small(p, 1) % 32
@@ -59,13 +70,14 @@ fn edit(w: World, p: Part) -> World {
         b'c' => put_amount(w, at, script::amount(p, 1)),
         b'C' => put_amount(w, at, script::amount(p, 1)),
         b'K' => put_key(w, at, script::long(p, 1)),
+        b'T' => put_tallies(w, at),
         _ => put(w, kind, at, p, 1),
     }
 }
 
 fn is_edit(kind: u8) -> bool {
     let lists = (kind == b'n') | (kind == b'd') | (kind == b'b') | (kind == b'l');
-    lists | (kind == b'c') | (kind == b'C') | (kind == b'K') | (kind == b'L')
+    lists | (kind == b'c') | (kind == b'C') | (kind == b'K') | (kind == b'L') | (kind == b'T')
 }
 
 // What was said: in words, or as the number of a refusal.

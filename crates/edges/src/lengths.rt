@@ -81,15 +81,16 @@ fn last_bytes() {
     );
 }
 
-// Each list at no numbers, one less than a board has, as many, and one more; links without units, keys without days,
-// and both lists without what is kept of a close.
+// Each list at no numbers, one less than a board has, as many, and one more; a board without tallies, links without
+// units, keys without days, and both lists without what is kept of a close.
 fn lists() {
     opened(
         &ONE,
         b"board|L 0 0;y 0\n\
-        board|L 0 674;y 0\n\
-        board|L 0 675;y 0\n\
-        board|L 0 676;y 0\n\
+        board|L 0 706;y 0\n\
+        board|L 0 707;y 0\n\
+        board|L 0 708;y 0\n\
+        board without tallies|L 0 675;y 0\n\
         bytes|L 1 0;y 0\n\
         bytes|L 1 3071;y 0\n\
         bytes|L 1 3072;y 0\n\
@@ -127,8 +128,10 @@ pub fn lines() {
     filled(
         &P,
         b"open, 674 numbers|L 0 674;o\n\
-        open, 675 numbers|o\n\
-        open, 676 numbers|L 0 676;o\n",
+        open, 675 numbers|L 0 675;o\n\
+        open, 706 numbers|L 0 706;o\n\
+        open, 707 numbers|o\n\
+        open, 708 numbers|L 0 708;o\n",
     );
     opened(&ONE, b"30 before 8|L 1 3071;y 32\n");
 }

@@ -12,7 +12,9 @@ mod once;
 mod order;
 mod replays;
 mod sound;
+mod spent;
 mod tables;
+mod tallies;
 mod units;
 mod unsound;
 
@@ -30,4 +32,6 @@ fn main() {
     units::lines();
     closing::lines();
     closed::lines();
+    spent::lines();
+    tallies::lines();
 }

@@ -1,6 +1,7 @@
-// Lists of calls (rule 6.7): rows that do not fit, too little room for the answers, and the run of table P, also on a
-// table that wants equal units.
+// Lists of calls (rule 6.7): rows that do not fit, too little room for the answers, the run of table P, also on a table
+// that wants equal units, closes, and the last messages of senders.
 use crate::acts;
+use crate::tables::ONE;
 use crate::tables::P;
 use crate::tables::UNITS;
 
@@ -26,7 +27,10 @@ pub fn lines() {
         no room|w 8 4 2 0\n\
         30 before 31|w 7 4 2 0\n\
         rows that fit, a board that is not sound|n 0 1025;w 8 4 2 2\n\
-        rows that fit, a board of 674 numbers|L 0 674;w 8 4 2 2\n\
+        rows that fit, a board of 675 numbers|L 0 675;w 8 4 2 2\n\
+        rows that fit, a board of 706 numbers|L 0 706;w 8 4 2 2\n\
+        rows that fit, an add too many|n 706 1;w 8 4 2 2\n\
+        rows that fit, 529 adds of desk 0|n 0 529;n 675 529;w 8 4 2 2\n\
         rows that fit, keys of 2,048 numbers|L 3 2048;w 8 4 2 2\n\
         rows that fit, flag of the close day 2|n 674 2;w 8 4 2 2\n\
         the run of P|w 80 40 20 20;k 0;q;r 0;m 0 1 7 0 0 3;m 1 0 7 5000 0 65535\n",
@@ -38,6 +42,24 @@ pub fn lines() {
     );
     acts::section(b"", b"", b"1 before 30|w 7 4 2 0\n");
     closes();
+    shares();
+}
+
+// The last messages that a sender may add, in rows.
+fn shares() {
+    acts::section(
+        &ONE,
+        b"",
+        b"items 527 and 528 in rows|n 0 526;n 675 526;p 1 0 0 1 0,0 0 0 0 0,1 0 0 1 0,0 0 0 0 0,1 0 0 1 0,1 1 0 1 0\
+        ;a 0 0 7 1;s 1\n\
+        rows that are all refused|n 0 528;n 675 528;p 1 0 0 1 0,1 0 0 1 0\n\
+        the last of a share in rows|n 0 543;n 675 528 15;p 1 1 1 1 0,1 1 0 1000000000000 0,1 1 0 1 0,1 1 0 1 0\
+        ,0 1 0 0 0,1 1 0 1 0,1 0 0 1 0,1 2 0 1 0;a 1 0 7 1;s 2\n\
+        refusals in rows before 26|n 0 528;n 675 528;p 2 0 0 0 5,1 32 1 1000000000000 5,1 0 1 1000000000000 5\
+        ,1 0 0 1000000000000 5,1 0 0 1 5,1 0 0 1000000000000 6,1 0 0 1 6,1 1 0 1 6,0 0 0 0 0,1 1 1 1000000000000 5\n\
+        items 1,023 and 1,024 in rows|n 0 1022;T 16;n 675 528;n 706 14;p 1 31 0 1 0,0 31 0 0 0,1 0 0 1 0,1 31 0 1 0\
+        ,0 31 0 0 0,1 31 0 1 0,1 0 0 1 0,1 16 0 1 0;a 31 0 7 1;q\n",
+    );
 }
 
 // Rows of kind 2, which are closes, among others.

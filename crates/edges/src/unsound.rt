@@ -1,12 +1,13 @@
-// Boards that are not sound, each beside one that is: counts, messages, matches, and senders that are not at work.
+// Boards that are not sound, each beside one that is: counts, messages, matches, and senders that are not at work. With
+// more messages there are as many adds more.
 use crate::sound;
 
 pub fn lines() {
     sound::lines(
         b"the sound board|x 0\n\
-        1,024 items|n 0 1024;x 0\n\
-        1,025 items|n 0 1025;x 0\n\
-        65,535 items|n 0 65535;x 0\n\
+        1,024 items|n 0 1024;T 32;x 0\n\
+        1,025 items|n 0 1025;T 32;n 675 33;x 0\n\
+        65,535 items|n 0 65535;n 675 65535 0 0 0;x 0\n\
         1,024 matches|n 1 1024;x 0\n\
         1,025 matches|n 1 1025;x 0\n\
         item 5 in tray 2|b 5 2;x 0\n\

@@ -8,7 +8,7 @@ use state::Said;
 
 // Each list has a number past it, and is lent at a length.
 pub struct World {
-    pub board: [u16; 676],
+    pub board: [u16; 708],
     pub bytes: [u8; 3073],
     pub links: [u16; 11265],
     pub keys: [u32; 2050],
@@ -28,12 +28,12 @@ pub fn filled(x: u8) -> World {
     let key = x as u32;
     let amount = x as i64;
     World {
-        board: [number; 676],
+        board: [number; 708],
         bytes: [x; 3073],
         links: [number; 11265],
         keys: [key; 2050],
         cents: [amount; 1025],
-        lens: [675, 3072, 11264, 2049, 1024],
+        lens: [707, 3072, 11264, 2049, 1024],
     }
 }
 
@@ -41,7 +41,7 @@ pub fn filled(x: u8) -> World {
 pub fn is_same(a: World, b: World) -> bool {
     let mut i: usize = 0;
     while i < 11265 {
-        let n = i % 676;
+        let n = i % 708;
         let y = i % 3073;
         let k = i % 2050;
         let c = i % 1025;
@@ -66,9 +66,9 @@ pub fn least(n: usize, most: usize) -> usize
 }
 
 // An opening; what is said is a refusal, of number 0 where there is none.
-fn open(table: &[u8], w: World, mut board: [u16; 676], len: usize) -> After {
+fn open(table: &[u8], w: World, mut board: [u16; 708], len: usize) -> After {
     let mut v = w;
-    let n = len % 677;
+    let n = len % 709;
     let number = calls::open(table, &mut board[0..n]);
     v.board = board;
     After {
@@ -135,7 +135,7 @@ fn lent(
 // The same, with each list at its length.
 fn lend(
     table: &[u8],
-    mut board: [u16; 676],
+    mut board: [u16; 708],
     mut bytes: [u8; 3073],
     mut links: [u16; 11265],
     mut keys: [u32; 2050],
@@ -143,7 +143,7 @@ fn lend(
     lens: [usize; 5],
     p: Part,
 ) -> After {
-    let n0 = lens[0] % 677;
+    let n0 = lens[0] % 709;
     let n1 = lens[1] % 3074;
     let n2 = lens[2] % 11266;
     let n3 = lens[3] % 2051;
