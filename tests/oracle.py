@@ -1,4 +1,4 @@
-"""A plain reading of the matching board (paper 01, and requests 2 and 8 of paper 02).
+"""A plain reading of the matching board (paper 01, and requests 2, 8 and 13 of paper 02).
 
     python3 tests/oracle.py RULES.BIN < INPUT
 
@@ -11,7 +11,8 @@ import sys
 # --- limits ---------------------------------------------------------------
 
 DESKS = 32
-MOST_ITEMS = 1024
+SHARE = 16  # items of each desk's own
+COMMON = 512  # the other items that a board takes
 MOST_MATCHES = 1024
 MOST_CENTS = 999_999_999_999
 MOST_U32 = 4_294_967_295  # a property, a day
@@ -126,6 +127,7 @@ class Match:
 class Desk:
     def __init__(self):
         self.place = IDLE
+        self.tally = 0  # how many adds of it were accepted
         self.own = None  # the desk's own item
         self.waker = None  # the item that woke the own item last
         self.signal = False
@@ -159,10 +161,11 @@ class Board:
             raise Refused(10)
         if abs(cents) > MOST_CENTS:
             raise Refused(11)
-        if len(self.items) >= MOST_ITEMS:
-            raise Refused(12)
+        if desk.tally >= SHARE and self.common_used() >= COMMON:
+            raise Refused(26)
         number = len(self.items)
         self.items.append(Item(tray, prop, cents, day, unit))
+        desk.tally += 1
         desk.own = number
         desk.slip = desk.waker = desk.matched = None
         desk.signal = False
@@ -179,6 +182,10 @@ class Board:
 
     def quiet(self):
         return all(at_rest(desk) for desk in self.desks)
+
+    def common_used(self):
+        """How many adds went past the shares of their desks, whatever became of the items."""
+        return sum(max(desk.tally - SHARE, 0) for desk in self.desks)
 
     # jobs, passes and rules
 

@@ -1,10 +1,11 @@
 """Checks printouts by 01's pool, from the printed words only.
 
-    python3 tests/pool_check.py FIRST LAST N
+    python3 tests/pool_check.py FIRST LAST N [crowded]
 
 For each seed: a random table, N random lines, the oracle's printout; then the
-pool is kept by the words printed, and on a quiet board no rule can be met. What
-days and units decided is counted beside the words.
+pool is kept by the words printed, and on a quiet board no rule can be met; what
+is left of each desk's share and of the common items is kept so too. What days,
+units and shares decided is counted beside the words.
 """
 
 import sys
@@ -105,6 +106,34 @@ class Watched(oracle.Board):
         self.seen["last day"] += day == oracle.MOST_U32
 
 
+class Shares:
+    """What is left to each desk and to all, by the words printed for their adds; counts what that decided."""
+
+    def __init__(self):
+        self.own, self.common = [16] * 32, 512
+        self.seen = Counter()
+
+    def hear(self, desk, answer):
+        if answer.startswith("item"):
+            self.take(desk)
+        spent = desk < 32 and not self.own[desk] and not self.common
+        assert answer != "refused 12"
+        if answer == "refused 26":
+            assert spent, desk
+        elif answer in ("refused 9", "refused 10", "refused 11"):
+            self.seen[answer[8:] + " before 26"] += spent
+
+    def take(self, desk):
+        if self.own[desk]:
+            self.own[desk] -= 1
+            self.seen["own past the common"] += not self.common
+        else:
+            assert self.common, desk
+            self.common -= 1
+            self.seen["common"] += 1
+        self.seen["all used"] += not any(self.own) and not self.common
+
+
 def decided(table, calls):
     board = Watched(table)
     for line in calls:
@@ -112,15 +141,23 @@ def decided(table, calls):
     return board.seen
 
 
-def check(seed, lines):
-    data = random_session.random_table(seed)
+def shared(calls, answers):
+    shares = Shares()
+    for line, answer in zip(calls, answers):
+        if line.startswith(b"a") and answer != "refused 16":
+            shares.hear(int(line.split()[1]), answer)
+    return shares.seen
+
+
+def check(seed, lines, crowded=False):
+    data = random_session.crowded_table(seed) if crowded else random_session.random_table(seed)
     table = oracle.read_table(data)
-    session = random_session.random_input(seed, lines, data)
+    session = random_session.random_input(seed, lines, data, crowded)
     calls = oracle.split_lines(session)
     out = oracle.printout(data, session).decode().split("\n")[:-1]
     answers, rest = out[: len(calls)], out[len(calls) :]
     matches = [line.split() for line in rest if line.startswith("match")]
-    items, pool, own, words, made = [], set(), {}, decided(table, calls), 0
+    items, pool, own, words, made = [], set(), {}, decided(table, calls) + shared(calls, answers), 0
     for line, words_printed in zip(calls, answers):
         word, *number = words_printed.split()
         words[words_printed if word == "refused" else word] += 1
@@ -147,6 +184,7 @@ def check(seed, lines):
     assert made == len(matches)
     if rest[-1] == "quiet yes":
         words["quiet"] += 1
+        words["quiet after 26"] += words["refused 26"] > 0
         assert not any(can_be_met(rule.members, rule.same, pool, items) for rule in table.rules), seed
         words["unit left"] += left_by_unit(table, pool, items)
         assert sorted(pool) == [int(l.split()[1]) for l in rest if l.startswith("open")]
@@ -154,10 +192,11 @@ def check(seed, lines):
 
 
 def main(arguments):
-    first, last, lines = map(int, arguments)
+    crowded = arguments[3:] == ["crowded"]
+    first, last, lines = map(int, arguments[:3])
     total = Counter()
     for seed in range(first, last):
-        total += check(seed, lines)
+        total += check(seed, lines, crowded)
     for word, count in sorted(total.items()):
         print(word, count)
 

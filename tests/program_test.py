@@ -2,9 +2,10 @@
 
     python3 tests/program_test.py [SESSIONS]
 
-The examples, odd files and odd inputs, the run of table P with units and after lines that look like closes, files that
-cannot be read or written, and SESSIONS random sessions (default 300), each on its own random table, against
-tests/oracle.py. The last line is `program: N passed, M failed`.
+The examples, odd files and odd inputs, the run of table P with units and after lines that look like closes, the shares
+at their edges, files that cannot be read or written, and SESSIONS random sessions (default 300), each on its own random
+table, and a tenth as many on crowded boards, against tests/oracle.py; of the crowded ones some line must be refused 26.
+The last line is `program: N passed, M failed`.
 """
 
 import os
@@ -17,6 +18,7 @@ import tempfile
 import check_examples
 import oracle
 import random_session
+import share_cases
 
 ROOT = pathlib.Path(__file__).resolve().parent.parent
 PROGRAM = ROOT / "target" / "bin" / "gevnyusto"
@@ -116,6 +118,11 @@ def close_cases():
         yield f"the run after {line}", printed(TABLE_P, line + b"\n" + RUN_OF_P), b"refused 16\n" + run
 
 
+def edge_cases():
+    for name, table, lines, wanted in share_cases.cases():
+        yield f"shares, {name}", printed(table, lines), wanted
+
+
 def failing_cases():
     """What cannot be read or written is said on standard error, and no printout passes for a whole one."""
     with tempfile.TemporaryDirectory() as folder:
@@ -142,16 +149,34 @@ def random_cases(count):
         yield f"random session {seed}", printed(table, lines), oracle.printout(table, lines)
 
 
+def crowded_cases(count):
+    refused = 0
+    for seed in range(count):
+        table = random_session.crowded_table(seed)
+        lines = random_session.random_input(seed, 400, table, crowded=True)
+        got = printed(table, lines)
+        refused += got.splitlines().count(b"refused 26")
+        yield f"crowded session {seed}", got, oracle.printout(table, lines)
+    print(f"program: {refused} lines of {count} crowded sessions refused 26")
+    yield "26 in crowded sessions", refused > 0, True
+
+
+def all_cases(count):
+    for cases in (example_cases, odd_cases, unit_cases, close_cases, edge_cases, failing_cases):
+        yield from cases()
+    yield from random_cases(count)
+    yield from crowded_cases(max(1, count // 10))
+
+
 def main():
     count = int(sys.argv[1]) if len(sys.argv) > 1 else 300
     passed = failed = 0
-    for cases in (example_cases(), odd_cases(), unit_cases(), close_cases(), failing_cases(), random_cases(count)):
-        for name, got, wanted in cases:
-            if got == wanted:
-                passed += 1
-            else:
-                failed += 1
-                print(f"program: failed: {name}")
+    for name, got, wanted in all_cases(count):
+        if got == wanted:
+            passed += 1
+        else:
+            failed += 1
+            print(f"program: failed: {name}")
     print(f"program: {passed} passed, {failed} failed")
     sys.exit(1 if failed else 0)
 

@@ -5,6 +5,8 @@
 
 The lines are chosen while the oracle follows them, so most adds go to idle
 desks and most steps to desks with work; a few are refused or unreadable.
+Crowded sessions, of tests that ask for them, begin on a board whose common
+items are used up but for a few.
 """
 
 import random
@@ -74,6 +76,14 @@ def random_table(seed):
     return table_bytes(waiting, rules)
 
 
+def crowded_table(seed):
+    """The same with a last tray, leave, that no rule names: an add to it ends with one step."""
+    table = oracle.read_table(random_table(seed))
+    waiting = table.waiting[:15]
+    rules = [([tray % len(waiting) for tray in rule.members], rule.same) for rule in table.rules]
+    return table_bytes([*waiting, False], rules)
+
+
 def largest_table(rng):
     """A table of 412 bytes, the most there can be."""
     rules = [([rng.randrange(16) for _ in range(8)], rng.choice(LAST_BYTES)) for _ in range(32)]
@@ -83,6 +93,10 @@ def largest_table(rng):
 def write_random_table(seed, path):
     with open(path, "wb") as file:
         file.write(random_table(seed))
+
+
+def past_share(desk):
+    return desk.tally >= oracle.SHARE
 
 
 class Session:
@@ -101,11 +115,37 @@ class Session:
         self.run_on = self.rng.choice((0.0, 0.3, 0.7, 0.95))
         self.last = None  # the desk stepped last
         self.draining = False  # steps only, until the board is quiet
+        self.crowded = False  # hardly any common items are left
 
     def line(self):
         chosen = self.choose()
         oracle.answer(self.board, chosen)
         return chosen
+
+    def crowd(self):
+        """The lines of some desks, one or all, that add and run until the common items are used up but for a few."""
+        few = self.rng.choice((0, 0, 1, 2, 5, 20))
+        desks = self.rng.sample(range(oracle.DESKS), self.rng.choice((1, 1, 2, 3, 12, 32)))
+        lines = []
+        while self.board.common_used() < oracle.COMMON - few:
+            desk = self.rng.choice(desks)
+            lines.append(self.add_line(desk, self.leave_tray()))
+            oracle.answer(self.board, lines[-1])
+            while not oracle.at_rest(self.board.desks[desk]):
+                lines.append(b"s %d" % desk)
+                oracle.answer(self.board, lines[-1])
+        self.favoured = desks[:2] + self.rng.sample(range(oracle.DESKS), self.rng.choice((3, 10, 30)))
+        self.crowded = True
+        return lines
+
+    def may_add(self, desk):
+        spent = past_share(desk) and self.board.common_used() >= oracle.COMMON
+        return desk.place == oracle.IDLE and not spent
+
+    def leave_tray(self):
+        """Mostly the last one of a crowded table."""
+        leave = [tray for tray, waiting in enumerate(self.board.table.waiting) if not waiting]
+        return self.rng.choice(leave) if self.rng.random() < 0.05 else leave[-1]
 
     def choose(self):
         dice = self.rng.random()
@@ -113,12 +153,14 @@ class Session:
             return self.rng.choice(UNREADABLE)
         if dice < 0.03 and not self.draining:
             return self.odd_line()
-        idle = self.desks_at(lambda desk: desk.place == oracle.IDLE)
+        if dice < 0.1 and self.crowded and not self.draining:
+            return self.add_line(self.rng.choice(self.desks_at(past_share)), self.tray())
+        idle = self.desks_at(self.may_add)
         busy = self.desks_at(lambda desk: not oracle.at_rest(desk))
         if busy and (self.draining or not idle or self.rng.random() >= self.adding):
             return self.step_line(busy)
         if idle and not self.draining:
-            return self.add_line(self.rng.choice(idle))
+            return self.add_line(self.rng.choice(idle), self.tray())
         return b"s %d" % self.rng.randrange(oracle.DESKS)
 
     def desks_at(self, wanted):
@@ -126,8 +168,8 @@ class Session:
         desks = [number for number in range(oracle.DESKS) if wanted(self.board.desks[number])]
         return [number for number in desks if number in self.favoured] or desks
 
-    def add_line(self, desk):
-        return self.add(desk, self.tray(), self.property(), self.cents()) + self.day_and_unit()
+    def add_line(self, desk, tray):
+        return self.add(desk, tray, self.property(), self.cents()) + self.day_and_unit()
 
     def tray(self):
         """A tray of some rule, often the one that the rule is shortest of."""
@@ -201,11 +243,11 @@ class Session:
         ))  # fmt: skip
 
 
-def random_input(seed, lines, table_data):
-    """Half of the sessions end with steps only, so that many end quiet."""
+def random_input(seed, lines, table_data, crowded=False):
+    """Half of the sessions end with steps only, so that many end quiet. Crowded ones have more lines, before these."""
     session = Session(seed, table_data)
     tail = min(lines // 3, 400) if session.rng.random() < 0.5 else 0
-    chosen = []
+    chosen = [line + b"\n" for line in session.crowd()] if crowded else []
     for number in range(lines):
         session.draining = number >= lines - tail
         chosen.append(session.line() + b"\n")
