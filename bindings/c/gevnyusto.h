@@ -4,14 +4,14 @@
  * other list of that call. Whatever the numbers are, a call returns a plain number and alters nothing when it refuses.
  *
  * A refusal: 1 to 7 for the table, 30 for a board that is not sound or lists of another length, 31 for a buffer
- * that is too short; 8 no such sender, 9 sender not idle, 10 no such channel, 11 cents out of range, 12 messages full,
- * 13 sender idle, or blocked without signal, 14 no such message, 15 no such match, 17 wrong map of a merge, 18 merged
- * table too large, 19 day of an add closed, 20 close day before the present one.
+ * that is too short; 8 no such sender, 9 sender not idle, 10 no such channel, 11 cents out of range, 13 sender idle,
+ * or blocked without signal, 14 no such message, 15 no such match, 17 wrong map of a merge, 18 merged table too large,
+ * 19 day of an add closed, 20 close day before the present one, 26 sender's own messages and the common ones used.
  */
 #ifndef GEVNYUSTO_H
 #define GEVNYUSTO_H
 
-#define GV_VERSION "0.6.0"
+#define GV_VERSION "0.7.0"
 
 #include <stddef.h>
 #include <stdint.h>
@@ -31,7 +31,8 @@ extern "C" {
  *   9 the phase's place (0 for wake, signal, pass end)
  *   10 the phase's second number (revert: claims made; consume: match plus 1; else 0)
  *   11 retry (0, 1)   12 retries   13 to 20 the eight chosen messages
- *   and at GV_HAS_CLOSE 1 where a day is closed, 0 where none is
+ *   and at GV_HAS_CLOSE 1 where a day is closed, 0 where none is; from GV_TALLIES each sender's tally, how many
+ *   messages it has added: tallies sum to the messages, and what they are above GV_SHARE to GV_COMMON at most
  * bytes: a channel for each message; from GV_STATUSES a status (0 pending, 1 claimed, 2 woken, 3 consumed) for each;
  *   from GV_CHORDS a chord for each match
  * links: for each message the match that it notes plus 1, 0 for none; from GV_WAKERS its waker plus 1, 0 for none;
@@ -39,7 +40,7 @@ extern "C" {
  * keys: a property number for each message; from GV_DAYS a day for each; at GV_CLOSE_DAY the close day, which is
  *   read only where a day is closed; where none is it may be anything, and only an accepted close writes it
  * cents: cents for each message */
-#define GV_BOARD 675
+#define GV_BOARD 707
 #define GV_BYTES 3072
 #define GV_LINKS 11264
 #define GV_KEYS 2049
@@ -52,9 +53,12 @@ extern "C" {
 #define GV_DAYS 1024
 #define GV_HAS_CLOSE 674
 #define GV_CLOSE_DAY 2048
+#define GV_TALLIES 675
 #define GV_SENDERS 32
 #define GV_MESSAGES 1024
 #define GV_MATCHES 1024
+#define GV_SHARE 16
+#define GV_COMMON 512
 
 /* An answer: word * 65536 + value. The value is a message or a match, for GV_REFUSED the refusal, else 0. */
 #define GV_WORD(answer) ((answer) >> 16)
@@ -81,12 +85,12 @@ uint8_t gv_merge_tables(
     const uint8_t *first, size_t first_len, const uint8_t *second, size_t second_len,
     const uint8_t *map, size_t map_len, uint8_t *out, size_t out_len);
 
-/* Writes an empty board, with no day closed; the other lists may hold anything. 0, 1 to 7, or 30 for a board of
- * another length. */
+/* Writes an empty board, with no day closed and all tallies 0; the other lists may hold anything. 0, 1 to 7, or 30 for
+ * a board of another length. */
 uint8_t gv_open(const uint8_t *table, size_t table_len, uint16_t *board, size_t board_len);
 
 /* The lists of a call that may write them. An add leaves the matches' chords and messages as they are, a step channels,
- * properties, days, units and cents, and both the close day. A close leaves everything else. */
+ * properties, days, units, cents and tallies, and both the close day. A close leaves everything else. */
 #define GV_LISTS \
     uint16_t *board, size_t board_len, uint8_t *bytes, size_t bytes_len, uint16_t *links, size_t links_len, \
     uint32_t *keys, size_t keys_len, int64_t *cents, size_t cents_len
@@ -94,7 +98,10 @@ uint8_t gv_open(const uint8_t *table, size_t table_len, uint16_t *board, size_t 
 /* Adds a message: an answer. A chord's last byte in the table says which messages of a member's channel fit: 0 all,
  * 1 those with the property of the message in hand, 2 those with its property and its unit. Of those that fit a look
  * takes the one with the least day, the one with the lowest number of equal days.
- * Refused 8, 9, 10, then 19 for the close day or one before it, then 11, 12. */
+ * GV_SHARE messages of the board are each sender's own, the other GV_COMMON are common: a sender's first GV_SHARE adds
+ * use its own, those past them a common one each, and a message that is matched gives nothing back.
+ * Refused 8, 9, 10, then 19 for the close day or one before it, then 11, then 26 where the sender's own and the common
+ * ones are used; a refused add uses none. */
 uint32_t gv_add(
     const uint8_t *table, size_t table_len, GV_LISTS,
     uint16_t sender, uint16_t channel, uint32_t property, int64_t amount, uint32_t day, uint16_t unit);

@@ -4,7 +4,7 @@
 #![allow(unsafe_code)]
 
 /// The lengths of a board's lists.
-pub const BOARD_NUMBERS: usize = 675;
+pub const BOARD_NUMBERS: usize = 707;
 pub const BYTES: usize = 3072;
 pub const LINKS: usize = 11_264;
 pub const KEYS: usize = 2049;
@@ -14,6 +14,11 @@ pub const DAYS: usize = 1024;
 /// Where `board` says whether a day is closed, and `keys` which one.
 pub const HAS_CLOSE: usize = 674;
 pub const CLOSE_DAY: usize = 2048;
+/// Where the tallies begin in `board`: how many messages each sender has added.
+pub const TALLIES: usize = 675;
+/// How many messages are each sender's own, and how many common.
+pub const SHARE: u16 = 16;
+pub const COMMON: u16 = 512;
 /// Where the units begin in `links`.
 pub const UNITS: usize = 10_240;
 /// The longest table.

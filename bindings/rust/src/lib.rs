@@ -1,8 +1,8 @@
 //! The matching board, a join-pattern matcher after Russo and Turon, proved; here for Rust.
 //!
 //! A [`Matcher`] owns a table of chords and a board. Senders add messages and take steps; the matcher says what each
-//! step did. A close lets no more messages in that are dated up to its day. A refused call alters nothing.
-//! [`merge_tables`] makes one table of two.
+//! step did. A close lets no more messages in that are dated up to its day. Of the board's 1,024 messages 16 are each
+//! sender's own and 512 common. A refused call alters nothing. [`merge_tables`] makes one table of two.
 
 mod answer;
 pub mod host;
@@ -68,6 +68,9 @@ impl Matcher {
     /// Adds a message of an idle sender; it answers [`Answer::Item`]. Of the messages that fit, the one with the least
     /// day is matched first, the lowest-numbered of equal days. A chord's last byte in the table says which fit: with 0
     /// all of the channel, with 1 those of equal property, with 2 those of equal property and unit.
+    ///
+    /// A sender's first 16 messages are its own, those past them common ones, of which there are 512; with its own and
+    /// the common ones used it is refused, whatever was matched since.
     ///
     /// ```
     /// use gevnyusto::{Matcher, Refusal};
@@ -183,6 +186,11 @@ impl Matcher {
     /// The day up to which the books are closed; none where no day is closed.
     pub fn close_day(&self) -> Option<u32> {
         (self.lists.board[host::HAS_CLOSE] == 1).then(|| self.lists.keys[host::CLOSE_DAY])
+    }
+
+    /// How many messages a sender has added; none where there is no such sender.
+    pub fn added(&self, sender: u16) -> Option<u16> {
+        self.lists.board.get(host::TALLIES + usize::from(sender)).copied()
     }
 }
 
