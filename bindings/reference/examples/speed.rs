@@ -46,7 +46,7 @@ fn main() {
     let (rows, mut answers) = (Rows::of(&list), vec![0; list.len()]);
     let mut board = Board::default();
     let replay = nanoseconds(200, || {
-        (board.messages, board.matches, board.senders) = Default::default();
+        (board.messages, board.matches, board.senders, board.counts) = Default::default();
         calls::replay(&RENDEZVOUS, &mut board, black_box(&rows), &mut answers).unwrap();
         black_box(&answers);
     });

@@ -1,8 +1,11 @@
-//! The board: counts, 32 senders, the close day, and the columns of messages and matches.
+//! The board: counts, 32 senders, the close day, what each sender has added, and the columns of messages and matches.
 
 pub const SENDERS: usize = 32;
 pub const MESSAGES: usize = 1024;
 pub const MOST_CENTS: i64 = 999_999_999_999;
+/// How many of the messages are each sender's own, and how many common.
+pub const SHARE: u16 = 16;
+pub const COMMON: u32 = 512;
 
 pub const PENDING: u8 = 0;
 pub const CLAIMED: u8 = 1;
@@ -113,6 +116,8 @@ pub struct Board {
     pub senders: [Sender; SENDERS],
     /// The books are closed up to this day, it included; none where no day is closed.
     pub close_day: Option<u32>,
+    /// How many messages each sender has added.
+    pub counts: [u16; SENDERS],
     pub columns: Columns,
 }
 
@@ -141,6 +146,16 @@ impl Board {
     /// Whether the books are closed up to that day or a later one.
     pub fn is_closed(&self, day: u32) -> bool {
         self.close_day.is_some_and(|close_day| day <= close_day)
+    }
+
+    /// How many common messages are used: one for each that a sender has added past its own.
+    pub fn common_used(&self) -> u32 {
+        self.counts.iter().map(|count| u32::from(count.saturating_sub(SHARE))).sum()
+    }
+
+    /// Whether a sender has used its own messages, and all common ones are used too.
+    pub fn has_used_up(&self, sender: usize) -> bool {
+        self.counts[sender] >= SHARE && self.common_used() >= COMMON
     }
 
     pub fn is_quiet(&self) -> bool {

@@ -23,7 +23,7 @@ pub use answer::{Answer, Refusal};
 pub use board::{Board, Columns, Phase, Sender, State};
 pub use calls::{Call, Match, Message, Rows, Sent};
 pub use lists::Lists;
-pub use numbers::{HAS_CLOSE, NUMBERS, SENDER_NUMBERS};
+pub use numbers::{COUNTS, HAS_CLOSE, NUMBERS, SENDER_NUMBERS};
 pub use table::{Chord, Equality, Table};
 
 #[cfg(test)]
@@ -32,6 +32,8 @@ mod close_tests;
 mod look_tests;
 #[cfg(test)]
 mod merge_tests;
+#[cfg(test)]
+mod share_tests;
 #[cfg(test)]
 mod tests;
 #[cfg(test)]

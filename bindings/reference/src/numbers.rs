@@ -1,4 +1,4 @@
-//! The board as the host interface's 675 numbers, and the close day beside them.
+//! The board as the host interface's 707 numbers, and the close day beside them.
 
 use crate::board::{Board, Columns, Phase, SENDERS, Sender, State, held, kept};
 
@@ -6,8 +6,10 @@ use crate::board::{Board, Columns, Phase, SENDERS, Sender, State, held, kept};
 pub const SENDER_NUMBERS: usize = 21;
 /// Where it stands whether a day is closed: after the two counts and the senders.
 pub const HAS_CLOSE: usize = 2 + SENDER_NUMBERS * SENDERS;
+/// From here, how many messages each sender has added.
+pub const COUNTS: usize = HAS_CLOSE + 1;
 /// Numbers a board takes.
-pub const NUMBERS: usize = HAS_CLOSE + 1;
+pub const NUMBERS: usize = COUNTS + SENDERS;
 
 impl Board {
     pub fn to_numbers(&self) -> [u16; NUMBERS] {
@@ -17,6 +19,7 @@ impl Board {
             part.copy_from_slice(&sender.to_numbers());
         }
         numbers[HAS_CLOSE] = self.close_day.is_some().into();
+        numbers[COUNTS..].copy_from_slice(&self.counts);
         numbers
     }
 
@@ -28,6 +31,7 @@ impl Board {
         for (part, sender) in numbers[2..HAS_CLOSE].chunks_exact(SENDER_NUMBERS).zip(&mut board.senders) {
             *sender = Sender::from_numbers(part)?;
         }
+        board.counts.copy_from_slice(&numbers[COUNTS..]);
         Some(board)
     }
 }

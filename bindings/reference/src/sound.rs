@@ -1,6 +1,6 @@
-//! Soundness of any board, as 01 defines it.
+//! Soundness of any board, as 01 and the requests define it.
 
-use crate::board::{Board, CONSUMED, MESSAGES, MOST_CENTS, Phase, Sender, State, WOKEN};
+use crate::board::{Board, COMMON, CONSUMED, MESSAGES, MOST_CENTS, Phase, Sender, State, WOKEN};
 use crate::table::{Chord, Table};
 
 impl Board {
@@ -11,6 +11,7 @@ impl Board {
             && self.matches_sound(table)
             && self.senders_sound(table)
             && self.owners_differ()
+            && self.counts_sound()
     }
 
     /// Every counted message has a channel, a status and cents in range, and what its status calls for.
@@ -64,6 +65,12 @@ impl Board {
             *word |= bit;
             fresh
         })
+    }
+
+    /// The senders have added the messages, and no more common ones than there are.
+    fn counts_sound(&self) -> bool {
+        let added: u32 = self.counts.iter().map(|&count| u32::from(count)).sum();
+        added == self.messages.into() && self.common_used() <= COMMON
     }
 
     fn job_sound(&self, table: &Table, i: usize) -> bool {

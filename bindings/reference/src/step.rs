@@ -30,8 +30,8 @@ impl Board {
             Some(19)
         } else if !(-MOST_CENTS..=MOST_CENTS).contains(&sent.cents) {
             Some(11)
-        } else if self.messages as usize == MESSAGES {
-            Some(12)
+        } else if self.has_used_up(sender.into()) {
+            Some(26)
         } else {
             None
         }
@@ -49,10 +49,11 @@ impl Board {
         self.columns.wakers[at] = 0;
     }
 
-    /// The message that stands after the counted ones is counted, and its sender's own.
+    /// The message that stands after the counted ones is counted, also for its sender, whose own message it is.
     fn accept(&mut self, table: &Table, i: usize) -> Answer {
         let message = self.messages;
         self.messages += 1;
+        self.counts[i] += 1;
         let sender = &mut self.senders[i];
         sender.own = Some(message);
         (sender.waker, sender.reply, sender.matched) = (None, None, None);

@@ -107,9 +107,10 @@ fn the_oldest_is_looked_up() {
 #[test]
 fn a_full_board() {
     let mut board = open(TWICE).unwrap();
-    board.messages = MESSAGES as u16 - 1;
+    (board.messages, board.counts) = (MESSAGES as u16 - 1, [32; 32]);
+    board.counts[3] = 31;
     assert_eq!(add(TWICE, &mut board, 3, sent(0, 0, 0)), Answer::Item(1023));
-    assert_eq!(add(TWICE, &mut board, 4, sent(0, 0, 0)), Answer::Refused(12));
+    assert_eq!(add(TWICE, &mut board, 4, sent(0, 0, 0)), Answer::Refused(26));
     board.messages = MESSAGES as u16 + 1;
     assert_eq!(add(TWICE, &mut board, 4, sent(0, 0, 0)), Answer::Refused(30));
 }
