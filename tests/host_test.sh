@@ -103,6 +103,7 @@ try "the version of header and crate" versions
 example table_p
 example two_offices
 example closed_month
+example one_import
 try "the example in Rust" \
     prints bindings/rust/examples/table_p.out crates run -q -p gevnyusto --example table_p
 crate_tests
@@ -111,15 +112,18 @@ try "the comparison, compiled" crates build -p differential
 try "a million calls and 200,000 merges compared" "$differential" --calls 1000000 --merges 200000
 sed 's/^/  /' "$work/said"
 # Every word is answered in these 2,000 calls, and days and units decide all that they can; in those 8,000 calls words
-# of sixty-four messages and closed days do.
-try "the comparison under valgrind" careful "$differential" --calls 2000 --merges 1000 --seed 441
-try "looks by words and closed days under valgrind" careful "$differential" --calls 8000 --merges 0 --seed 391
+# of sixty-four messages and closed days do, the common messages are used and a board is filled, and counts are set in
+# every way.
+try "the comparison under valgrind" careful "$differential" --calls 2000 --merges 1000 --seed 560
+try "looks by words, closed days and shares under valgrind" careful "$differential" --calls 8000 --merges 0 --seed 1423
 for fault in list refusal read reading merge law number newest tie hand \
     no-unit unit-alone unit-at-1 unit-at-0 mark last-byte \
     past-the-count lowest-bit zero-word next-bit last-bit whole-word mark-past \
     half-property half-unit \
-    close-day-open cents-first full-first channel-last none-as-0 none-as-any \
-    earlier-close equal-close close-signal unwritten-close close-sender; do
+    close-day-open cents-first channel-last none-as-0 none-as-any \
+    earlier-close equal-close close-signal unwritten-close close-sender \
+    share-15 share-17 common-511 common-513 eaten-shares used-before-day used-before-cents \
+    refused-counts no-sum no-parts sum-modulo; do
     try "a fault put in: $fault" finds "$fault"
 done
 

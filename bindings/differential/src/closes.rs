@@ -188,7 +188,7 @@ mod tests {
         for number in [8, 9, 10, 19] {
             assert_eq!(books.check(&closed(5), add(5), refused(number)), Ok(true));
         }
-        assert!([0, refused(11), refused(12)].iter().all(|&answer| books.check(&closed(5), add(5), answer).is_err()));
+        assert!([0, refused(11), refused(26)].iter().all(|&answer| books.check(&closed(5), add(5), answer).is_err()));
         assert_eq!(books.check(&closed(5), add(6), 0), Ok(false));
         assert!(books.check(&closed(5), add(6), refused(19)).is_err());
         assert!(books.check(&closed(6), add(6), 0).is_err());

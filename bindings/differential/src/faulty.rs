@@ -3,16 +3,18 @@
 use crate::calls::{Call, Calls, Merge, Read, is_refusal, refused};
 use crate::closes::close_day;
 use crate::looks::{Candidate, LOOKED, Look, MISSED};
-use crate::misclosed::{close_wrongly, refuse_by_sender, refuse_wrongly};
+use crate::misclosed::{self, close_wrongly, refuse_by_sender};
+use crate::misshared;
 use crate::plain_rust::Reference;
+use crate::shares::counts;
 use crate::words::{BLOCK, Blocks};
-use reference::board::WOKEN;
+use reference::board::{MESSAGES, SENDERS, WOKEN};
 use reference::lists::{DAYS, STATUSES, UNITS, WAKERS};
 use reference::table::HEADER;
-use reference::{Equality, HAS_CLOSE, Lists, Rows, SENDER_NUMBERS, Sent, Table};
+use reference::{COUNTS, Equality, HAS_CLOSE, Lists, Rows, SENDER_NUMBERS, Sent, Table};
 
-/// Kinds of faults by name.
-pub const FAULTS: [&str; 40] = [
+/// Kinds of faults by name, but for those of shares.
+const OTHERS: [&str; 39] = [
     "answer",
     "list",
     "board",
@@ -44,7 +46,6 @@ pub const FAULTS: [&str; 40] = [
     "half-unit",
     "close-day-open",
     "cents-first",
-    "full-first",
     "channel-last",
     "none-as-0",
     "none-as-any",
@@ -54,6 +55,11 @@ pub const FAULTS: [&str; 40] = [
     "unwritten-close",
     "close-sender",
 ];
+
+/// All kinds of faults by name.
+pub fn faults() -> impl Iterator<Item = &'static str> {
+    OTHERS.into_iter().chain(misshared::FAULTS)
+}
 
 /// Looks by another equality than the chord's: at which last byte, which one stands for it, and whether properties are
 /// left out.
@@ -80,11 +86,17 @@ impl Faulty {
         if self.fault == "refusal" && is_refusal(answer) {
             lists.links.iter_mut().last().into_iter().for_each(|link| *link ^= 1);
         }
+        if misshared::is_let_through(&self.fault, &before, call, answer) {
+            return self.call_with_sound_counts(table, lists, call);
+        }
         match (call, answer >> 16) {
             (Call::Add { sent, .. }, _) if self.is_let_through(&before, sent, answer) => {
                 self.call_with_none_closed(table, lists, call)
             }
-            (Call::Add { sent, .. }, _) => refuse_wrongly(&self.fault, before, lists, sent, answer),
+            (Call::Add { sender, sent }, _) if misshared::FAULTS.contains(&self.fault.as_str()) => {
+                misshared::refuse_wrongly(&self.fault, before, lists, sender, sent, answer)
+            }
+            (Call::Add { sent, .. }, _) => misclosed::refuse_wrongly(&self.fault, before, lists, sent, answer),
             (Call::Close { day }, _) => close_wrongly(&self.fault, &before, lists, day, answer),
             (_, LOOKED | MISSED) => self.look(table, lists, before, call, answer).unwrap_or(answer),
             (Call::Step { sender }, _) => step_wrongly(&self.fault, table, lists, sender.into(), answer),
@@ -100,6 +112,17 @@ impl Faulty {
         lists.board[HAS_CLOSE] = 0;
         let answer = self.inner.call(table, lists, call);
         lists.board[HAS_CLOSE] = 1;
+        answer
+    }
+
+    /// A call while the counts are a sound board's; an accepted add counts.
+    fn call_with_sound_counts(&mut self, table: &[u8], lists: &mut Lists, call: Call) -> u32 {
+        let (mut counts, sender) = (counts(lists).to_vec(), call.sender().unwrap_or(0) % SENDERS);
+        let sound = misshared::sound_counts(lists.board[0].min(MESSAGES as u16), sender);
+        lists.board[COUNTS..].copy_from_slice(&sound);
+        let answer = self.inner.call(table, lists, call);
+        counts[sender] = counts[sender].wrapping_add((answer >> 16 == 0).into());
+        lists.board[COUNTS..].copy_from_slice(&counts);
         answer
     }
 

@@ -4,7 +4,8 @@ use crate::calls::Call;
 use crate::closes::close_day;
 use crate::invariant::senders;
 use crate::random::{Random, random_table};
-use reference::board::{MESSAGES, MOST_CENTS, PENDING};
+use crate::shares::{counts, has_used_up};
+use reference::board::{MESSAGES, MOST_CENTS, PENDING, SENDERS, SHARE};
 use reference::lists::{DAYS, STATUSES};
 use reference::{Equality, Lists, Sender, Sent, State, Table};
 
@@ -41,6 +42,9 @@ const UNITS: [&[u16]; 5] = [&[0], &[0, 1], &[0, 1, 2, 65_535], &[1, 257, 65_281]
 /// The same where a board is filled and units must be equal, so that few fit.
 const SEVERAL: [&[u16]; 3] = [&[0, 1], &[0, 1, 2, 65_535], &[0, 1, 2, 3, 257, 258, 259, 65_281, 65_534, 65_535]];
 
+/// Greedy senders, where a board is filled: none, one, a few.
+const GREEDY: [&[usize]; 3] = [&[0], &[1], &[2, 3, 6]];
+
 /// How a schedule chooses its calls.
 pub struct Habits {
     /// Senders below this are chosen while one of them can be.
@@ -57,6 +61,8 @@ pub struct Habits {
     pub length: usize,
     /// Adds of leaving messages, until the board is full.
     filling: bool,
+    /// So many senders fill it alone, as far as they can.
+    greedy: usize,
     /// The first chord wants equal units.
     by_unit: bool,
     last: usize,
@@ -67,6 +73,7 @@ pub struct Habits {
 impl Habits {
     pub fn new(random: &mut Random, number: u64) -> Habits {
         let (filling, by_unit) = (number % 12 == 1, number % 24 == 13);
+        let greedy: &[usize] = if filling { GREEDY[(number / 12 % 3) as usize] } else { &[0] };
         let properties: &[usize] = match (filling, by_unit) {
             (_, true) => &[3, 10, 30],
             (true, _) => &[1, 3, 30, 300],
@@ -91,6 +98,7 @@ impl Habits {
             run_on: random.pick(&[0, 30, 70, 95]),
             length: if filling { 8_000 } else { random.pick(&[100, 300, 600, 1_500]) },
             filling,
+            greedy: random.pick(greedy),
             by_unit,
             last: 0,
             draining: false,
@@ -114,14 +122,17 @@ impl Habits {
 
     pub fn choose(&mut self, random: &mut Random, table: &Table, lists: &Lists) -> Call {
         let senders = senders(lists);
-        if !self.draining && random.chance(2) {
-            return odd_call(random, table);
+        if !self.draining
+            && random.chance(if self.filling { 4 } else { 2 })
+            && let Some(call) = self.odd_call(random, table, lists, &senders)
+        {
+            return call;
         }
         if random.below(1_000) < self.closing {
             return Call::Close { day: self.day_to_close(random, lists) };
         }
-        let idle = self.those(&senders, |sender| sender.state == State::Idle);
-        let busy = self.those(&senders, |sender| !sender.at_rest());
+        let idle = self.adders(random, &senders, lists);
+        let busy = self.those(|i| !senders[i].at_rest());
         if !busy.is_empty() && (self.draining || idle.is_empty() || !random.chance(self.adding)) {
             if !busy.contains(&self.last) || !random.chance(self.run_on) {
                 self.last = random.pick(&busy);
@@ -137,9 +148,38 @@ impl Habits {
         Call::Add { sender, sent: Sent { channel, property, cents: cents(random), day, unit } }
     }
 
+    /// A call that is mostly refused. To fill a board, mostly the add of a sender that has no message left, if there is
+    /// one, and none that may leave its sender waiting.
+    fn odd_call(&self, random: &mut Random, table: &Table, lists: &Lists, senders: &[Sender]) -> Option<Call> {
+        let call = odd_call(random, table);
+        if !self.filling {
+            return Some(call);
+        }
+        in_vain(random, lists, senders, call).or((!may_wait(table, call)).then_some(call))
+    }
+
+    /// Idle senders. To fill a board, greedy ones while they have any message left, but for some own ones of others;
+    /// then mostly those that have any left.
+    fn adders(&self, random: &mut Random, senders: &[Sender], lists: &Lists) -> Vec<usize> {
+        let is_idle = |i: usize| senders[i].state == State::Idle;
+        let has_left = |i: usize| !has_used_up(lists, i);
+        if !self.filling {
+            self.those(is_idle)
+        } else if !(0..self.greedy).any(has_left) {
+            if random.chance(30) || !(0..SENDERS).any(has_left) {
+                return (0..SENDERS).filter(|&i| is_idle(i)).collect();
+            }
+            self.those(|i| is_idle(i) && has_left(i))
+        } else if random.chance(5) {
+            self.those(|i| is_idle(i) && counts(lists)[i] < SHARE)
+        } else {
+            self.those(|i| is_idle(i) && has_left(i) && i < self.greedy)
+        }
+    }
+
     /// The favoured senders that are as wanted; if none is, any such sender.
-    fn those(&self, senders: &[Sender], wanted: impl Fn(&Sender) -> bool) -> Vec<usize> {
-        let all: Vec<usize> = (0..senders.len()).filter(|&i| wanted(&senders[i])).collect();
+    fn those(&self, wanted: impl Fn(usize) -> bool) -> Vec<usize> {
+        let all: Vec<usize> = (0..SENDERS).filter(|&i| wanted(i)).collect();
         let favoured: Vec<usize> = all.iter().copied().filter(|&i| i < self.favoured).collect();
         if favoured.is_empty() { all } else { favoured }
     }
@@ -202,6 +242,20 @@ fn leaving(table: &Table) -> impl Iterator<Item = u8> {
 
 fn cents(random: &mut Random) -> i64 {
     if random.chance(3) { random.pick(&[MOST_CENTS, -MOST_CENTS, 0]) } else { random.below(200_000) as i64 - 100_000 }
+}
+
+/// The same add, of a sender that has no message left and often is not idle; none if there is no such sender.
+fn in_vain(random: &mut Random, lists: &Lists, senders: &[Sender], call: Call) -> Option<Call> {
+    let Call::Add { sent, .. } = call else { return None };
+    let used_up: Vec<usize> = (0..SENDERS).filter(|&i| has_used_up(lists, i)).collect();
+    let busy: Vec<usize> = used_up.iter().copied().filter(|&i| senders[i].state != State::Idle).collect();
+    let those = if busy.is_empty() || random.chance(50) { &used_up } else { &busy };
+    (!those.is_empty() && random.chance(75)).then(|| Call::Add { sender: random.pick(those) as u16, sent })
+}
+
+fn may_wait(table: &Table, call: Call) -> bool {
+    let waits = |channel: u16| (0..table.channel_count).any(|it| u16::from(it) == channel && table.is_waiting(it));
+    matches!(call, Call::Add { sent, .. } if waits(sent.channel))
 }
 
 /// A call that is mostly refused.

@@ -3,7 +3,7 @@
 use crate::pair::Checked;
 use reference::board::{CLAIMED, CONSUMED, PENDING, WOKEN};
 use reference::lists::{CHORDS, DAYS, MEMBERS, STATUSES, UNITS, WAKERS};
-use reference::{Equality, Lists, Phase, SENDER_NUMBERS, Sender, Sent, State, Table};
+use reference::{Equality, HAS_CLOSE, Lists, Phase, SENDER_NUMBERS, Sender, Sent, State, Table};
 use std::collections::HashMap;
 
 /// Each message as the adds said; and which are in a match.
@@ -15,7 +15,7 @@ pub struct Pool {
 }
 
 pub fn senders(lists: &Lists) -> Vec<Sender> {
-    lists.board[2..].chunks_exact(SENDER_NUMBERS).filter_map(Sender::from_numbers).collect()
+    lists.board[2..HAS_CLOSE].chunks_exact(SENDER_NUMBERS).filter_map(Sender::from_numbers).collect()
 }
 
 /// A message's fields as the lists have them.

@@ -5,6 +5,7 @@ use crate::calls::{Call, Calls, Merge, Read};
 use crate::closes::{Books, CLOSED};
 use crate::difference::difference;
 use crate::habits::Habits;
+use crate::ledger::Ledger;
 use crate::merges::{merged_len, whole};
 use crate::pair::Checked;
 use crate::random::Random;
@@ -60,7 +61,7 @@ pub fn run(side: &mut dyn Calls, random: &mut Random, number: u64, tally: &mut T
 }
 
 fn play_inside(boards: &mut Boards, random: &mut Random, tally: &mut Tally) -> Checked<()> {
-    let (mut habits, mut books) = (Habits::new(random, 0), Books::default());
+    let (mut habits, mut books, mut ledger) = (Habits::new(random, 0), Books::default(), Ledger::default());
     let length = random.pick(&[20, 40, 80, 120]);
     for turn in 0..length {
         habits.draining = turn > 2 * length / 3;
@@ -69,6 +70,7 @@ fn play_inside(boards: &mut Boards, random: &mut Random, tally: &mut Tally) -> C
         let (one, two) = boards.call(call);
         boards.compare(random, one, two).map_err(|difference| format!("{call:?}: {difference}"))?;
         books.check(&boards.first, call, one)?;
+        ledger.check(&boards.first, call, one)?;
         tally.calls += 1;
         tally.reads += 4;
         tally.matches += u64::from(one >> 16 == MATCHED);

@@ -3,9 +3,10 @@
 //!     differential [--calls N] [--merges N] [--seed S] [--fault KIND]
 //!
 //! Random schedules, with excursions to sound boards that no schedule reaches, to damaged lists and tables, and to
-//! lists of another length. From 100,000 calls on, every word, the refusals 8 to 13, 19 and 20, every sort of damage,
-//! looks that days, units and words of sixty-four messages decide, and what closed days decide must occur. After every
-//! call of a schedule no add of a day that was closed before is accepted.
+//! lists of another length. From 100,000 calls on, every word, the refusals 8 to 11, 13, 19, 20 and 26, every sort of
+//! damage, looks that days, units and words of sixty-four messages decide, and what closed days and senders' shares
+//! decide must occur. After every call of a schedule no add of a day that was closed before is accepted, and each
+//! sender has what its accepted adds come to, its own messages whatever the others do.
 //!
 //! Then merges of random tables, whole and damaged, and for every hundred of them two schedules that are played under a
 //! table and under a merged one: one inside request 1's law, which is answered alike, and one that leaves it. From
@@ -23,16 +24,20 @@ mod grounds;
 mod habits;
 mod invariant;
 mod law;
+mod ledger;
 mod looks;
 mod merges;
 mod misclosed;
+mod misshared;
 mod pair;
 mod plain_rust;
 #[cfg(feature = "host")]
 mod proved;
 mod random;
+mod recounts;
 mod schedule;
 mod seen;
+mod shares;
 mod stays;
 mod strays;
 mod words;
@@ -47,9 +52,9 @@ use std::process::ExitCode;
 
 const HELP: &str = "\
 usage: differential [--calls N] [--merges N] [--seed S] [--fault KIND]
-From 100,000 calls on, every word, the refusals 8 to 13, 19 and 20, every sort of damage, looks that days, units and
-words of sixty-four messages decide, and what closed days decide must occur; from 100,000 merges on, every ground of a
-refusal and answers that differ outside the law.";
+From 100,000 calls on, every word, the refusals 8 to 11, 13, 19, 20 and 26, every sort of damage, looks that days, units
+and words of sixty-four messages decide, and what closed days and senders' shares decide must occur; from 100,000 merges
+on, every ground of a refusal and answers that differ outside the law.";
 
 /// So many calls are enough for every word to occur, so many merges for every ground.
 const COVERING: u64 = 100_000;
@@ -71,8 +76,8 @@ fn options() -> Result<Options, String> {
             "--calls" => options.calls = number()?,
             "--merges" => options.merges = number()?,
             "--seed" => options.seed = number()?,
-            "--fault" if faulty::FAULTS.contains(&value.as_str()) => options.fault = Some(value),
-            "--fault" => return Err(format!("faults are {}", faulty::FAULTS.join(", "))),
+            "--fault" if faulty::faults().any(|fault| fault == value) => options.fault = Some(value),
+            "--fault" => return Err(format!("faults are {}", faulty::faults().collect::<Vec<_>>().join(", "))),
             _ => return Err(format!("no option {name}")),
         }
     }
@@ -129,13 +134,13 @@ fn accepting() -> impl Iterator<Item = usize> {
 }
 
 /// Every word and the refusals must have been answered, every list damaged, looks decided by days, by units and by
-/// words, and calls by closed days, if there were calls enough.
+/// words, and calls by closed days and by shares, if there were calls enough.
 fn missing(tally: &Tally) -> Option<String> {
     if tally.calls < COVERING {
         return None;
     }
     let word = accepting().find(|&word| tally.words[word] == 0).map(|word| WORDS[word].to_string());
-    let mut refusals = (8..=13).chain(19..=20);
+    let mut refusals = [8, 9, 10, 11, 13, 19, 20, 26].into_iter();
     let refusal = refusals.find(|&number| tally.refusals[number] == 0).map(|number| format!("refused {number}"));
     let mut damages = tally.seen.counts().into_iter().flat_map(|(_, counts)| counts);
     word.or(refusal).or_else(|| damages.find(|(_, times)| *times == 0).map(|(what, _)| what))

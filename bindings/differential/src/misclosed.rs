@@ -2,19 +2,17 @@
 
 use crate::calls::refused;
 use crate::closes::{CLOSED, close_day, is_wild};
-use reference::board::{MESSAGES, SENDERS};
+use reference::board::SENDERS;
 use reference::calls::CLOSE;
 use reference::lists::CLOSE_DAY;
-use reference::{Lists, Rows, SENDER_NUMBERS, Sent};
+use reference::{HAS_CLOSE, Lists, Rows, SENDER_NUMBERS, Sent};
 
 /// An add that was answered so is refused by another number, or refused after all.
 pub fn refuse_wrongly(fault: &str, before: Lists, lists: &mut Lists, sent: Sent, answer: u32) -> u32 {
-    let (is_late, is_full) = (answer == refused(19), before.board.first() == Some(&(MESSAGES as u16)));
     let is_closed = close_day(&before).is_some_and(|day| sent.day <= day);
     let is_accepted = answer >> 16 == 0 && close_day(&before).is_none();
     match fault {
-        "cents-first" if is_late && is_wild(sent.cents) => refused(11),
-        "full-first" if is_late && is_full => refused(12),
+        "cents-first" if answer == refused(19) && is_wild(sent.cents) => refused(11),
         "channel-last" if answer == refused(10) && is_closed => refused(19),
         "none-as-0" if is_accepted && sent.day == 0 => refuse(before, lists),
         "none-as-any" if is_accepted && sent.day <= before.keys[CLOSE_DAY] => refuse(before, lists),
@@ -45,7 +43,7 @@ pub fn close_wrongly(fault: &str, before: &Lists, lists: &mut Lists, day: u32, a
         }
         "equal-close" if answer == CLOSED && close_day(before) == Some(day) => refused(20),
         "close-signal" if answer == CLOSED => {
-            let mut signals = lists.board.iter_mut().skip(2 + 1).step_by(SENDER_NUMBERS);
+            let mut signals = lists.board[..HAS_CLOSE].iter_mut().skip(2 + 1).step_by(SENDER_NUMBERS);
             signals.find(|signal| **signal == 1).into_iter().for_each(|signal| *signal = 0);
             answer
         }

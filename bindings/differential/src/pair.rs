@@ -1,9 +1,10 @@
 //! Two implementations side by side: every call goes to both, and what each says and leaves is compared.
 
-use crate::calls::{Call, Calls, Merge, Read, is_refusal};
-use crate::closes::{CLOSED, REPLAYED};
+use crate::calls::{Call, Calls, Merge, Read, is_refusal, refused};
+use crate::closes::{self, CLOSED};
 use crate::difference::difference;
 use crate::seen::Seen;
+use crate::shares;
 use crate::stays::altered;
 use reference::calls::CLOSE;
 use reference::{Lists, Rows, Table};
@@ -174,7 +175,7 @@ impl Pair {
             return Err(format!("replayed answer {at}: {} and {}", shown(one[at]), shown(two[at])));
         }
         if first == 0 {
-            self.count_closes(rows, &one);
+            self.count_replayed(rows, &one);
             self.compare_lists()?
         } else {
             self.unchanged("refused replays")?
@@ -182,10 +183,13 @@ impl Pair {
         Ok((first, one))
     }
 
-    fn count_closes(&mut self, rows: &Rows, answers: &[u32]) {
-        let kinds = rows.calls.iter().step_by(4);
-        for (_, &answer) in kinds.zip(answers).filter(|(kind, _)| **kind == CLOSE) {
-            self.tally.seen.note(REPLAYED[usize::from(answer != CLOSED)]);
+    fn count_replayed(&mut self, rows: &Rows, answers: &[u32]) {
+        for (&kind, &answer) in rows.calls.iter().step_by(4).zip(answers) {
+            match kind {
+                CLOSE => self.tally.seen.note(closes::REPLAYED[usize::from(answer != CLOSED)]),
+                _ if answer == refused(26) => self.tally.seen.note(shares::REPLAYED),
+                _ => {}
+            }
         }
     }
 

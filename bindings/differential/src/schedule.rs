@@ -1,13 +1,16 @@
-//! Random schedules over random accepted tables, with the pool, the invariant and the law of closes beside them.
+//! Random schedules over random accepted tables, with the pool, the invariant and the laws of closes and shares beside
+//! them.
 
-use crate::calls::{Call, Read};
-use crate::closes::{self, Books, LAWFUL, MATCHED_CLOSED, close_day};
+use crate::calls::{Call, Read, refused};
+use crate::closes::{self, Books, MATCHED_CLOSED, close_day};
 use crate::difference::difference;
 use crate::habits::Habits;
 use crate::invariant::{Pool, senders};
+use crate::ledger::Ledger;
 use crate::looks::Look;
 use crate::pair::{Checked, Pair};
 use crate::random::Random;
+use crate::shares;
 use crate::strays;
 use reference::board::MESSAGES;
 use reference::{Lists, Rows, Sender, Table};
@@ -15,19 +18,27 @@ use reference::{Lists, Rows, Sender, Table};
 const ITEM: u32 = 0;
 const MATCHED: u32 = 6;
 
+/// What a schedule's calls and answers alone say of its board.
+#[derive(Default)]
+struct Laws {
+    pool: Pool,
+    books: Books,
+    ledger: Ledger,
+}
+
 /// The schedule of that number, on a table of its own; with excursions to boards that it does not reach.
 pub fn run(pair: &mut Pair, random: &mut Random, number: u64, most: u64) -> Checked<()> {
     let mut habits = Habits::new(random, number);
     pair.set(&strays::lent_anything(random));
     pair.open(habits.table(random))?;
     let table = pair.parsed().ok_or("a random table is refused")?;
-    let (opened, mut pool, mut books) = (pair.ours.clone(), Pool::default(), Books::default());
+    let (opened, mut laws) = (pair.ours.clone(), Laws::default());
     let (mut calls, mut answers) = (Vec::new(), Vec::new());
     let draining = if random.chance(50) { habits.length / 3 } else { 0 };
     for turn in 0..habits.length {
         habits.draining = turn >= habits.length - draining;
         let call = habits.choose(random, &table, &pair.ours);
-        answers.push(play(pair, &mut pool, &mut books, &table, call)?);
+        answers.push(play(pair, &mut laws, &table, call)?);
         calls.push(call);
         if random.chance(2) {
             strays::compare_reads(pair, random)?;
@@ -36,7 +47,7 @@ pub fn run(pair: &mut Pair, random: &mut Random, number: u64, most: u64) -> Chec
             strays::excursion(pair, random)?;
         }
         let quiet = senders(&pair.ours).iter().all(Sender::at_rest);
-        let takes_no_more = is_shut(&pair.ours) && random.chance(10);
+        let takes_no_more = random.chance(weariness(&pair.ours));
         if pair.tally.calls >= most || (quiet && (habits.draining || takes_no_more)) {
             break;
         }
@@ -44,24 +55,33 @@ pub fn run(pair: &mut Pair, random: &mut Random, number: u64, most: u64) -> Chec
     play_again(pair, &opened, &calls, &answers)
 }
 
-/// No add is accepted any more.
-fn is_shut(lists: &Lists) -> bool {
-    usize::from(lists.board[0]) == MESSAGES || close_day(lists) == Some(u32::MAX)
+/// How soon a schedule ends on a board that takes no more messages, in percent.
+fn weariness(lists: &Lists) -> usize {
+    let is_full = usize::from(lists.board[0]) == MESSAGES;
+    if close_day(lists) == Some(u32::MAX) { 10 } else { 2 * usize::from(is_full) }
 }
 
-/// A call of the schedule, counted by what it decided and held to the pool, the invariant and the law of closes.
-fn play(pair: &mut Pair, pool: &mut Pool, books: &mut Books, table: &Table, call: Call) -> Checked<u32> {
+/// A call of the schedule, counted by what it decided and held to the pool, the invariant and the laws.
+fn play(pair: &mut Pair, laws: &mut Laws, table: &Table, call: Call) -> Checked<u32> {
     let look = Look::before(table, &pair.ours, call);
     let answer = pair.call(call)?;
     pair.count(answer);
     let looked = look.iter().flat_map(|look| look.decided(answer));
-    let decided: Vec<&str> = looked.chain(closes::decided(pair.before(), call, answer)).collect();
+    let by_closes = closes::decided(pair.before(), call, answer);
+    let by_shares = shares::decided(pair.before(), call, answer);
+    let decided: Vec<&str> = looked.chain(by_closes).chain(by_shares).collect();
     decided.into_iter().for_each(|what| pair.tally.seen.note(what));
-    if books.check(&pair.ours, call, answer)? {
-        pair.tally.seen.note(LAWFUL);
+    if let (Some(sender), true) = (call.sender(), answer == refused(26)) {
+        pair.tally.seen.note(shares::refused_to(sender));
     }
-    feed(pair, pool, table, call, answer)?;
-    pool.check(table, &pair.ours).map(|()| answer)
+    if laws.books.check(&pair.ours, call, answer)? {
+        pair.tally.seen.note(closes::LAWFUL);
+    }
+    if laws.ledger.check(&pair.ours, call, answer)? {
+        pair.tally.seen.note(shares::LAWFUL);
+    }
+    feed(pair, &mut laws.pool, table, call, answer)?;
+    laws.pool.check(table, &pair.ours).map(|()| answer)
 }
 
 /// The pool is fed the call, its answer, and the match that was made.

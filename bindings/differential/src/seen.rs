@@ -1,15 +1,17 @@
-//! Counts of what was lent to the calls, of refused calls that left it as found, and of what days, units, words and
-//! closes decided.
+//! Counts of what was lent to the calls, of refused calls that left it as found, and of what days, units, words, closes
+//! and shares decided.
 
 use crate::closes::by_closes;
 use crate::looks::{BY_DAYS, BY_UNITS};
 use crate::random::LAST_BYTES;
+use crate::recounts::{DECIDING, SORTS};
+use crate::shares::by_shares;
 use crate::words::BY_WORDS;
 use std::collections::HashMap;
 
 /// The lists of a board with their parts, and the lists of a replay's calls.
 pub const LISTS: [&str; 5] = ["board", "bytes", "links", "keys", "cents"];
-pub const PARTS: [&str; 13] = [
+pub const PARTS: [&str; 14] = [
     "board",
     "channels of bytes",
     "statuses of bytes",
@@ -23,12 +25,13 @@ pub const PARTS: [&str; 13] = [
     "cents",
     "close flag of board",
     "close day of keys",
+    "counts of board",
 ];
 pub const ROWS: [&str; 3] = ["calls", "numbers", "amounts"];
 /// Lengths that are not those of a list.
 pub const LENGTHS: [&str; 4] = ["one longer", "one shorter", "empty", "one part shorter"];
-/// Two lists that are one shorter both.
-pub const WITHOUT_CLOSE: &str = "board and keys without the close";
+/// Lists as they were before there were counts, and before there was a close day.
+pub const WITHOUT: [&str; 2] = ["board without the counts", "board and keys without the close"];
 /// Calls after which each list of a board is compared with what it was, number by number.
 const AS_FOUND: [&str; 4] = ["refused calls", "refused replays", "refused opens", "reads"];
 const DAMAGES: [&str; 4] = ["tables refused", "tables accepted", "numbers of no board", "numbers of no sound board"];
@@ -50,13 +53,16 @@ impl Seen {
     }
 
     /// All that may be noted, by sort.
-    pub fn counts(&self) -> [(&'static str, Vec<(String, u64)>); 9] {
+    pub fn counts(&self) -> [(&'static str, Vec<(String, u64)>); 11] {
         let lengths = |list: &&str| LENGTHS.map(|length| format!("{list} {length}"));
-        let lengths = LISTS.iter().chain(&ROWS).flat_map(lengths).chain([WITHOUT_CLOSE.to_string()]);
+        let lengths = LISTS.iter().chain(&ROWS).flat_map(lengths).chain(WITHOUT.map(String::from));
         // Any property, any day, any close day and any unit is one of a sound board.
         let any_fits = |part: &str| part.ends_with("keys") || part.starts_with("units");
         let unsound = PARTS.iter().filter(|part| !any_fits(part)).map(|part| format!("{part} refused"));
-        let changed = PARTS.iter().map(|part| format!("{part} accepted")).chain(unsound);
+        // And no other count of a sender.
+        let any_may_fit = PARTS.iter().filter(|part| !part.starts_with("counts"));
+        let changed = any_may_fit.map(|part| format!("{part} accepted")).chain(unsound);
+        let recounts = SORTS.map(|(_, what)| what).into_iter().chain(DECIDING);
         [
             ("every list as found", self.of(AS_FOUND.map(String::from).to_vec())),
             ("damaged", self.of(DAMAGES.map(String::from).to_vec())),
@@ -67,6 +73,8 @@ impl Seen {
             ("looks by units", self.of(BY_UNITS.map(String::from).to_vec())),
             ("looks by words", self.of(BY_WORDS.map(String::from).to_vec())),
             ("by closes", self.of(by_closes())),
+            ("by shares", self.of(by_shares())),
+            ("counts set by the host", self.of(recounts.map(String::from).collect())),
         ]
     }
 }

@@ -1,10 +1,12 @@
 //! What an accepted call may not alter, whatever else it does. An add or a step: the rows of other senders, but for
 //! their signals, the eight numbers of every match that was recorded before it, what messages were sent with, in every
-//! record but that of a message that it adds, and the close day. A close: any other number.
+//! record but that of a message that it adds, what the senders have added, but for one more of a sender that adds, and
+//! the close day. A close: any other number.
 
 use crate::calls::Call;
 use crate::difference::difference;
 use crate::invariant::sent_at;
+use crate::shares::counts;
 use reference::board::MESSAGES;
 use reference::lists::{CLOSE_DAY, MEMBERS, STATUSES, UNITS};
 use reference::{HAS_CLOSE, Lists, SENDER_NUMBERS};
@@ -15,6 +17,7 @@ pub fn altered(before: &Lists, after: &Lists, call: Call) -> Option<String> {
     other_sender(&before.board, &after.board, caller)
         .or_else(|| recorded_match(before, after))
         .or_else(|| other_message(before, after))
+        .or_else(|| other_count(before, after, call))
         .or_else(|| (close_numbers(before) != close_numbers(after)).then(|| "the close day".to_string()))
 }
 
@@ -44,6 +47,14 @@ fn other_message(before: &Lists, after: &Lists) -> Option<String> {
     (0..MESSAGES).find(|at| !is_kept(at)).map(|at| format!("what message {at} was sent with"))
 }
 
+fn other_count(before: &Lists, after: &Lists, call: Call) -> Option<String> {
+    let adder = if let Call::Add { sender, .. } = call { Some(usize::from(sender)) } else { None };
+    let wanted = |(i, count): (usize, &u16)| count + u16::from(Some(i) == adder);
+    let mut wanted = counts(before).iter().enumerate().map(wanted).zip(counts(after));
+    let i = wanted.position(|(wanted, &count)| wanted != count)?;
+    Some(format!("how many messages sender {i} has added"))
+}
+
 /// Channels, units, properties and days, cents.
 fn columns_sent(lists: &Lists) -> (&[u8], &[u16], &[u32], &[i64]) {
     (&lists.bytes[..STATUSES], &lists.links[UNITS..], &lists.keys[..CLOSE_DAY], &lists.cents)
@@ -59,6 +70,7 @@ fn other_sender(before: &[u16], after: &[u16], caller: usize) -> Option<String> 
 #[cfg(test)]
 mod tests {
     use super::*;
+    use reference::COUNTS;
     use reference::lists::DAYS;
 
     fn found_after(call: Call, alter: impl Fn(&mut Lists)) -> Option<String> {
@@ -92,6 +104,18 @@ mod tests {
         assert_eq!(found(added(0)), None);
         assert_eq!(found(added(1)), altered(1));
     }
+
+    #[test]
+    fn an_add_counts_for_its_sender() {
+        let add = Call::Add { sender: 3, sent: Default::default() };
+        let count = |i: usize| move |lists: &mut Lists| lists.board[COUNTS + i] = 1;
+        let altered = |i: usize| Some(format!("how many messages sender {i} has added"));
+        assert_eq!([3, 4].map(|i| found_after(add, count(i))), [None, altered(3)]);
+        assert_eq!(found_after(add, |_| ()), altered(3));
+        assert_eq!([3, 31].map(|i| found(count(i))), [altered(3), altered(31)]);
+        assert_eq!(found_after(Call::Close { day: 5 }, count(0)), Some("board number 675: 0 and 1".into()));
+    }
+
     #[test]
     fn a_close_alters_the_close_day_alone() {
         let close = |lists: &mut Lists| (lists.board[HAS_CLOSE], lists.keys[CLOSE_DAY]) = (1, 5);

@@ -8,10 +8,11 @@ use crate::invariant::senders;
 use crate::pair::{Checked, Pair};
 use crate::plain_rust::{Reference, Verdict};
 use crate::random::{Random, damage, put_last_byte};
-use crate::seen::{LENGTHS, LISTS, PARTS, ROWS, WITHOUT_CLOSE, last_byte_of};
+use crate::recounts;
+use crate::seen::{LENGTHS, LISTS, PARTS, ROWS, WITHOUT, last_byte_of};
 use reference::board::MESSAGES;
 use reference::calls::CLOSE;
-use reference::{Lists, NUMBERS, Rows, SENDER_NUMBERS, Sent, Table};
+use reference::{COUNTS, HAS_CLOSE, Lists, NUMBERS, Rows, SENDER_NUMBERS, Sent, Table};
 
 /// An opened board's lent lists may hold anything: zeros, what could be messages, any numbers.
 pub fn lent_anything(random: &mut Random) -> Lists {
@@ -51,11 +52,12 @@ pub fn compare_reads(pair: &mut Pair, random: &mut Random) -> Checked<()> {
 /// Leaves the schedule for a few calls, and comes back.
 pub fn excursion(pair: &mut Pair, random: &mut Random) -> Checked<()> {
     let (lists, theirs, table) = (pair.ours.clone(), pair.theirs.clone(), pair.table.clone());
-    match random.below(12) {
+    match random.below(13) {
         0 => damaged_table(pair, random),
         1 => another_length(pair, random),
         2 => any_replay(pair, random),
         3..=5 => one_number_changed(pair, random),
+        6 => recounts::excursion(pair, random),
         _ => unreached_board(pair, random),
     }
     .map_err(|difference| format!("away from the schedule: {difference}"))?;
@@ -64,7 +66,7 @@ pub fn excursion(pair: &mut Pair, random: &mut Random) -> Checked<()> {
 }
 
 /// A call by the favoured sender, by one with work to do, or by any.
-fn random_call(random: &mut Random, table: &Table, lists: &Lists, favoured: usize) -> Call {
+pub fn random_call(random: &mut Random, table: &Table, lists: &Lists, favoured: usize) -> Call {
     let senders = senders(lists);
     let busy: Vec<usize> = (0..senders.len()).filter(|&i| !senders[i].at_rest()).collect();
     let sender = match random.below(10) {
@@ -145,16 +147,21 @@ fn any_replay(pair: &mut Pair, random: &mut Random) -> Checked<()> {
 /// One of the lent lists of another length.
 fn another_length(pair: &mut Pair, random: &mut Random) -> Checked<()> {
     let mut lists = pair.ours.clone();
-    let (list, length) = (random.below(LISTS.len() + 1), random.below(LENGTHS.len()));
+    let (list, length) = (random.below(LISTS.len() + WITHOUT.len()), random.below(LENGTHS.len()));
     match list {
         0 => resize(&mut lists.board, length, SENDER_NUMBERS),
         1 => resize(&mut lists.bytes, length, MESSAGES),
         2 => resize(&mut lists.links, length, MESSAGES),
         3 => resize(&mut lists.keys, length, MESSAGES),
         4 => resize(&mut lists.cents, length, MESSAGES),
-        _ => drop((lists.board.pop(), lists.keys.pop())),
+        5 => lists.board.truncate(COUNTS),
+        _ => {
+            lists.board.truncate(HAS_CLOSE);
+            lists.keys.pop();
+        }
     }
-    let what = LISTS.get(list).map_or(WITHOUT_CLOSE.to_string(), |list| format!("{list} {}", LENGTHS[length]));
+    let without = || WITHOUT[list - LISTS.len()].to_string();
+    let what = LISTS.get(list).map_or_else(without, |list| format!("{list} {}", LENGTHS[length]));
     pair.set(&lists);
     expect_refused(pair).map_err(|difference| format!("{what}: {difference}"))?;
     pair.tally.seen.note(&what);
@@ -168,7 +175,7 @@ fn resize<T: Clone + Default>(list: &mut Vec<T>, length: usize, part: usize) {
 }
 
 /// Every call is refused 30 before anything else that is wrong with it.
-fn expect_refused(pair: &mut Pair) -> Checked<()> {
+pub fn expect_refused(pair: &mut Pair) -> Checked<()> {
     expect_no_board(pair, Call::Step { sender: 0 })?;
     expect_no_board(pair, Call::Close { day: 0 })?;
     let sent = Sent { channel: 99, cents: i64::MAX, ..Sent::default() };
@@ -179,7 +186,7 @@ fn expect_refused(pair: &mut Pair) -> Checked<()> {
     expect_number(30, pair.replay(&Rows::of(&[]), 0)?.0)
 }
 
-fn expect_number(expected: u8, number: u8) -> Checked<()> {
+pub fn expect_number(expected: u8, number: u8) -> Checked<()> {
     if number == expected { Ok(()) } else { Err(format!("answered {number} and not {expected}")) }
 }
 
