@@ -3,7 +3,7 @@
 use crate::replays::{steps_of_each, times};
 use crate::report::{Target, heading_of_looks, row_of_looks};
 use crate::tables;
-use crate::timing::{REPLAY_ROUNDS, least_of, timed};
+use crate::timing::{REPLAY_ROUNDS, Times, least_of, timed};
 use reference::Equality::{self, Property, Unit};
 use reference::board::CONSUMED;
 use reference::look::Wanted;
@@ -168,8 +168,8 @@ pub fn looks() {
     for looks in all() {
         let (board, steps) = (looks.board(), looks.steps());
         let (whole, tests) = (times(&looks.table, &board, &steps), times(&looks.table, &board, &Rows::default()));
-        let [proved, plain] = [whole.proved - tests.proved, whole.plain - tests.plain];
-        let figures = [proved / steps.len() as f64, plain / steps.len() as f64, looks.time_one_by_one(&board)];
+        let Times { proved, plain } = whole.less(tests).map(|ns| ns / steps.len() as f64);
+        let figures = [proved, plain, looks.time_one_by_one(&board)];
         row_of_looks(looks.name, figures, [SPEED, looks.times]);
     }
 }

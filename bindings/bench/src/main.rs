@@ -59,6 +59,7 @@ fn time(folder: &Path, proved: &Path) -> io::Result<()> {
     let plain = env::current_exe()?.with_file_name("play");
     public::calls_of_all_sizes();
     replays::matches();
+    replays::adds();
     program::lines(&fs::canonicalize(proved)?, &plain, folder)?;
     looks::looks();
     public::soundness();

@@ -9,6 +9,7 @@ use reference::{Board, Call, Sent, Table, calls};
 use std::hint::black_box;
 
 const RATIO: Target = Target::AtMost(1.1);
+const ADD: Call = Call::Add { sender: 2, sent: Sent { channel: 0, property: 0, cents: 5, day: 0, unit: 0 } };
 
 /// What the timed step does.
 #[derive(Clone, Copy)]
@@ -70,9 +71,13 @@ pub fn calls_of_all_sizes() {
     }
     let table = tables::rendezvous();
     for messages in [0, 128, 512, 1023, 1024] {
-        let add = Call::Add { sender: 2, sent: Sent { cents: 5, ..Sent::default() } };
         let name = if messages == 1024 { "add, refused" } else { "add" };
-        bounded(name, messages, times(&table, &pairs(&table, messages), add));
+        bounded(name, messages, times(&table, &pairs(&table, messages), ADD));
+    }
+    for (name, count) in [("add, an own one", 15), ("add, a common one", 17)] {
+        let mut board = pairs(&table, 512);
+        (board.counts[2], board.counts[3]) = (count, 32 - count);
+        bounded(name, 512, times(&table, &board, ADD));
     }
     for messages in [0, 512, 1024] {
         bounded("close", messages, times(&table, &pairs(&table, messages), Call::Close { day: 30 }));

@@ -1,12 +1,12 @@
-//! Replays: pairs, triples, and a contended morning.
+//! Replays: pairs, triples, and a contended morning; and adds, of own messages and of common ones.
 
 use crate::report::{Target, heading, row, row_of_proved};
-use crate::schedule::{Schedule, by_chance, in_turn};
+use crate::schedule::{Schedule, by_chance, in_turn, pairs};
 use crate::tables;
 use crate::timing::{REPLAY_ROUNDS, Times, least, timed};
 use crate::world::{Proved, restore};
 use reference::Equality::{Property, Unit};
-use reference::{Board, Call, Rows, calls};
+use reference::{Board, Call, Rows, Sent, calls};
 
 const SPEED: Target = Target::AtLeast(0.85);
 
@@ -28,7 +28,8 @@ pub fn times(table: &[u8], board: &Board, rows: &Rows) -> Times {
             if board.messages > 0 {
                 restore(&mut plain, board);
             }
-            (plain.messages, plain.matches, plain.senders) = (board.messages, board.matches, board.senders);
+            (plain.messages, plain.matches) = (board.messages, board.matches);
+            (plain.senders, plain.counts) = (board.senders, board.counts);
             timed(|| calls::replay(table, &mut plain, rows, &mut answers).unwrap())
         },
     );
@@ -65,6 +66,20 @@ pub fn matches() {
         let figures = whole.map(|ns| f64::from(list.matches) * 1e6 / ns);
         let target = if at < 2 { Target::AtLeast(1000.0) } else { Target::None };
         row_of_proved(&format!("{name} ({} matches)", list.matches), figures, 1.0 / whole.ratio(), target);
+    }
+}
+
+/// An add of each sender, which have added all but one of their own messages, or all: nanoseconds of a replay, less a
+/// replay of none.
+pub fn adds() {
+    let (table, add) = (tables::rendezvous(), |sender| Call::Add { sender, sent: Sent::default() });
+    let adds = Rows::of(&(0..32).map(add).collect::<Vec<_>>());
+    heading("  an add within a replay", "ns", "speed");
+    for (name, messages) in [("an own one: 480 messages", 480), ("a common one: 512 messages", 512)] {
+        let board = pairs(&table, messages);
+        let (whole, tests) = (times(&table, &board, &adds), times(&table, &board, &Rows::default()));
+        let figures = whole.less(tests).map(|ns| ns / adds.len() as f64);
+        row(name, figures, 1.0 / figures.ratio(), SPEED);
     }
 }
 

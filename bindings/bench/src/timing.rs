@@ -24,6 +24,10 @@ impl Times {
         Times { proved: self.proved.min(other.proved), plain: self.plain.min(other.plain) }
     }
 
+    pub fn less(self, other: Times) -> Times {
+        Times { proved: self.proved - other.proved, plain: self.plain - other.plain }
+    }
+
     pub fn map(self, change: impl Fn(f64) -> f64) -> Times {
         Times { proved: change(self.proved), plain: change(self.plain) }
     }

@@ -49,7 +49,7 @@ impl Proved {
 /// Copies a plain board over another, in place.
 pub fn restore(board: &mut Board, saved: &Board) {
     (board.messages, board.matches, board.senders) = (saved.messages, saved.matches, saved.senders);
-    board.close_day = saved.close_day;
+    (board.close_day, board.counts) = (saved.close_day, saved.counts);
     let (to, from) = (&mut board.columns, &saved.columns);
     *to.channels = *from.channels;
     *to.properties = *from.properties;
