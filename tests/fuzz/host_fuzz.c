@@ -2,7 +2,8 @@
  * makes one call with lengths that are mostly right, twice: every lent list ends at an inaccessible page, then every
  * list begins after one. Both calls must answer the same documented number, alter nothing when they refuse, and leave
  * a board that is accepted when they do not. Adds and closes must be refused for a closed day just where they are to
- * be. A merge of two tables, which are edited as its map is, must leave a table that is accepted.
+ * be, adds for want of messages just where their sender has none left, and boards whose counts are no sound board's. A
+ * merge of two tables, which are edited as its map is, must leave a table that is accepted.
  */
 #include <stdint.h>
 #include <stdio.h>
@@ -25,10 +26,10 @@ struct range {
 #define ALL {0, SIZE_MAX, 0}
 static const struct range written[CALLS][LISTS] = {
     [OPEN] = {[BOARD] = ALL},
-    [ADD] = {[BOARD] = {0, GV_HAS_CLOSE, 0}, [BYTES] = {0, GV_CHORDS, 0}, [LINKS] = {0, GV_MEMBERS, GV_UNITS},
+    [ADD] = {[BOARD] = {0, GV_HAS_CLOSE, GV_TALLIES}, [BYTES] = {0, GV_CHORDS, 0}, [LINKS] = {0, GV_MEMBERS, GV_UNITS},
              [KEYS] = {0, GV_CLOSE_DAY, 0}, [CENTS] = ALL},
     [STEP] = {[BOARD] = {0, GV_HAS_CLOSE, 0}, [BYTES] = {GV_STATUSES, GV_BYTES, 0}, [LINKS] = {0, GV_UNITS, 0}},
-    [CLOSE] = {[BOARD] = {GV_HAS_CLOSE, GV_BOARD, 0}, [KEYS] = {GV_CLOSE_DAY, GV_KEYS, 0}},
+    [CLOSE] = {[BOARD] = {GV_HAS_CLOSE, GV_TALLIES, 0}, [KEYS] = {GV_CLOSE_DAY, GV_KEYS, 0}},
     [REPLAY] = {[BOARD] = ALL, [BYTES] = ALL, [LINKS] = ALL, [KEYS] = ALL, [CENTS] = ALL, [ANSWERS] = ALL},
     [READ_MESSAGE] = {[OUT] = ALL},
     [READ_MATCH] = {[OUT] = ALL},
@@ -45,7 +46,7 @@ static const size_t right[LISTS] = {
 };
 
 /* The parts of the lists that are edited. */
-enum { PARTS = 14 };
+enum { PARTS = 15 };
 static const struct part {
     enum list list;
     size_t from, count;
@@ -53,6 +54,7 @@ static const struct part {
     {TABLE, 0, sizeof table_p},
     {BOARD, 0, GV_HAS_CLOSE},
     {BOARD, GV_HAS_CLOSE, 1},
+    {BOARD, GV_TALLIES, GV_SENDERS},
     {BYTES, 0, GV_MESSAGES},
     {BYTES, GV_STATUSES, GV_MESSAGES},
     {BYTES, GV_CHORDS, GV_MATCHES},
@@ -79,8 +81,9 @@ static uint8_t *room[LISTS]; /* the accessible pages of each list */
 static size_t room_bytes[LISTS];
 static uint8_t *at[LISTS]; /* where each list lies now */
 
-/* What libFuzzer takes for coverage: the answers of each call, and the phases of the senders. */
-__attribute__((section("__libfuzzer_extra_counters"))) static uint8_t seen[CALLS * 64 + 1024];
+/* What libFuzzer takes for coverage: the answers of each call, the phases of the senders, and what is left of their
+ * messages. */
+__attribute__((section("__libfuzzer_extra_counters"))) static uint8_t seen[CALLS * 64 + 1024 + 8];
 
 static const uint8_t *input;
 static size_t input_left;
@@ -191,7 +194,7 @@ static int is_answer(enum call call, uint32_t answer) {
 static int is_own_refusal(enum call call, uint32_t refusal) {
     switch (call) {
     case ADD:
-        return (refusal >= 8 && refusal <= 12) || refusal == 19;
+        return (refusal >= 8 && refusal <= 11) || refusal == 19 || refusal == 26;
     case STEP:
         return refusal == 8 || refusal == 13;
     case CLOSE:
@@ -306,7 +309,7 @@ static void demand_closed(const struct lent *lent, enum call call, uint32_t answ
     const uint32_t *keys = (const uint32_t *)(const void *)lent->bytes[KEYS];
     uint32_t close_day = keys[GV_CLOSE_DAY], refusal = refusal_of(call, answer);
     int is_closed = board[GV_HAS_CLOSE] == 1;
-    if (call == ADD && (refusal == 0 || refusal == 11 || refusal == 12 || refusal == 19))
+    if (call == ADD && (refusal == 0 || refusal == 11 || refusal == 19 || refusal == 26))
         demand((refusal == 19) == (is_closed && lent->day <= close_day), "refused 19 or not", call, answer);
     if (call == CLOSE && (refusal == 0 || refusal == 20))
         demand((refusal == 20) == (is_closed && lent->day < close_day), "refused 20 or not", call, answer);
@@ -314,6 +317,41 @@ static void demand_closed(const struct lent *lent, enum call call, uint32_t answ
         demand(((const uint16_t *)(const void *)at[BOARD])[GV_HAS_CLOSE] == 1 &&
                    ((const uint32_t *)(const void *)at[KEYS])[GV_CLOSE_DAY] == lent->day,
                "the close day is not written", call, answer);
+}
+
+/* How many messages the senders have added, and how many of them are common ones. */
+struct sums {
+    uint32_t messages, common;
+};
+
+static struct sums sums_of(const uint16_t *board) {
+    struct sums sums = {0, 0};
+    for (int sender = 0; sender < GV_SENDERS; sender++) {
+        uint32_t count = board[GV_TALLIES + sender];
+        sums.messages += count;
+        sums.common += count > GV_SHARE ? count - GV_SHARE : 0;
+    }
+    return sums;
+}
+
+/* A board that is accepted has the counts of a sound one; they decide of an add last, and an add that is not refused
+ * adds 1 to its sender's and to no other. */
+static void demand_counts(const struct lent *lent, enum call call, uint32_t answer) {
+    const uint16_t *board = (const uint16_t *)(const void *)lent->bytes[BOARD];
+    uint32_t refusal = refusal_of(call, answer);
+    if (call <= OPEN || call == MERGE || refusal == 30 || (refusal != 0 && refusal < 8))
+        return;
+    struct sums sums = sums_of(board);
+    demand(sums.messages == board[0] && sums.common <= GV_COMMON, "counts of no sound board", call, answer);
+    if (call != ADD || (refusal != 0 && refusal != 26))
+        return;
+    size_t place = GV_TALLIES + lent->first;
+    int is_used_up = board[place] >= GV_SHARE && sums.common == GV_COMMON;
+    demand((refusal == 26) == is_used_up, "refused 26 or not", call, answer);
+    demand(refusal == 26 || ((const uint16_t *)(const void *)at[BOARD])[place] == board[place] + 1, "not counted", call,
+           answer);
+    demand(is_kept(lent, BOARD, GV_TALLIES, place) && is_kept(lent, BOARD, place + 1, GV_BOARD),
+           "another sender's count has changed", call, answer);
 }
 
 /* After a call that wrote the board it is accepted, if the other lists have their lengths. */
@@ -334,6 +372,7 @@ static uint32_t checked_call(const struct lent *lent, enum call call, int at_end
     if (call == ADD && refusal_of(ADD, answer) == 0)
         demand_unit(lent, answer);
     demand_closed(lent, call, answer);
+    demand_counts(lent, call, answer);
     if (call == REPLAY && answer == 0)
         demand_answers(lent);
     if (call == MERGE && answer == 0)
@@ -360,7 +399,8 @@ static uint32_t call_twice(const struct lent *lent, enum call call) {
     return answer;
 }
 
-/* Counts what libFuzzer shall see: the answer and, if the board was accepted, state and phase of eight senders. */
+/* Counts what libFuzzer shall see: the answer and, if the board was accepted, state and phase of eight senders, and
+ * whether one has used its own messages, whether the common ones are used, and whether there are others. */
 static void count(const struct lent *lent, enum call call, uint32_t answer) {
     uint32_t refusal = refusal_of(call, answer);
     const uint16_t *board = (const uint16_t *)(const void *)lent->bytes[BOARD];
@@ -368,6 +408,8 @@ static void count(const struct lent *lent, enum call call, uint32_t answer) {
     for (int sender = 0; call > OPEN && call < MERGE && refusal == 0 && sender < 8; sender++) {
         const uint16_t *numbers = board + 2 + 21 * sender;
         seen[CALLS * 64 + numbers[0] % 4 * 256 + numbers[8] % 16 * 16 + numbers[9] % 8 * 2 + numbers[1] % 2]++;
+        seen[CALLS * 64 + 1024 + (board[GV_TALLIES + sender] >= GV_SHARE) + 2 * (sums_of(board).common == GV_COMMON) +
+             4 * (board[0] == GV_MESSAGES)]++;
     }
 }
 
@@ -399,10 +441,18 @@ static void put_table(struct lent *lent, uint8_t kind) {
     table[17] = (kind >> 4) % 3;
 }
 
-/* An empty board with lists of any one byte, or a board that is almost full; and a schedule played on it. */
+/* Two messages are left of the common ones: of the whole board, or one sender has used all others. */
+static void almost_fill(uint16_t *board, int alone) {
+    for (int sender = 0; sender < GV_SENDERS; sender++)
+        board[GV_TALLIES + sender] = alone ? 0 : 2 * GV_SHARE;
+    board[GV_TALLIES] = alone ? GV_SHARE + GV_COMMON - 2 : 2 * GV_SHARE - 2;
+    board[0] = alone ? board[GV_TALLIES] : GV_MESSAGES - 2;
+}
+
+/* An empty board with lists of any one byte, or one that is almost full, or is to one sender; and a schedule played on
+ * it. */
 static void reach(struct lent *lent) {
     uint8_t kind = take(), byte = take();
-    uint16_t almost = GV_MESSAGES - 2;
     for (int list = 0; list < LISTS; list++)
         memset(lent->bytes[list], kind & 8 ? 0 : byte, (right[list] + 1) * element[list]);
     put_table(lent, kind);
@@ -410,7 +460,7 @@ static void reach(struct lent *lent) {
     lay(lent, 1);
     demand(gv_open(U8(TABLE), U16(BOARD)) == 0, "table P is refused", OPEN, 0);
     if (kind & 8)
-        memcpy(at[BOARD], &almost, sizeof almost);
+        almost_fill((uint16_t *)(void *)at[BOARD], kind & 4);
     for (int calls = take() % 64; calls > 0; calls--)
         play(lent);
     keep(lent);
@@ -425,6 +475,16 @@ static void put(struct lent *lent, int list, size_t place, uint64_t value) {
 static void edit(struct lent *lent, struct part part) {
     size_t place = part.from + number() % part.count;
     put(lent, part.list, place, number());
+}
+
+/* Moves messages that a sender has added to another sender. */
+static void move_count(struct lent *lent) {
+    uint16_t *counts = (uint16_t *)(void *)lent->bytes[BOARD] + GV_TALLIES;
+    uint16_t *from = counts + take() % GV_SENDERS, *to = counts + take() % GV_SENDERS;
+    uint64_t some = number();
+    uint16_t moved = some < *from ? (uint16_t)some : *from;
+    *from -= moved;
+    *to += moved;
 }
 
 /* A table of so many leaving channels and chords, each of the channel of its number as often as the input says. */
@@ -497,6 +557,8 @@ int LLVMFuzzerTestOneInput(const uint8_t *data, size_t size) {
     reach(&lent);
     for (int edits = take() % 6; edits > 0; edits--)
         edit(&lent, parts[take() % PARTS]);
+    for (int moves = take() % 4; moves > 0; moves--)
+        move_count(&lent);
     lent.first = (uint16_t)number();
     lent.channel = (uint16_t)number();
     lent.property = (uint32_t)number();
