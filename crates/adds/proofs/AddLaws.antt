@@ -27,6 +27,7 @@ withMessage b i d = record {
   senders = set (b .senders) i d;
   closed = b .closed;
   tallies = set (b .tallies) i (tally (b .tallies) i + 1);
+  backoffs = b .backoffs;
 }
 
 module _ (t : Table) (b : HeldBoard) (i : ℕ) (x : Sent) (d : DD.Sender) (c : Columns) (m : MatchColumns)

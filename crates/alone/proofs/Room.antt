@@ -14,9 +14,9 @@ use Rattle.model.specs.Boards.{Board, senderAt, matchAt, messageAt, pending, co
 use Rattle.model.proofs.Tests.{same?, tested, tests}
 use Rattle.model.proofs.Lists.{nth-isIn}
 use Rattle.model.proofs.Pigeon.{pigeon}
+use Rattle.model.proofs.Shares.{shares-fit}
 use Rattle.model.proofs.Grows.{apart}
 use Rattle.model.proofs.Matches.{WillConsume, consume-holds}
-use Rattle.model.proofs.Ranges.{messages-few}
 use Rattle.model.proofs.Invariant.{Inv}
 use Rattle.alone.proofs.Rests.{Bounded}
 
@@ -44,10 +44,10 @@ module _ (t : Table) (b : Board) (v : Inv t b) (f : Bounded b) (n : ℕ) (on : n
 
     low : (k : ℕ) → k ≤ 1024 → (k ≡ 1024) ⊎ (k ≢ 1024) → seat k < 1024
     unfolding seat
-    low k l (inl e) = rw (eq-eqb k 1024 e) (omega (arith, messages-few (v .ranges)))
+    low k l (inl e) = rw (eq-eqb k 1024 e) (omega (arith, shares-fit (v .shares)))
     low k l (inr e) =
         let z = v .matches .on-board (first k) k (omega arith) (first-in k (omega arith)) in
-        rw (ne-eqb k 1024 e) (omega (arith, messages-few (v .ranges), z))
+        rw (ne-eqb k 1024 e) (omega (arith, shares-fit (v .shares), z))
 
     one : (j k : ℕ) → j ≤ 1024 → k ≤ 1024 → (j ≡ 1024) ⊎ (j ≢ 1024) → (k ≡ 1024) ⊎ (k ≢ 1024) → seat j ≡ seat k → j ≡ k
     unfolding seat

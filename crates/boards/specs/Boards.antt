@@ -5,7 +5,7 @@ use Prim.Native.Nat.{ℕ, suc}
 use lib.ListN.{getD}
 use Rattle.model.specs.Basics.{pick}
 use Rattle.model.specs.Tables.{Table}
-use Rattle.model.specs.Boards.{Board, builtinBackoffs}
+use Rattle.model.specs.Boards.{Board}
 use Rattle.columns.specs.Columns.{Columns, messagesFrom}
 use Rattle.columns.specs.MatchColumns.{MatchColumns, matchesFrom}
 use Rattle.state.specs.declared.Phase.the-variants as P
@@ -14,14 +14,26 @@ use Rattle.state.specs.declared.Sender as DD
 use Rattle.state.specs.Views.{senderIn}
 use Rattle.boards.specs.Layout.{closeDayAt}
 
--- the board without its columns: how many messages and matches there are, the senders, whether a day is closed, and
--- how many messages each sender has added
+-- the board without its columns: how many messages and matches there are, the senders, whether a day is closed, how
+-- many messages each sender has added, and the backoff table
 pub record HeldBoard : Type 0 where
   pub messages : ℕ
   pub matches : ℕ
   pub senders : List DD.Sender
   pub closed : Bool
   pub tallies : List ℕ
+  pub backoffs : List ℕ
+
+-- the same with other counts and senders
+abbrev pub withSenders : HeldBoard → ℕ → ℕ → List DD.Sender → HeldBoard
+withSenders b n k ds = record {
+  messages = n;
+  matches = k;
+  senders = ds;
+  closed = b .closed;
+  tallies = b .tallies;
+  backoffs = b .backoffs;
+}
 
 -- rule 9.8: the close day plus 1; 0 where no day is closed
 abbrev pub closedBy : Bool → ℕ → ℕ
@@ -31,13 +43,13 @@ closedBy closed day = pick closed (suc day) 0
 abbrev pub closedIn : HeldBoard → List ℕ → ℕ
 closedIn b keys = closedBy (b .closed) (getD keys closeDayAt 0)
 
--- rule 1.11: the board of these counts, senders and columns; its backoff table is the built-in one (rule 1.9)
+-- rule 1.11: the board of these counts, senders and columns
 abbrev pub boardIn : Table → HeldBoard → Columns → MatchColumns → Board
 boardIn t b c m = record {
   messages = messagesFrom c 0 (b .messages);
   matches = matchesFrom t m 0 (b .matches);
   senders = map (senderIn t) (b .senders);
-  backoffs = builtinBackoffs;
+  backoffs = b .backoffs;
   closed = closedIn b (c .keys);
   tallies = b .tallies;
 }

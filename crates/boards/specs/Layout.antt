@@ -13,15 +13,18 @@ use Rattle.columns.specs.MatchColumns.{MatchColumns, matchesOf}
 use Rattle.boards.specs.Parts.{part}
 
 -- board: 0 messages, 1 matches, then 21 numbers for each of 32 senders, 674 whether a day is closed, 675 how many
--- messages each sender has added
+-- messages each sender has added, 707 the backoff table
 abbrev pub closedAt : ℕ
 closedAt = 674
 
 abbrev pub talliesAt : ℕ
 talliesAt = 675
 
+abbrev pub backoffsAt : ℕ
+backoffsAt = 707
+
 abbrev pub boardLen : ℕ
-boardLen = 707
+boardLen = 723
 
 -- bytes: 0 channels, 1,024 statuses, 2,048 the matches' chords
 abbrev pub statusesAt : ℕ
@@ -70,6 +73,13 @@ pub record Lists : Type 0 where
 abbrev pub lists : List ℕ → List ℕ → List ℕ → List ℕ → List ℤ → Lists
 lists board bytes links keys cents =
     record { board = board; bytes = bytes; links = links; keys = keys; cents = cents }
+
+module _ (board : List ℕ) where
+  abbrev pub talliesIn : List ℕ
+  talliesIn = part talliesAt 32 board
+
+  abbrev pub backoffsIn : List ℕ
+  backoffsIn = part backoffsAt 16 board
 
 module _ (bytes : List ℕ) where
   abbrev pub channelsIn : List ℕ

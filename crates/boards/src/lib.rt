@@ -1,12 +1,11 @@
 // The board as the lists that a host lends: where its columns stand in them; and the calls.
 ghost use mathlib.Core.Path.{_≡_};
-ghost use lib.ListN.{length, drop};
-ghost use Rattle.boards.specs.Layout.{boardLen, talliesAt, bytesLen, linksLen};
-ghost use Rattle.boards.specs.Layout.{channelsIn, statusesIn, chordsIn, matchedIn, wakersIn, membersIn};
-ghost use Rattle.boards.specs.Layout.{unitsIn};
+ghost use lib.ListN.{length};
+ghost use Rattle.boards.specs.Layout.{boardLen, bytesLen, linksLen, talliesIn, backoffsIn, channelsIn};
+ghost use Rattle.boards.specs.Layout.{statusesIn, chordsIn, matchedIn, wakersIn, membersIn, unitsIn};
 
 // Lengths, and the places of columns that are not the first of their list.
-pub const BOARD_LEN: usize = 707;
+pub const BOARD_LEN: usize = 723;
 
 pub const BYTES_LEN: usize = 3072;
 
@@ -30,6 +29,8 @@ pub const CLOSED: usize = 674;
 
 pub const TALLIES: usize = 675;
 
+pub const BACKOFFS: usize = 707;
+
 pub const CLOSE_DAY: usize = 2048;
 
 // A message as it is added.
@@ -50,9 +51,17 @@ pub enum Call {
 // How many messages each sender has added.
 pub fn tallies(board: &[u16]) -> &[u16]
     requires { ⌜ length (now board) ≡ boardLen ⌝ }
-    ensures { λ r. ⌜ (now r ≡ drop talliesAt (now (board .entry))) × (length (now r) ≡ 32) ⌝ }
+    ensures { λ r. ⌜ (now r ≡ talliesIn (now (board .entry))) × (length (now r) ≡ 32) ⌝ }
 {
-    &board[TALLIES..BOARD_LEN]
+    &board[TALLIES..BACKOFFS]
+}
+
+// The backoff table that the board was opened with.
+pub fn backoffs(board: &[u16]) -> &[u16]
+    requires { ⌜ length (now board) ≡ boardLen ⌝ }
+    ensures { λ r. ⌜ (now r ≡ backoffsIn (now (board .entry))) × (length (now r) ≡ 16) ⌝ }
+{
+    &board[BACKOFFS..BOARD_LEN]
 }
 
 // The messages' channels.

@@ -3,7 +3,7 @@ ghost use mathlib.Core.Path.{_≡_};
 ghost use Prim.Native.Nat.{_<_, _≤_};
 ghost use lib.ListN.{length, getD, drop, replicate};
 ghost use Rattle.model.specs.Tables.{Table};
-ghost use Rattle.model.specs.Boards.{noMessage};
+ghost use Rattle.model.specs.Boards.{noMessage, builtinBackoffs};
 ghost use Rattle.model.specs.Pools.{noRead, quiet, adds, steps, closes};
 ghost use Rattle.columns.specs.Columns.{Columns, columnsOf, messageIn};
 ghost use Rattle.columns.specs.MatchColumns.{MatchColumns};
@@ -47,20 +47,34 @@ pub struct MatchAnswer {
     pub read: MatchRead,
 }
 
-// Opens an empty board; 0, or the number that refuses it, and then the board is as before.
-pub fn open(table: &[u8], board: &mut [u16]) -> u8
-    ensures { λ r. ⌜ (r ≡ openNumber (now (table .entry)) (now (board .entry)))
-        × (now (board .exit) ≡ openedNumbers (now (table .entry)) (now (board .entry))) ⌝ }
+// Opens an empty board with the backoff table given; 0, or the number that refuses it, and then the board is as before.
+pub fn open_with_rests(table: &[u8], rests: &[u8], board: &mut [u16]) -> u8
+    ensures { λ r. ⌜ r ≡ openNumber (now (table .entry)) (now (rests .entry)) (now (board .entry)) ⌝ }
+    ensures { λ _. ⌜ now (board .exit)
+        ≡ openedNumbers (now (table .entry)) (now (rests .entry)) (now (board .entry)) ⌝ }
 {
     let number = table::table_refusal(table);
     if number != 0 {
         return number;
     }
+    if !backoffs::bytes_pass(rests) {
+        return 21;
+    }
     if board.len() != boards::BOARD_LEN {
         return 30;
     }
-    rows::put_fresh(board);
+    rows::put_fresh(board, rests);
     0
+}
+
+// Opens an empty board with the built-in backoff table.
+pub fn open(table: &[u8], board: &mut [u16]) -> u8
+    ensures { λ r. ⌜ r ≡ openNumber (now (table .entry)) builtinBackoffs (now (board .entry)) ⌝ }
+    ensures { λ _. ⌜ now (board .exit)
+        ≡ openedNumbers (now (table .entry)) builtinBackoffs (now (board .entry)) ⌝ }
+{
+    let rests = backoffs::builtin();
+    open_with_rests(table, &rests, board)
 }
 
 // The one call of a row: the refusals that every board call has, then the call.

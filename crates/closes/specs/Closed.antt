@@ -15,6 +15,7 @@ closedBoard b = record {
   senders = b .senders;
   closed = true;
   tallies = b .tallies;
+  backoffs = b .backoffs;
 }
 
 -- what is held once the days up to this one are closed

@@ -3,7 +3,7 @@ use mathlib.Core.Path.{_≡_}
 use mathlib.Core.Bool.{Bool, true, _&&_}
 use Prim.Native.Nat.{ℕ}
 use Rattle.model.specs.Tables.{Table}
-use Rattle.model.specs.Boards.{Board, Job, Sender, messageAt, isOpen, builtinBackoffs, backoffAt}
+use Rattle.model.specs.Boards.{Board, Job, Sender, messageAt, isOpen, backoffAt}
 use Rattle.model.specs.Steps.{more, restsThen, passEndBy, pass-end-step}
 use Rattle.state.specs.declared.Said.the-variants as W
 use Rattle.state.specs.declared.Change.the-variants as G
@@ -18,8 +18,8 @@ pub pass-by : (t : Table) (b : Board) (d : Sender) (w : Job) (opened again : Boo
 unfolding pass-end-step
 pass-by t b d w opened again e q = rw (e, q)
 
-pub again-is : (t : Table) (b : Board) (d : DD.Sender) (next : DJ.Job) (k rests : ℕ) → b .backoffs ≡ builtinBackoffs
-    → k ≡ more (d .job .retries) → rests ≡ backoffAt builtinBackoffs k
+pub again-is : (t : Table) (b : Board) (d : DD.Sender) (next : DJ.Job) (k rests : ℕ)
+    → k ≡ more (d .job .retries) → backoffAt (b .backoffs) (more (d .job .retries)) ≡ rests
     → jobIn t next ≡ restsThen t b (d .job .subject) k rests
     → effectIn t (worksBy d next W.Again G.None) ≡ passEndBy t b (senderIn t d) (jobIn t (d .job)) true
-again-is t b d next k rests eb ek er q = rw (q, er, ek, eb)
+again-is t b d next k rests ek er q = rw (q, ek, ← er)

@@ -4,9 +4,9 @@ ghost use mathlib.Core.Path.{_≡_};
 ghost use Prim.Native.Nat.{_-_, _<_};
 ghost use lib.ListN.{length};
 ghost use Rattle.model.specs.Tables.{size, isSync};
-ghost use Rattle.model.specs.Boards.{Board, messageAt, channelOf, isOpen, isConsumed, builtinBackoffs};
+ghost use Rattle.model.specs.Boards.{Board, messageAt, channelOf, isOpen, isConsumed, backoffAt};
 ghost use Rattle.model.specs.Layout.{tableRefusal, tableOf};
-ghost use Rattle.model.specs.Steps.{revert-step, pass-end-step, backoff-step};
+ghost use Rattle.model.specs.Steps.{more, revert-step, pass-end-step, backoff-step};
 ghost use Rattle.state.specs.declared.Phase.the-variants as P;
 ghost use Rattle.state.specs.Views.{jobIn, senderIn, effectIn};
 use state::Change;
@@ -36,7 +36,7 @@ pub fn revert_step(table: &[u8], d: Sender, k: u8, m: u8, channel: u8) -> Effect
 }
 
 // Ends a pass: again, if the job is to be tried again and its subject is open, or else the end of the job. The channels
-// are the subject's and the waker's; sync is of the own message's channel.
+// are the subject's and the waker's; sync is of the own message's channel; the rests are those of one retry more.
 pub fn pass_end_step(
     table: &[u8],
     d: Sender,
@@ -45,9 +45,11 @@ pub fn pass_end_step(
     sync: bool,
     waker: u8,
     consumed: bool,
+    rests: u8,
 ) -> Effect
     requires { ⌜ tableRefusal (now table) ≡ 0 ⌝ }
-    ensures { λ r. ⌜ ((b : Board) → b .backoffs ≡ builtinBackoffs → channelOf b (d .job .subject) ≡ channel
+    ensures { λ r. ⌜ ((b : Board) → backoffAt (b .backoffs) (more (d .job .retries)) ≡ rests
+        → channelOf b (d .job .subject) ≡ channel
         → isOpen (messageAt b (d .job .subject) .status) ≡ opened
         → isSync (tableOf (now (table .entry))) (channelOf b (d .own - 1)) ≡ sync
         → channelOf b (d .waker - 1) ≡ waker → isConsumed (messageAt b (d .waker - 1) .status) ≡ consumed
@@ -58,7 +60,6 @@ pub fn pass_end_step(
     let j = d.job;
     if j.retry & opened {
         let k = state::more(j.retries);
-        let rests = state::rests_at(k);
         let next = state::rests_then(table, j.subject, channel, k, rests);
         return state::works(d, next, Said::Again, Change::None);
     }

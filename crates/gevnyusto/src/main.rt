@@ -6,6 +6,7 @@ ghost use mathlib.Core.Bool.{true, false};
 ghost use mathlib.Core.List.{List};
 ghost use Prim.Native.Nat.{ℕ, _≤_};
 ghost use lib.ListN.{length};
+ghost use Rattle.model.specs.Boards.{builtinBackoffs};
 ghost use Rattle.boards.specs.Layout.{lists};
 ghost use Rattle.calls.specs.Opens.{openNumber, openedNumbers};
 ghost use Rattle.schedules.specs.Schedules.{Opened};
@@ -142,7 +143,8 @@ fn serve(
     keys: &mut [u32],
     cents: &mut [i64],
 ) -> bool
-    requires { ⌜ Opened (now table) (lists (now board) (now bytes) (now links) (now keys) (now cents)) ⌝ }
+    requires { ⌜ Opened (now table) builtinBackoffs
+        (lists (now board) (now bytes) (now links) (now keys) (now cents)) ⌝ }
     ensures { λ r. ⌜ (r ≡ true → (reads : List (List ℕ)) × (text : List ℕ)
         × Serves-all (now (table .entry)) reads text) ⌝ }
 {
@@ -164,8 +166,8 @@ fn serve(
 
 // The board's other lists, beside an opened board.
 fn run(table: &[u8], board: &mut [u16])
-    requires { ⌜ ((before : List ℕ) × (openNumber (now table) before ≡ 0)
-        × (now board ≡ openedNumbers (now table) before)) ⌝ }
+    requires { ⌜ ((before : List ℕ) × (openNumber (now table) builtinBackoffs before ≡ 0)
+        × (now board ≡ openedNumbers (now table) builtinBackoffs before)) ⌝ }
 {
     let mut bytes = [0u8; 3072];
     let mut links = [0u16; 11264];
@@ -178,7 +180,7 @@ fn main() {
     let mut file = [0u8; 413];
     let n = load(&mut file);
     let table = &file[..n];
-    let mut board = [0u16; 707];
+    let mut board = [0u16; 723];
     let number = calls::open(table, &mut board);
     if number != 0 {
         refuse(number);

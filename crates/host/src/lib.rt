@@ -5,6 +5,7 @@ ghost use Prim.Native.Nat.{_≤_};
 ghost use lib.IntN.{pos};
 ghost use lib.ListN.{length, drop, replicate};
 ghost use lib.Seq.{paste};
+ghost use Rattle.model.specs.Boards.{builtinBackoffs};
 ghost use Rattle.model.specs.Layout.{tableRefusal};
 ghost use Rattle.model.specs.Pools.{adds, steps, closes};
 ghost use Rattle.merging.specs.Merges.{mergeWriteRefusal, mergeWritten};
@@ -41,13 +42,24 @@ pub extern "C" fn gv_merge_tables(first: &[u8], second: &[u8], map: &[u8], out: 
     merger::merge_tables(first, second, map, out)
 }
 
-// Opens an empty board.
+// Opens an empty board with the built-in backoff table.
 #[no_mangle]
 pub extern "C" fn gv_open(table: &[u8], board: &mut [u16]) -> u8
-    ensures { λ r. ⌜ r ≡ openNumber (now (table .entry)) (now (board .entry)) ⌝ }
-    ensures { λ _. ⌜ now (board .exit) ≡ openedNumbers (now (table .entry)) (now (board .entry)) ⌝ }
+    ensures { λ r. ⌜ r ≡ openNumber (now (table .entry)) builtinBackoffs (now (board .entry)) ⌝ }
+    ensures { λ _. ⌜ now (board .exit)
+        ≡ openedNumbers (now (table .entry)) builtinBackoffs (now (board .entry)) ⌝ }
 {
     calls::open(table, board)
+}
+
+// Opens an empty board with the backoff table given.
+#[no_mangle]
+pub extern "C" fn gv_open_with_rests(table: &[u8], rests: &[u8], board: &mut [u16]) -> u8
+    ensures { λ r. ⌜ r ≡ openNumber (now (table .entry)) (now (rests .entry)) (now (board .entry)) ⌝ }
+    ensures { λ _. ⌜ now (board .exit)
+        ≡ openedNumbers (now (table .entry)) (now (rests .entry)) (now (board .entry)) ⌝ }
+{
+    calls::open_with_rests(table, rests, board)
 }
 
 // A step of a sender.

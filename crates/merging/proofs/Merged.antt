@@ -13,11 +13,11 @@ use Rattle.model.specs.Tables.{Chord, Table, noChord, isSync}
 use Rattle.model.specs.Boards.{emptyBoard}
 use Rattle.model.specs.Pools.{Call, adds, steps, closes, matchReads}
 use Rattle.model.proofs.Tests.{both, neither}
-use Rattle.model.proofs.SoundKept.{empty-sound}
+use Rattle.model.proofs.SoundKept.{empty-facts, after-facts}
 use Rattle.model.proofs.AcceptedChords.{TableOk}
 use Rattle.merging.specs.Merges.{newKinds, mergedChords, mergedTable, namedBy, ownChannel, addsTo, Same-schedule}
 use Rattle.merging.proofs.Extends.{Extends, Own}
-use Rattle.merging.proofs.SameSchedule.{CallsOwn, calls-same, all-sound, reads-same}
+use Rattle.merging.proofs.SameSchedule.{CallsOwn, calls-same, reads-same}
 
 unnamed-at : (x : ℕ) (cs : List Chord) (j : ℕ) → namedBy x cs ≡ false → isIn x (getD cs j noChord .channels) ≡ false
 unnamed-at x [] j e = refl
@@ -58,12 +58,11 @@ module _ (t u : Table) (ms : List ℕ) (ok : TableOk t) where
   pub same-schedule : (rests : List ℕ) (cs : List Call) → every (addsTo (ownChannel t u ms)) cs ≡ true
       → Same-schedule t (mergedTable t u ms) rests cs
   same-schedule rests cs e =
-      let s = all-sound t cs (emptyBoard rests) (empty-sound t rests) in
-      let r = calls-same t (mergedTable t u ms) extends cs (emptyBoard rests) (empty-sound t rests)
+      let r = calls-same t (mergedTable t u ms) extends cs (emptyBoard rests) (empty-facts t rests)
       (λ n l. absurd (omega arith)) (calls-own cs e) in
       record {
         answers = r .0;
         board = r .1;
-        reads = ap (matchReads (mergedTable t u ms)) (r .1) ∙ reads-same t
-            (mergedTable t u ms) extends _ s;
+        reads = ap (matchReads (mergedTable t u ms)) (r .1)
+            ∙ reads-same t (mergedTable t u ms) extends _ (after-facts t rests cs);
       }

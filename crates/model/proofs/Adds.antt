@@ -135,7 +135,6 @@ module _ (t : Table) (b : Board) (i : ℕ) (new : Sent) where
   shares-now s l e = subst⁻¹ (Shares (oneMore (b .tallies) i)) messages-now (shares-added s i l e)
 
   module _ (v : Inv t b) (in-senders : i < length (b .senders)) (was-idle : senderAt b i .state ≡ idle)
-      (channel-in : new .channel < length (t .kinds)) (cents-in : centsOk (new .cents) ≡ true)
       (l : i < 32) (room : hasRoom (b .tallies) i ≡ true) where
     local : SenderOk t b′ d
     local = record {
@@ -192,13 +191,7 @@ module _ (t : Table) (b : Board) (i : ℕ) (new : Sent) where
         tells-on = λ n l wt x. absurd (idle-has (WillTell t b) n x);
         tells-new = λ x m z. never (ap isRecord z);
       };
-      ranges = record {
-        shares = shares-now (v .ranges .shares) l room;
-        new-sent = λ n z h. let e : n ≡ last = omega (arith, messages-now) in
-            subst⁻¹ (λ (m : Message). (m .sent .channel < length (t .kinds)) × (centsOk (m .sent .cents) ≡ true))
-            (ap (messageAt b′) e ∙ new-message) (channel-in, cents-in);
-        new-chord = λ x m z. never (ap isRecord z);
-      };
+      shares = shares-now (v .shares) l room;
     }
 
     pub added-keeps : Inv t b′

@@ -3,8 +3,7 @@ use mathlib.Core.Path.{refl, _≡_, ap, _∙_, sym, subst}
 use mathlib.Core.Logic.{inl, _≢_, _⊎_, inr}
 use mathlib.Core.Bool.{true, false, Bool}
 use Prim.Native.Nat.{ℕ, _<_, zero, suc}
-use borrow.Author.Tests.{leb-false}
-use lib.Dec.{eqb, leb}
+use lib.Dec.{eqb}
 use lib.ListN.{length, getD}
 use native.Mathlib.Omega.{arith}
 use Rattle.model.specs.Basics.{isIn}
@@ -69,8 +68,7 @@ module _ {t : Table} {b : Board} {i : ℕ} {w : Job} {k : ℕ} (c : AtWork t b i
 
     -- a match
     module _ (e : eqb (suc k) (size t (w .chord)) ≡ true)
-        (no-wake : wakes t (w .chord) (channelOf b (w .subject)) ≡ false)
-        (room : leb 1024 (length (b .matches)) ≡ false) where
+        (no-wake : wakes t (w .chord) (channelOf b (w .subject)) ≡ false) where
       abbrev s : Effect
       s = fires b (senderAt b i) w (getD (w .chosen) k 0)
 
@@ -164,7 +162,6 @@ module _ {t : Table} {b : Board} {i : ℕ} {w : Job} {k : ℕ} (c : AtWork t b i
             w .subject,
             subst (λ (y : Match). Full t b (w .subject) (y .chord) (y .messages)) (ap (matchOf r) z) full,
           );
-          room = λ x r z. leb-false _ _ room;
         };
       }
 
@@ -172,14 +169,13 @@ module _ {t : Table} {b : Board} {i : ℕ} {w : Job} {k : ℕ} (c : AtWork t b i
       → isPending (messageAt b (getD (w .chosen) k 0) .status) ≡ pend
       → eqb (suc k) (size t (w .chord)) ≡ last
       → wakes t (w .chord) (channelOf b (w .subject)) ≡ wk
-      → leb 1024 (length (b .matches)) ≡ full
       → StepOwes t b i (claimedBy t b (senderAt b i) w k (getD (w .chosen) k 0) pend last wk full)
-  claimed false last wk full p l x r = lost _
-  claimed true false wk full p l x r = claims-next p l
-  claimed true true true full p l x r = claims-all p l x
-  claimed true true false true p l x r = lost _
-  claimed true true false false p l x r = fires-owes p l x r
+  claimed false last wk full p l x = lost _
+  claimed true false wk full p l x = claims-next p l
+  claimed true true true full p l x = claims-all p l x
+  claimed true true false true p l x = lost _
+  claimed true true false false p l x = fires-owes p l x
 
   pub claim-owes : StepOwes t b i (claim-step t b (senderAt b i) w k)
   unfolding claim-step
-  claim-owes = claimed _ _ _ _ refl refl refl refl
+  claim-owes = claimed _ _ _ _ refl refl refl

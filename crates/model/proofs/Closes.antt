@@ -94,13 +94,7 @@ module _ (t : Table) (b : Board) (day : ℕ) (v : Inv t b) where
     };
     obligation = obligation;
     answering = λ i n k o s l m. due-on i n (v .answering i n k o s l m);
-    ranges = record {
-      shares = v .ranges .shares;
-      matches-few = v .ranges .matches-few;
-      sent-in = v .ranges .sent-in;
-      match-in = v .ranges .match-in;
-      chord-in = v .ranges .chord-in;
-    };
+    shares = v .shares;
   }
 
 pub closed-pool : (t : Table) (last b : Board) (p : Pool) (day : ℕ) → PoolOk t last b p

@@ -34,7 +34,7 @@ use Rattle.model.proofs.Quiet.{none-consumes, none-tell, pending-or}
 use Rattle.model.proofs.Cents.{matched-reads, cents-same}
 use Rattle.model.proofs.PoolMeets.{PoolOk, as-sent, count, meets-full, sentOf}
 use Rattle.model.proofs.Schedule.{Reached, reached}
-use Rattle.model.proofs.Sound.{is-sound}
+use Rattle.model.proofs.SoundKept.{sound-exactly}
 
 -- a message that one match holds, and no other
 
@@ -141,7 +141,7 @@ module _ (t : Table) (rests : List ℕ) (cs : List Call) (tok : TableOk t) where
 
   pub run-of : Run-of t rests cs
   run-of = record {
-    all-sound = λ before rest e. is-sound t _ (reached t rests cs before rest tok e .inv);
+    all-sound = λ before rest e h. sound-exactly t rests before ∙ h;
     is-run = ok .good;
     no-more = length-map (b .matches) (readMatch t b) ∙ sym (ok .number);
     all-kept = sym (count t b b p ok);

@@ -16,14 +16,13 @@ use Rattle.model.specs.Boards.{Board, Sent, senderAt, isIdle, emptyBoard
 use Rattle.model.specs.Effects.{Refused, numberOf}
 use Rattle.model.specs.Shares.{tally, hasRoom}
 use Rattle.model.specs.Adds.{addRefusal, added, centsOk, dayOpen}
-use Rattle.model.specs.Sound.{sound}
 use Rattle.model.specs.Pools.{Call, adds, steps, closes, answerTo, addAnswer, afterAll, history}
 use Rattle.model.specs.Demands.{Own-share, Shared-out, Tallied, addsOne, acceptedAdds, Fair-shares}
 use Rattle.model.proofs.Tests.{same?}
 use Rattle.model.proofs.Shares.{Shares, no-tally, is-room, share-most, shares-fit, room-left}
 use Rattle.model.proofs.Adds.{add-accepted}
-use Rattle.model.proofs.SoundFacts.{sound-facts}
-use Rattle.model.proofs.SoundKept.{call-sound, empty-sound}
+use Rattle.model.proofs.SoundFacts.{SoundBoard, sound-facts}
+use Rattle.model.proofs.SoundKept.{call-kept, empty-facts, after-facts}
 use Rattle.model.proofs.StepFrame.{frame}
 
 -- the number of an add's refusal is none but those before it, where none of its grounds is that number
@@ -64,21 +63,15 @@ module _ (t : Table) (b : Board) (i : ℕ) (x : Sent) where
 own-share : (t : Table) (b : Board) → Own-share t b
 own-share t b = record { never-12 = no-12 t b; first-16 = no-26 t b }
 
--- a sound board's tallies
-tallies-of : (t : Table) (b : Board) → sound t b ≡ true → Shares (b .tallies) (length (b .messages))
-tallies-of t b s = sound-facts t b s .shares
-
-shared-out : (t : Table) (b : Board) → sound t b ≡ true → Shared-out t b
-shared-out t b s =
-    let h = tallies-of t b s in
-    record {
-      sender-most = share-most h;
-      all-most = omega (arith, shares-fit h, h .total);
-      fits = λ i x e. let a = add-accepted t b i x e in room-left h i (a .0) (a .4);
-    }
+shared-out : (t : Table) (b : Board) → Shares (b .tallies) (length (b .messages)) → Shared-out t b
+shared-out t b h = record {
+  sender-most = share-most h;
+  all-most = omega (arith, shares-fit h, h .total);
+  fits = λ i x e. let a = add-accepted t b i x e in room-left h i (a .0) (a .4);
+}
 
 -- one call
-module _ (t : Table) (b : Board) (s : sound t b ≡ true) (i : ℕ) where
+module _ (t : Table) (b : Board) (s : SoundBoard t b) (i : ℕ) where
   abbrev Risen : Call → Type 0
   Risen c = tally (answerTo t b c .board .tallies) i
       ≡ tally (b .tallies) i + flag (addsOne i c (answerTo t b c .said))
@@ -88,7 +81,7 @@ module _ (t : Table) (b : Board) (s : sound t b ≡ true) (i : ℕ) where
       ≡ tally (b .tallies) i + flag (addsOne i (adds i x) (addAnswer t b i x f .said))
   unfolding added
   own-risen x zero e =
-      let l : i < length (b .tallies) = omega (arith, add-accepted t b i x e .0, tallies-of t b s .all) in
+      let l : i < length (b .tallies) = omega (arith, add-accepted t b i x e .0, s .shares .all) in
       rw (eq-eqb i i refl) (getD-set-same (b .tallies) i _ 0 l ∙ (omega arith))
   own-risen x (suc f) e = rw (eq-eqb i i refl) (omega arith)
 
@@ -101,37 +94,31 @@ module _ (t : Table) (b : Board) (s : sound t b ≡ true) (i : ℕ) where
   call-risen (steps j) = ap (λ (ks : List ℕ). tally ks i) (frame .step t b j .tallies) ∙ (omega arith)
   call-risen (closes day) = ap (λ (ks : List ℕ). tally ks i) (frame .close t b day .tallies) ∙ (omega arith)
 
-pub tallied : (t : Table) (cs : List Call) (b : Board) → sound t b ≡ true → Tallied t b cs
+tallied : (t : Table) (cs : List Call) (b : Board) → SoundBoard t b → Tallied t b cs
 tallied t [] b s i = omega arith
 tallied t (c ∷ cs) b s i =
-    omega (arith, tallied t cs (answerTo t b c .board) (call-sound t b c s) i, call-risen t b s i c)
+    omega (arith, tallied t cs (answerTo t b c .board) (call-kept t b c s) i, call-risen t b s i c)
 
 -- from the empty board on
-sound-after : (t : Table) (cs : List Call) (b : Board) → sound t b ≡ true → sound t (afterAll t b cs) ≡ true
-sound-after t [] b s = s
-sound-after t (c ∷ cs) b s = sound-after t cs (answerTo t b c .board) (call-sound t b c s)
-
 module _ (t : Table) (rests : List ℕ) (cs : List Call) (i : ℕ) where
   abbrev b′ : Board
   b′ = afterAll t (emptyBoard rests) cs
 
   is-accepted : tally (b′ .tallies) i ≡ acceptedAdds i (history t (emptyBoard rests) cs)
-  is-accepted = omega (arith, tallied t cs (emptyBoard rests) (empty-sound t rests) i, no-tally i)
+  is-accepted = omega (arith, tallied t cs (emptyBoard rests) (empty-facts t rests) i, no-tally i)
 
   never-26 : (x : Sent) → acceptedAdds i (history t (emptyBoard rests) cs) < 16
       → answerTo t b′ (adds i x) .said ≢ Refused 26
   never-26 x l = own-share t b′ .first-16 i x (omega (arith, is-accepted))
 
   at-most-528 : acceptedAdds i (history t (emptyBoard rests) cs) ≤ 528
-  at-most-528 =
-      let s = sound-after t cs (emptyBoard rests) (empty-sound t rests) in
-      omega (arith, is-accepted, shared-out t b′ s .sender-most i)
+  at-most-528 = omega (arith, is-accepted, share-most (after-facts t rests cs .shares) i)
 
 pub fair-shares : Fair-shares
 fair-shares = record {
   own-share = own-share;
-  shared-out = shared-out;
-  tallied = λ t b cs s. tallied t cs b s;
+  shared-out = λ t b e. shared-out t b (sound-facts t b e .shares);
+  tallied = λ t b cs e. tallied t cs b (sound-facts t b e);
   never-26 = never-26;
   at-most-528 = at-most-528;
 }

@@ -10,6 +10,7 @@ use Rattle.model.specs.Boards.{Board, Sender, senderAt, Match}
 use Rattle.model.specs.Effects.{Change, Effect, records, valueOf, apply}
 use Rattle.model.specs.Holdings.{Holds}
 use Rattle.model.proofs.Tests.{never}
+use Rattle.model.proofs.Shares.{Shares}
 use Rattle.model.proofs.Words.{isRecord}
 use Rattle.model.proofs.Frame.{senders-count, messages-count, shares-still}
 use Rattle.model.proofs.Grows.{Lawful}
@@ -17,7 +18,6 @@ use Rattle.model.proofs.Passage.{Passage, step-passage}
 use Rattle.model.proofs.Local.{SenderOk, locals-after, Full}
 use Rattle.model.proofs.Holding.{Holding, HoldingKept, holding-after}
 use Rattle.model.proofs.Notes.{NotesOk, NotesKept, notes-after}
-use Rattle.model.proofs.Ranges.{Ranges, RangesKept, ranges-after}
 use Rattle.model.proofs.Matches.{MatchesOk, MatchesKept, matches-after}
 use Rattle.model.proofs.Owners.{Owners, OwnersKept, owners-after}
 use Rattle.model.proofs.Obligation.{Obligation, Case, ObligationKept, Meets, Obliged, obligation-after}
@@ -32,7 +32,7 @@ pub record Inv (t : Table) (b : Board) : Type 0 where
   pub owners : Owners t b
   pub obligation : Obligation t b
   pub answering : Answering t b
-  pub ranges : Ranges t b
+  pub shares : Shares (b .tallies) (length (b .messages))
 
 pub record CallOwes (t : Table) (b b′ : Board) (i : ℕ) (c : Change) (d : Sender) : Type 0 where
   pub passage : Passage b b′ i c d
@@ -46,7 +46,7 @@ pub record CallOwes (t : Table) (b b′ : Board) (i : ℕ) (c : Change) (d : Sen
   pub new-obliged : (q : ℕ) (ns : List ℕ) (j : ℕ) → Meets t b′ q ns → j < length ns → length (b .messages) ≤ getD ns j 0
       → Obliged t b′ q ns
   pub answering : AnsweringKept t b b′ i c d
-  pub ranges : RangesKept t b b′ c
+  pub shares : Shares (b′ .tallies) (length (b′ .messages))
 
 pub call-keeps : {t : Table} {b b′ : Board} {i : ℕ} {c : Change} {d : Sender} → Inv t b → CallOwes t b b′ i c d
     → Inv t b′
@@ -60,7 +60,7 @@ call-keeps {t} {b} {b′} {i} {c} {d} v f = record {
   obligation = obligation-after p (v .obligation) (v .locals i) notes′ (f .obligation) (f .new-obliged);
   answering = answering-after p (v .locals) (f .owners notes′ .owning) (v .answering) (f .answering)
       (v .owners) (v .notes) (v .matches) (f .matches);
-  ranges = ranges-after p (v .ranges) (f .notes) (f .ranges);
+  shares = f .shares;
 }
   where
     p : Passage b b′ i c d
@@ -73,13 +73,11 @@ call-keeps {t} {b} {b′} {i} {c} {d} v f = record {
 pub record Recorded (t : Table) (b : Board) (s : Effect) : Type 0 where
   pub number : (n : ℕ) (m : Match) → s .change ≡ records n m → valueOf (s .said) ≡ length (b .matches)
   pub subject : (n : ℕ) (m : Match) → s .change ≡ records n m → (h : ℕ) × Full t b h (m .chord) (m .messages)
-  pub room : (n : ℕ) (m : Match) → s .change ≡ records n m → length (b .matches) < 1024
 
 pub no-record : (t : Table) (b : Board) (s : Effect) → isRecord (s .change) ≡ false → Recorded t b s
 no-record t b s e = record {
   number = λ n m f. never (sym e ∙ ap isRecord f);
   subject = λ n m f. never (sym e ∙ ap isRecord f);
-  room = λ n m f. never (sym e ∙ ap isRecord f);
 }
 
 -- what a step of sender i owes
@@ -109,9 +107,5 @@ step-call t b i s l v f = record {
   obligation = f .obligation;
   new-obliged = λ q ns j m h z. absurd (omega (arith, m .inside j h, messages-count b i s));
   answering = f .answering;
-  ranges = record {
-    shares = shares-still b i s (v .ranges .shares);
-    new-sent = λ n z h. absurd (omega (arith, messages-count b i s));
-    new-chord = λ x m e. (f .recorded .subject x m e .1 .selection .chord-in, f .recorded .room x m e);
-  };
+  shares = shares-still b i s (v .shares);
 }

@@ -31,7 +31,6 @@ pub mod Choice
 pub mod Holding
 pub mod Places
 pub mod Notes
-pub mod Ranges
 pub mod Matches
 pub mod Owners
 pub mod Obligation
@@ -58,17 +57,17 @@ pub mod PoolMeets
 pub mod Closes
 pub mod PoolRun
 pub mod Schedule
-pub mod SoundFacts
-pub mod Sound
-pub mod Demand
 -- Any sound board stays sound
+pub mod StepFrame
+pub mod SoundFacts
 pub mod SoundFrame
 pub mod SoundJobs
 pub mod SoundKept
+pub mod Demand
 -- Beside the demand
-pub mod StepFrame
 pub mod StaysClosed
 pub mod FairShares
+pub mod OwnRests
 pub mod QuietExactly
 pub mod NoChords
 pub mod Samples

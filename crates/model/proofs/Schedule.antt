@@ -71,13 +71,7 @@ empty-inv t rests tok = record {
   };
   obligation = λ q ns m u. none (m .inside 0 (omega (arith, m .all, tok .chord-some q (m .chord-in))));
   answering = λ i n k o. absurd (owns-none i (omega (arith, o)));
-  ranges = record {
-    shares = none-added;
-    matches-few = omega arith;
-    sent-in = λ n l. none l;
-    match-in = λ n. omega arith;
-    chord-in = λ k l. none l;
-  };
+  shares = none-added;
 }
   where
     none : {X : Type 0} {n : ℕ} → n < 0 → X
@@ -109,7 +103,7 @@ call-inv t b (adds i x) v = go (addRefusal t b i x) refl
     go : (f : ℕ) → addRefusal t b i x ≡ f → Inv t (addAnswer t b i x f .board)
     go zero e =
         let a = A.add-accepted t b i x e in
-        A.added-keeps t b i x v (omega (arith, a .0, v .senders)) (a .1) (a .2) (a .3) (a .0) (a .4)
+        A.added-keeps t b i x v (omega (arith, a .0, v .senders)) (a .1) (a .0) (a .4)
     go (suc f) e = v
 call-inv t b (steps i) v = go (stepBy t b i) (step-owes t b i v)
   where

@@ -1,4 +1,5 @@
--- The facts that the test of a sound board stands for, by index, and the way from the test to them and back.
+-- The facts that the test of a sound board stands for, by index, and the way from the test to them and back. That its
+-- backoff table passes is told apart: without it the facts hold along every schedule.
 -- A sender past the last one reads as idle, so the facts hold of every number.
 use mathlib.Core.Path.{_≡_, ap, sym, refl, subst}
 use mathlib.Core.Logic.{_⊎_, _≢_}
@@ -15,12 +16,12 @@ use Rattle.model.specs.Tables.{Table, chordAt, size}
 use Rattle.model.specs.Boards.{Message, Board, wake, woken, consume, consumed, Match, channelOf, Job, Phase}
 use Rattle.model.specs.Boards.{look, claim, revert, tell, free, signal, pass-end, backoff, State, idle, working}
 use Rattle.model.specs.Boards.{blocked, Sender, isIdle, idleSender, messageAt, matchAt, senderAt, Status}
-use Rattle.model.specs.Boards.{pending, claimed, noMessage, noMatch}
+use Rattle.model.specs.Boards.{pending, claimed, noMessage, noMatch, backoffsPass}
 use Rattle.model.specs.Steps.{toTell}
 use Rattle.model.specs.Adds.{centsOk}
 use Rattle.model.specs.Sound.{toWake, allBelow, owns, noneShared, messageOk, noteOk, matchOk, placeOk, stateOk}
 use Rattle.model.specs.Sound.{senderOk, sound}
-use Rattle.model.proofs.Tests.{and, both, never, eqb-no, no-true, one-of, of-one}
+use Rattle.model.proofs.Tests.{and, both, never, eqb-no, no-true, one-of, of-one, same-test}
 use Rattle.model.proofs.Lists.{every-nth, nth-every}
 use Rattle.model.proofs.Shares.{Shares, shares-facts, facts-shares}
 
@@ -207,7 +208,7 @@ module _ (t : Table) (b : Board) where
   sender d =
       let s = state d (d .state) in record { to = λ e. search (reads, s .to); from = λ f. search (shows, s .from) }
 
-  board : Reads (sound t b) (SoundBoard t b)
+  board : Reads (sound t b) (SoundBoard t b × (backoffsPass (b .backoffs) ≡ true))
   unfolding sound
   board =
       let ms = all (messageOk t b) _ noMessage message (b .messages) in
@@ -215,12 +216,15 @@ module _ (t : Table) (b : Board) where
       let ds = all-and (senderOk t b) _ idleSender sender (search arith) (b .senders) in
       let os = none-shared (b .senders) in
       record {
-        to = λ e. search (reads, ms .to, ks .to, ds .to, os .to, shares-facts) depth 8;
-        from = λ f. search (shows, ms .from, ks .from, ds .from, os .from, facts-shares) depth 8;
+        to = λ e. search (reads, ms .to, ks .to, ds .to, os .to, shares-facts) depth 9;
+        from = λ f. search (shows, ms .from, ks .from, ds .from, os .from, facts-shares) depth 9;
       }
 
 pub sound-facts : (t : Table) (b : Board) → sound t b ≡ true → SoundBoard t b
-sound-facts t b e = board t b .to e
+sound-facts t b e = board t b .to e .0
 
-pub facts-sound : {t : Table} {b : Board} → SoundBoard t b → sound t b ≡ true
-facts-sound {t} {b} f = board t b .from f
+pub sound-rests : (t : Table) (b : Board) → sound t b ≡ true → backoffsPass (b .backoffs) ≡ true
+sound-rests t b e = board t b .to e .1
+
+pub facts-sound : {t : Table} {b : Board} → SoundBoard t b → sound t b ≡ backoffsPass (b .backoffs)
+facts-sound {t} {b} f = same-test (sound-rests t b) (λ e. board t b .from (f, e))

@@ -1,9 +1,10 @@
--- The empty board is sound, and a sound board stays sound whatever is called, also one that no schedule reaches; a
--- step's change is in range. An add's own message is new, so no other sender owns it.
+-- A sound board stays sound whatever is called, also one that no schedule reaches; a step's change is in range. An
+-- add's own message is new, so no other sender owns it. From the empty board on, every board is sound exactly if the
+-- backoff table passes that it was opened with.
 use mathlib.Core.Path.{_≡_, refl, subst, ap, subst⁻¹, _∙_, sym}
 use mathlib.Core.Logic.{inl, _⊎_, _≢_, inr}
 use mathlib.Core.Bool.{false, Bool, true}
-use mathlib.Core.List.{List}
+use mathlib.Core.List.{List, [], _∷_}
 use Prim.Native.Nat.{ℕ, _<_, _-_, suc, _≤_, zero}
 use lib.Dec.{leb}
 use lib.ListN.{length, length-set}
@@ -11,29 +12,28 @@ use native.Mathlib.Omega.{arith}
 use Rattle.model.specs.Tables.{Table}
 use Rattle.model.specs.Boards.{Board, isIdle, senderAt, Sender, Status, pending, blocked, claimed, woken}
 use Rattle.model.specs.Boards.{consumed, idle, State, messageAt, working, Sent, Message, noMessage, emptyBoard}
+use Rattle.model.specs.Boards.{backoffsPass}
 use Rattle.model.specs.Effects.{Outcome, refused, does, Effect}
 use Rattle.model.specs.Steps.{resumed, resumeBy, blockedStep, resume-step, stateStep, senderStep, stepBy}
-use Rattle.model.specs.Shares.{hasRoom, sharesOk}
+use Rattle.model.specs.Shares.{hasRoom}
 use Rattle.model.specs.Adds.{centsOk, added, newMessage, newSender, addRefusal}
 use Rattle.model.specs.Closes.{closeRefusal, closedTo}
-use Rattle.model.specs.Sound.{sound, senderOk}
-use Rattle.model.specs.Pools.{stepAnswer, addAnswer, closeAnswer, adds, steps, closes}
-use Rattle.model.specs.Demands.{Sound-kept}
-use Rattle.model.proofs.Tests.{tests, same?}
+use Rattle.model.specs.Sound.{sound}
+use Rattle.model.specs.Pools.{stepAnswer, addAnswer, closeAnswer, adds, steps, closes, Call, answerTo, afterAll}
+use Rattle.model.specs.Demands.{Sound-kept, boardAfter}
+use Rattle.model.proofs.Tests.{tests, same?, never}
 use Rattle.model.proofs.Lists.{snoc-all}
-use Rattle.model.proofs.Shares.{Shares, shares-fit}
+use Rattle.model.proofs.Shares.{Shares, shares-fit, none-added}
 use Rattle.model.proofs.Grows.{apart}
 use Rattle.model.proofs.Adds.{messages-now, matches-now, old-message, sender-now, sender-old, add-accepted}
 use Rattle.model.proofs.Adds.{shares-now}
-use Rattle.model.proofs.SoundFacts.{SoundBoard, SenderFacts, StateFacts, facts-sound, sound-facts}
+use Rattle.model.proofs.Schedule.{all-idle}
+use Rattle.model.proofs.StepFrame.{call-rests, all-rests}
+use Rattle.model.proofs.SoundFacts.{SoundBoard, SenderFacts, StateFacts, facts-sound, sound-facts, sound-rests}
 use Rattle.model.proofs.SoundFacts.{MessageFacts, Apart}
 use Rattle.model.proofs.SoundFrame.{StepFacts, owes, step-kept, InRange, Wider, sender-wider}
 use Rattle.model.proofs.SoundFrame.{message-wider, match-wider}
 use Rattle.model.proofs.SoundJobs.{passes, in-state, goes-idle, job-facts}
-
-pub empty-sound : (t : Table) (rests : List ℕ) → sound t (emptyBoard rests) ≡ true
-unfolding sound senderOk sharesOk
-empty-sound t rests = refl
 
 abbrev pub OutcomeFacts : Table → Board → ℕ → Outcome → Type 0
 OutcomeFacts t b i (refused f) = Unit {0}
@@ -87,18 +87,13 @@ module _ (t : Table) (b : Board) (i : ℕ) (s : SoundBoard t b) where
   unfolding stepBy
   step-facts = by-number (leb 32 i) refl
 
-  outcome-sound : (o : Outcome) → OutcomeFacts t b i o → sound t (stepAnswer b i o .board) ≡ true
-  outcome-sound (refused n) q = facts-sound s
-  outcome-sound (does e) q = facts-sound (step-kept s (q .0) (q .1) (q .2))
+  outcome-kept : (o : Outcome) → OutcomeFacts t b i o → SoundBoard t (stepAnswer b i o .board)
+  outcome-kept (refused n) q = s
+  outcome-kept (does e) q = step-kept s (q .0) (q .1) (q .2)
 
 pub step-in-range : (t : Table) (b : Board) (i : ℕ) (e : Effect) → sound t b ≡ true → stepBy t b i ≡ does e
     → InRange t b (e .change)
 step-in-range t b i e s q = subst (OutcomeFacts t b i) q (step-facts t b i (sound-facts t b s)) .2 .in-range
-
-pub step-sound : (t : Table) (b : Board) (i : ℕ) → sound t b ≡ true
-    → sound t (stepAnswer b i (stepBy t b i) .board) ≡ true
-step-sound t b i s =
-    outcome-sound t b i (sound-facts t b s) (stepBy t b i) (step-facts t b i (sound-facts t b s))
 
 -- an accepted add
 module _ (t : Table) (b : Board) (i : ℕ) (x : Sent) (s : SoundBoard t b) (l : i < 32)
@@ -183,18 +178,14 @@ module _ (t : Table) (b : Board) (i : ℕ) (x : Sent) (s : SoundBoard t b) (l : 
     shares = shares-so;
   }
 
-pub add-sound : (t : Table) (b : Board) (i : ℕ) (x : Sent) → sound t b ≡ true
-    → sound t (addAnswer t b i x (addRefusal t b i x) .board) ≡ true
-add-sound t b i x s = go (addRefusal t b i x) refl
-  where
-    go : (n : ℕ) → addRefusal t b i x ≡ n → sound t (addAnswer t b i x n .board) ≡ true
-    go zero e =
-        let a = add-accepted t b i x e in
-        facts-sound (added-kept t b i x (sound-facts t b s) (a .0) (a .2) (a .3) (a .4))
-    go (suc n) e = s
+add-kept : (t : Table) (b : Board) (i : ℕ) (x : Sent) → SoundBoard t b → (f : ℕ) → addRefusal t b i x ≡ f
+    → SoundBoard t (addAnswer t b i x f .board)
+add-kept t b i x s zero e =
+    let a = add-accepted t b i x e in added-kept t b i x s (a .0) (a .2) (a .3) (a .4)
+add-kept t b i x s (suc f) e = s
 
-closed-sound : (t : Table) (b : Board) (day : ℕ) → sound t b ≡ true → sound t (closedTo b day) ≡ true
-closed-sound t b day e = facts-sound (record {
+close-kept : (t : Table) (b : Board) (day : ℕ) → SoundBoard t b → (f : ℕ) → SoundBoard t (closeAnswer b day f .board)
+close-kept t b day s zero = record {
   senders-all = s .senders-all;
   messages-few = s .messages-few;
   matches-few = s .matches-few;
@@ -203,19 +194,47 @@ closed-sound t b day e = facts-sound (record {
   sender-at = λ j. sender-wider t g (s .sender-at j);
   own-apart = s .own-apart;
   shares = s .shares;
-})
+}
   where
-    s : SoundBoard t b
-    s = sound-facts t b e
-
     g : Wider b (closedTo b day)
     g = record { messages-more = omega arith; matches-more = omega arith; kept = λ n m. refl }
+close-kept t b day s (suc f) = s
+
+pub call-kept : (t : Table) (b : Board) (c : Call) → SoundBoard t b → SoundBoard t (answerTo t b c .board)
+call-kept t b (adds i x) s = add-kept t b i x s (addRefusal t b i x) refl
+call-kept t b (steps i) s = outcome-kept t b i s (stepBy t b i) (step-facts t b i s)
+call-kept t b (closes day) s = close-kept t b day s (closeRefusal b day)
+
+pub all-kept : (t : Table) (cs : List Call) (b : Board) → SoundBoard t b → SoundBoard t (afterAll t b cs)
+all-kept t [] b s = s
+all-kept t (c ∷ cs) b s = all-kept t cs (answerTo t b c .board) (call-kept t b c s)
 
 pub call-sound : Sound-kept
-call-sound t b (adds i x) s = add-sound t b i x s
-call-sound t b (steps i) s = step-sound t b i s
-call-sound t b (closes day) s = go (closeRefusal b day)
-  where
-    go : (f : ℕ) → sound t (closeAnswer b day f .board) ≡ true
-    go zero = closed-sound t b day s
-    go (suc f) = s
+call-sound t b c e =
+    facts-sound (call-kept t b c (sound-facts t b e)) ∙ ap backoffsPass (call-rests t b c) ∙ sound-rests t b e
+
+-- from the empty board on
+pub empty-facts : (t : Table) (rests : List ℕ) → SoundBoard t (emptyBoard rests)
+empty-facts t rests = record {
+  senders-all = refl;
+  messages-few = omega arith;
+  matches-few = omega arith;
+  message-at = λ n l. absurd (omega arith);
+  match-at = λ k l. absurd (omega arith);
+  sender-at = λ i. subst⁻¹ (SenderFacts t (emptyBoard rests)) (all-idle rests i) (record {
+    own-in = omega arith;
+    waker-in = omega arith;
+    reply-in = omega arith;
+    matched-in = omega arith;
+    state-is = tt;
+  });
+  own-apart = λ i j ne p. never (sym (sym (ap (λ (d : Sender). isIdle (d .state)) (all-idle rests i)) ∙ p));
+  shares = none-added;
+}
+
+pub after-facts : (t : Table) (rests : List ℕ) (cs : List Call) → SoundBoard t (boardAfter t rests cs)
+after-facts t rests cs = all-kept t cs (emptyBoard rests) (empty-facts t rests)
+
+pub sound-exactly : (t : Table) (rests : List ℕ) (cs : List Call) → sound t (boardAfter t rests cs) ≡ backoffsPass rests
+sound-exactly t rests cs =
+    facts-sound (after-facts t rests cs) ∙ ap backoffsPass (all-rests t cs (emptyBoard rests))

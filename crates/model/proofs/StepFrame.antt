@@ -17,7 +17,7 @@ use Rattle.model.specs.Effects.{Effect, apply, refused, Outcome, does, S
 use Rattle.model.specs.Steps.{stepBy}
 use Rattle.model.specs.Adds.{added, addRefusal, newMessage}
 use Rattle.model.specs.Closes.{closeRefusal}
-use Rattle.model.specs.Pools.{answerTo, steps, stepAnswer, adds, addAnswer, closes, closeAnswer, Call}
+use Rattle.model.specs.Pools.{answerTo, steps, stepAnswer, adds, addAnswer, closes, closeAnswer, Call, afterAll}
 use Rattle.model.specs.Demands.{Same-but-signal, Step-frame, Add-frame, Close-frame, Frame}
 use Rattle.model.proofs.Tests.{never}
 use Rattle.model.proofs.Written.{t, ms}
@@ -179,3 +179,13 @@ refusal-keeps t b (closes day) f = go (closeRefusal b day)
 
 pub frame : Frame
 frame = record { step = step-frame; add = add-frame; close = close-frame; refusal = refusal-keeps }
+
+-- so no call alters the backoff table
+pub call-rests : (t : Table) (b : Board) (c : Call) → answerTo t b c .board .backoffs ≡ b .backoffs
+call-rests t b (adds i x) = frame .add t b i x .backoffs
+call-rests t b (steps i) = frame .step t b i .backoffs
+call-rests t b (closes day) = frame .close t b day .backoffs
+
+pub all-rests : (t : Table) (cs : List Call) (b : Board) → afterAll t b cs .backoffs ≡ b .backoffs
+all-rests t [] b = refl
+all-rests t (c ∷ cs) b = all-rests t cs (answerTo t b c .board) ∙ call-rests t b c

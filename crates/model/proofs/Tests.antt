@@ -65,6 +65,15 @@ and-spare-last true false e v h = refl
 and-spare-last false u e v h = refl
 
 -- a Boolean is true or false, with the equation
+-- two tests that stand for the same
+pub same-test : {t u : Bool} → (t ≡ true → u ≡ true) → (u ≡ true → t ≡ true) → t ≡ u
+same-test {t} {u} f g = go t u f g
+  where
+    go : (t u : Bool) → (t ≡ true → u ≡ true) → (u ≡ true → t ≡ true) → t ≡ u
+    go true u f g = sym (f refl)
+    go false true f g = g refl
+    go false false f g = refl
+
 pub tested : (t : Bool) → (t ≡ true) ⊎ (t ≡ false)
 tested true = inl refl
 tested false = inr refl

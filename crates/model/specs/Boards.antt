@@ -127,13 +127,13 @@ builtinBackoffs =
 unfoldable pub backoffAt : List ℕ → ℕ → ℕ
 backoffAt rests k = getD rests (k - 1) 0
 
--- rule 9.1: no entry less than the one before
+-- rule 9.10: no entry less than the one before
 abbrev pub neverFalls : List ℕ → Bool
 neverFalls [] = true
 neverFalls (x ∷ []) = true
 neverFalls (x ∷ y ∷ ys) = leb x y && neverFalls (y ∷ ys)
 
--- rule 9.1: sixteen entries, none over 64, and in order
+-- rule 9.10: sixteen entries, none over 64, and in order
 unfoldable pub backoffsPass : List ℕ → Bool
 backoffsPass rests = allOf (eqb (length rests) 16 ∷ every (λ k. leb k 64) rests ∷ neverFalls rests ∷ [])
 

@@ -1,5 +1,6 @@
 -- What the board owes its users, as types: the frame of a call (rule 6.8), sound boards kept, quiet (rule 5.6), closed
--- days (rule 9.8), fair shares (rule 9.9), and demand 3 (rules 7.2 to 7.9). That tables survive stands in Layout.
+-- days (rule 9.8), fair shares (rule 9.9), backoff tables (rule 9.10), and demand 3 (rules 7.2 to 7.9). That tables
+-- survive stands in Layout.
 use mathlib.Core.Path.{_≡_}
 use mathlib.Core.Logic.{_≢_}
 use mathlib.Core.Bool.{Bool, true, false, _&&_}
@@ -12,7 +13,7 @@ use Rattle.model.specs.Basics.{isIn, every, flag}
 use Rattle.model.specs.Tables.{Table, isSync, chordAt}
 use Rattle.model.specs.Layout.{tableRefusal, tableOf}
 use Rattle.model.specs.Boards.{Sender, Board, messageAt, Match, senderAt, Message, Sent, emptyBoard, pending}
-use Rattle.model.specs.Boards.{isPending}
+use Rattle.model.specs.Boards.{isPending, backoffsPass, builtinBackoffs}
 use Rattle.model.specs.Effects.{Said, Refused, refused, Answered, Closed, wordOf}
 use Rattle.model.specs.Steps.{stepBy}
 use Rattle.model.specs.Shares.{tally, addedTotal}
@@ -136,11 +137,30 @@ pub record Fair-shares : Type 0 where
   pub at-most-528 : (t : Table) (rests : List ℕ) (cs : List Call) (i : ℕ)
       → acceptedAdds i (history t (emptyBoard rests) cs) ≤ 528
 
--- Demand 3
-
 -- rule 7.1
 abbrev pub boardAfter : Table → List ℕ → List Call → Board
 boardAfter t rests cs = afterAll t (emptyBoard rests) cs
+
+-- Backoff tables
+
+-- rule 9.10: a backoff table that passes, entry by entry
+pub record Passing (rests : List ℕ) : Type 0 where
+  pub sixteen : length rests ≡ 16
+  pub at-most-64 : (k : ℕ) → k < 16 → getD rests k 0 ≤ 64
+  pub never-less : (k : ℕ) → suc k < 16 → getD rests k 0 ≤ getD rests (suc k) 0
+
+-- rule 9.10
+pub record Own-rests : Type 0 where
+  pub there : (rests : List ℕ) → backoffsPass rests ≡ true → Passing rests
+  pub back : (rests : List ℕ) → Passing rests → backoffsPass rests ≡ true
+  pub builtin : backoffsPass builtinBackoffs ≡ true
+  pub asked : (t : Table) (b : Board) → sound t b ≡ true → backoffsPass (b .backoffs) ≡ true
+  -- whatever is called, on every board
+  pub kept : (t : Table) (b : Board) (cs : List Call) → afterAll t b cs .backoffs ≡ b .backoffs
+  -- opened with any list at all, a board of a schedule is sound exactly if the list passes
+  pub exactly : (t : Table) (rests : List ℕ) (cs : List Call) → sound t (boardAfter t rests cs) ≡ backoffsPass rests
+
+-- Demand 3
 
 -- rule 7.3: the pool after the calls, by these match reads
 unfoldable pub poolAfter : Table → List ℕ → List MatchRead → List Call → Pool
@@ -162,8 +182,9 @@ pub record Holds-own (t : Table) (p : Pool) (ms : List MatchRead) (i k : ℕ) : 
 
 -- rules 7.2 to 7.8
 pub record Run-of (t : Table) (rests : List ℕ) (cs : List Call) : Type 0 where
-  -- rule 7.2
-  pub all-sound : (before rest : List Call) → cs ≡ before ++ rest → sound t (boardAfter t rests before) ≡ true
+  -- rules 7.2 and 9.10
+  pub all-sound : (before rest : List Call) → cs ≡ before ++ rest → backoffsPass rests ≡ true
+      → sound t (boardAfter t rests before) ≡ true
   -- rule 7.7
   pub is-run : poolOf t rests cs .good ≡ true
   pub no-more : length (finalReads t rests cs) ≡ poolOf t rests cs .matches

@@ -10,7 +10,7 @@ use lib.IntN.{pos, negℤ}
 use lib.ListN.{replicate, take}
 use Rattle.model.specs.Tables.{Table}
 use Rattle.model.specs.Layout.{tableRefusal, tableOf}
-use Rattle.model.specs.Boards.{emptyBoard, builtinBackoffs, Status, consumed}
+use Rattle.model.specs.Boards.{emptyBoard, builtinBackoffs, backoffsPass, Status, consumed}
 use Rattle.model.specs.Effects.{Said, Item, Missed, Ended, Refused, Looked, Claimed, Woke, Freed, Signalled}
 use Rattle.model.specs.Effects.{Resumed, Matched, Consumed, Lost, Reverted, Again, Told, Answered, Rested, Closed}
 use Rattle.model.specs.Pools.{Call, history, adds, steps, closes, MatchRead, quiet, matchReads}
@@ -176,6 +176,22 @@ pub record Retries-rest : Type 0 where
       ≡ saidRetrying (0 ∷ 1 ∷ 1 ∷ 2 ∷ 2 ∷ 4 ∷ 4 ∷ 8 ∷ 8 ∷ 16 ∷ 16 ∷ 16 ∷ 32 ∷ 32 ∷ 32 ∷ 32 ∷ 32 ∷ [])
   pub by-rising : saidWith rising (tableOf tableP) (retrying 170)
       ≡ saidRetrying (0 ∷ 1 ∷ 2 ∷ 3 ∷ 4 ∷ 5 ∷ 6 ∷ 7 ∷ 8 ∷ 9 ∷ 10 ∷ 11 ∷ 12 ∷ 13 ∷ 14 ∷ 15 ∷ 15 ∷ [])
+
+-- rule 9.10: tables that pass, the first entry above 0 and all entries 64 too, and tables that do not: 15, 17 and no
+-- entries, one over 64, and one less than the one before it, first, last and in the middle
+pub record Rests-pass : Type 0 where
+  pub rising : backoffsPass rising ≡ true
+  pub all-0 : backoffsPass (replicate 16 0) ≡ true
+  pub all-64 : backoffsPass (replicate 16 64) ≡ true
+  pub first-above-0 : backoffsPass (3 ∷ replicate 15 5) ≡ true
+  pub fifteen : backoffsPass (replicate 15 1) ≡ false
+  pub seventeen : backoffsPass (replicate 17 1) ≡ false
+  pub no-entries : backoffsPass [] ≡ false
+  pub last-65 : backoffsPass (replicate 15 1 ++ 65 ∷ []) ≡ false
+  pub all-65 : backoffsPass (replicate 16 65) ≡ false
+  pub second-falls : backoffsPass (2 ∷ replicate 15 1) ≡ false
+  pub ninth-falls : backoffsPass (replicate 8 2 ++ replicate 8 1) ≡ false
+  pub last-falls : backoffsPass (replicate 15 64 ++ 63 ∷ []) ≡ false
 
 -- The table of samples
 

@@ -8,7 +8,7 @@ use Rattle.model.specs.Basics.{allOf, every, isIn}
 use Rattle.model.specs.Tables.{Table, chordAt, wakes, size}
 use Rattle.model.specs.Boards.{Message, Status, pending, claimed, claim, woken, wake, consume, consumed, Board}
 use Rattle.model.specs.Boards.{Match, Job, channelOf, Phase, look, revert, tell, free, signal, pass-end}
-use Rattle.model.specs.Boards.{backoff, Sender, State, idle, working, blocked, isIdle}
+use Rattle.model.specs.Boards.{backoff, Sender, State, idle, working, blocked, isIdle, backoffsPass}
 use Rattle.model.specs.Steps.{toTell}
 use Rattle.model.specs.Shares.{sharesOk}
 use Rattle.model.specs.Adds.{centsOk}
@@ -109,7 +109,7 @@ abbrev pub noneShared : List Sender → Bool
 noneShared [] = true
 noneShared (d ∷ ds) = (isIdle (d .state) || every (λ e. not (owns (d .own) e)) ds) && noneShared ds
 
--- rules 3.1 and 9.9, and 3.2 to 3.6 of every message, match and sender
+-- rules 3.1, 9.9 and 9.10, and 3.2 to 3.6 of every message, match and sender
 unfoldable pub sound : Table → Board → Bool
 sound t b =
     allOf
@@ -120,4 +120,5 @@ sound t b =
     every (matchOk t b) (b .matches) ∷
     every (senderOk t b) (b .senders) ∷
     noneShared (b .senders) ∷
-    sharesOk (b .tallies) (length (b .messages)) ∷ [])
+    sharesOk (b .tallies) (length (b .messages)) ∷
+    backoffsPass (b .backoffs) ∷ [])

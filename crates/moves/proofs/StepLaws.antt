@@ -8,7 +8,7 @@ use lib.Dec.{leb}
 use lib.ListN.{length, getD}
 use native.Mathlib.Omega.{arith}
 use Rattle.model.specs.Tables.{Table, Chord, size, noChord}
-use Rattle.model.specs.Boards.{Board, Sender, senderAt, builtinBackoffs}
+use Rattle.model.specs.Boards.{Board, Sender, senderAt}
 use Rattle.model.specs.Effects.{Effect, does, refused, apply, numberOf}
 use Rattle.model.specs.Effects.{Refused}
 use Rattle.model.specs.Layout.{tableRefusal, tableOf}
@@ -110,7 +110,7 @@ module _ (s : List ℕ) (b : HeldBoard) (c : Columns) (m : MatchColumns) (e : bo
     units = c .units;
     matches = matchesFrom t m 0 (b .matches);
     senders = map (senderIn t) (b .senders);
-    backoffs = builtinBackoffs;
+    backoffs = b .backoffs;
     closed = closedIn b (c .keys);
     tallies = b .tallies;
   }

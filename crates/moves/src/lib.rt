@@ -129,6 +129,7 @@ fn step_move(
         keys,
         boards::statuses(bytes),
         links,
+        boards::backoffs(board),
     );
     let said = e.said;
     let sender = e.sender;

@@ -7,6 +7,7 @@ use borrow.Author.Tests.{eq-eqb, eqb-true}
 use lib.Dec.{eqb}
 use lib.ListN.{length, take}
 use Rattle.model.specs.Basics.{firstOf}
+use Rattle.model.specs.Boards.{builtinBackoffs}
 use Rattle.model.specs.Layout.{tableOf, tableRefusal}
 use Rattle.model.specs.Sessions.{printedBy, printout}
 use Rattle.model.proofs.Tests.{both}
@@ -18,6 +19,7 @@ use Rattle.reports.proofs.PartLaws.{written}
 use Rattle.reports.proofs.ListLines.{counted}
 use Rattle.reports.proofs.Whole.{report-whole}
 use Rattle.calls.specs.Opens.{openNumber}
+use Rattle.schedules.proofs.PublicResting.{resting-calls}
 use Rattle.printouts.specs.declared.Stage as DS
 use Rattle.printouts.specs.Stages.{Reporting, So-far-by, So-far, doneOn, taken}
 use Rattle.printouts.specs.Prints.{Turns, Serves-all, Prints-by, inputOf, Program-prints}
@@ -68,9 +70,9 @@ module _ (s : List ℕ) where
       whole (inputOf false reads) text (p .last) (p .reached)
       (subst (λ (e : Bool). So-far s (inputOf e reads) text (p .reached) (p .last)) b q) (p .done)
 
-open-number : (s before : List ℕ) → length before ≡ boardLen → openNumber s before ≡ tableRefusal s
-unfolding openNumber
-open-number s before e = rw (eq-eqb (length before) boardLen e) (go (tableRefusal s))
+open-number : (s before : List ℕ) → length before ≡ boardLen → openNumber s builtinBackoffs before ≡ tableRefusal s
+open-number s before e =
+    resting-calls .none-given s before ∙ rw (eq-eqb (length before) boardLen e) (go (tableRefusal s))
   where
     go : (n : ℕ) → firstOf n 0 ≡ n
     go zero = refl

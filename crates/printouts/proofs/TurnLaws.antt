@@ -4,6 +4,7 @@ use mathlib.Core.Bool.{true}
 use mathlib.Core.List.{List, [], _∷_, _++_, append-nil, append-assoc}
 use Prim.Native.Nat.{ℕ}
 use lib.ListN.{take}
+use Rattle.model.specs.Boards.{builtinBackoffs}
 use Rattle.boards.specs.Layout.{Lists}
 use Rattle.schedules.specs.Schedules.{Opened}
 use Rattle.printouts.specs.declared.Stage as DS
@@ -46,7 +47,7 @@ module _ (s : List ℕ) where
   turned-more l g m h l′ g′ (reads, text, t) (input, at, out, a) =
       (reads ++ (input ∷ []), text ++ take at out, more l g reads text m h input l′ g′ at out t a)
 
-  pub turned-all : (l : Lists) (g : DS.Stage) (l′ : Lists) (g′ : DS.Stage) → Opened s l → Begins g
+  pub turned-all : (l : Lists) (g : DS.Stage) (l′ : Lists) (g′ : DS.Stage) → Opened s builtinBackoffs l → Begins g
       → Turned s l g l′ g′ → doneOn (l′ .board) g′ ≡ true
       → (reads : List (List ℕ)) × (text : List ℕ) × Serves-all s reads text
   turned-all l g l′ g′ o b (reads, text, t) d = (

@@ -5,6 +5,7 @@ use mathlib.Core.List.{List, [], _∷_, _++_}
 use Prim.Native.Nat.{ℕ, zero, suc, _≤_}
 use lib.Dec.{eqb}
 use lib.ListN.{length, take}
+use Rattle.model.specs.Boards.{builtinBackoffs}
 use Rattle.model.specs.Effects.{Refused}
 use Rattle.model.specs.Printing.{answerLine}
 use Rattle.model.specs.Sessions.{printout}
@@ -33,7 +34,7 @@ Turned s l g l′ g′ = (reads : List (List ℕ)) × (text : List ℕ) × Turns
 -- on a board that was opened, from the beginning until all is printed
 pub record Serves-all (s : List ℕ) (reads : List (List ℕ)) (text : List ℕ) : Type 0 where
   pub first : Lists
-  pub opened : Opened s first
+  pub opened : Opened s builtinBackoffs first
   pub begun : DS.Stage
   pub begins : Begins begun
   pub last : Lists
@@ -58,7 +59,7 @@ Prints-by (suc f) s reads text = Says-refused (suc f) text
 abbrev pub Prints : List ℕ → List (List ℕ) → List ℕ → Type 0
 Prints file reads text =
     (before : List ℕ) × (length before ≡ boardLen)
-    × Prints-by (openNumber (take 413 file) before) (take 413 file) reads text
+    × Prints-by (openNumber (take 413 file) builtinBackoffs before) (take 413 file) reads text
 
 -- the input's bytes, read by read; one that puts none is at its end
 abbrev pub inputOf : Bool → List (List ℕ) → List ℕ

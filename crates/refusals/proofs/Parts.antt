@@ -7,6 +7,7 @@ use lib.Dec.{leb}
 use lib.ListN.{length, length-map}
 use Rattle.model.specs.Basics.{every}
 use Rattle.model.specs.Tables.{Table}
+use Rattle.model.specs.Boards.{backoffsPass}
 use Rattle.model.specs.Shares.{sharesOk}
 use Rattle.model.specs.Sound.{sound, messageOk, matchOk, senderOk, noneShared}
 use Rattle.model.proofs.Tests.{both}
@@ -29,7 +30,7 @@ sorted false true true m z = refl
 sorted false true false m z = refl
 sorted false false y m z = refl
 
--- and the last test beside the counts
+-- and the last tests beside the counts
 last-first : (s x y m k e n h : Bool)
     → (s && (x && (y && (m && (k && (e && (n && h))))))) ≡ (((x && y) && h) && ((s && m) && (k && (e && n))))
 last-first s x y m k e n true = rw (and-true n, and-true (x && y)) (sorted s x y m (k && (e && n)))
@@ -59,7 +60,8 @@ module _ (t : Table) (b : HeldBoard) (c : Columns) (m : MatchColumns) where
   -- a sound board, in the order of the code
   pub sound-is : length (b .senders) ≡ 32
       → (statusesOk (b .messages) (c .statuses) && sound t (boardIn t b c m))
-      ≡ (((leb (b .messages) 1024 && leb (b .matches) 1024) && sharesOk (b .tallies) (b .messages))
+      ≡ (((leb (b .messages) 1024 && leb (b .matches) 1024)
+      && (sharesOk (b .tallies) (b .messages) && backoffsPass (b .backoffs)))
       && (messagesOk t (boardIn t b c m) c (b .messages) && (matchesTest && sendersTest)))
   unfolding sound statusesOk
   sound-is e =
@@ -73,7 +75,7 @@ module _ (t : Table) (b : HeldBoard) (c : Columns) (m : MatchColumns) where
       (every (messageOk t (boardIn t b c m)) (messagesFrom c 0 (b .messages))) matchesTest
       (every (senderOk t (boardIn t b c m)) (map (senderIn t) (b .senders)))
       (noneShared (map (senderIn t) (b .senders)))
-      (sharesOk (b .tallies) (b .messages)))
+      (sharesOk (b .tallies) (b .messages) && backoffsPass (b .backoffs)))
 
   -- what the test of senders sees of the board
   pub seen-on : Seen (boardIn t b c m) (b .messages) (b .matches) (c .channels)

@@ -7,11 +7,12 @@ use native.Mathlib.Omega.{arith}
 use borrow.Author.Tests.{eqb-true}
 use lib.Dec.{eqb}
 use lib.ListN.{length}
+use Rattle.model.specs.Boards.{backoffsPass}
 use Rattle.model.specs.Layout.{tableRefusal, tableOf}
 use Rattle.model.specs.Sound.{sound}
 use Rattle.model.proofs.Tests.{both, unless-none, first-none}
 use Rattle.model.proofs.Shares.{Shares}
-use Rattle.model.proofs.SoundFacts.{SoundBoard, sound-facts}
+use Rattle.model.proofs.SoundFacts.{SoundBoard, sound-facts, sound-rests}
 use Rattle.columns.specs.Columns.{Columns}
 use Rattle.columns.specs.MatchColumns.{MatchColumns, matchIn}
 use Rattle.columns.proofs.ListFrom.{length-from}
@@ -75,6 +76,9 @@ module _ (s : List ℕ) (b : HeldBoard) (c : Columns) (m : MatchColumns) (e : bo
 
   pub board-shares : Shares (b .tallies) (b .messages)
   board-shares = rw (length-messages c 0 (b .messages)) at (sound-board .shares)
+
+  pub board-rests : backoffsPass (b .backoffs) ≡ true
+  board-rests = sound-rests (tableOf s) (boardIn (tableOf s) b c m) board-sound
 
   pub matches-few : b .matches ≤ 1024
   matches-few = omega (arith, length-from (matchIn (tableOf s) m) 0 (b .matches), sound-board .matches-few)

@@ -9,20 +9,19 @@ use lib.ListN.{getD, drop, length}
 use Rattle.model.specs.Basics.{every}
 use Rattle.model.specs.Tables.{Table}
 use Rattle.model.specs.Boards.{Board}
-use Rattle.model.specs.Shares.{sharesOk}
 use Rattle.model.specs.Sound.{sound, senderOk, noneShared}
 use Rattle.columns.specs.Columns.{Columns}
 use Rattle.columns.specs.MatchColumns.{MatchColumns}
 use Rattle.state.specs.Views.{senderIn}
 use Rattle.boards.specs.Boards.{boardIn}
-use Rattle.boards.specs.Layout.{boardLen, closedAt, talliesAt}
+use Rattle.boards.specs.Layout.{boardLen, closedAt}
 use Rattle.soundness.specs.Tests.{messagesOk}
 use Rattle.senders.specs.Seen.{Seen, Known}
 use Rattle.refusals.specs.Judged.{statusesOk}
 use Rattle.refusals.proofs.Parts.{matchesTest, sound-is, seen-on, known-on}
 use Rattle.rows.specs.Numbers.{encodesSenders, encodes}
 use Rattle.rows.specs.Decoded.{boardFrom}
-use Rattle.refusals.specs.Rows.{rowsOk, sendersIn}
+use Rattle.refusals.specs.Rows.{rowsOk, sendersIn, countsOk}
 use Rattle.refusals.proofs.RowWalks.{senders-count, rows-are}
 
 -- numbers of another length are no board's
@@ -56,8 +55,7 @@ module _ (t : Table) (s : List ℕ) (c : Columns) (m : MatchColumns) where
   -- numbers of a sound board, in the order of the code
   pub numbers-sound : length s ≡ boardLen → getD s closedAt 0 ≤ 1
       → (encodes s && (statusesOk (boardFrom s .messages) (c .statuses) && sound t boardOn))
-      ≡ (((leb (getD s 0 0) 1024 && leb (getD s 1 0) 1024) && sharesOk (drop talliesAt s) (getD s 0 0))
-      && (messagesOk t boardOn c (getD s 0 0) && (matchesTest t (boardFrom s) c m && sendersTest)))
+      ≡ (countsOk s && (messagesOk t boardOn c (getD s 0 0) && (matchesTest t (boardFrom s) c m && sendersTest)))
   unfolding encodes boardFrom
   numbers-sound e f =
       rw (
@@ -67,10 +65,9 @@ module _ (t : Table) (s : List ℕ) (c : Columns) (m : MatchColumns) where
         sound-is t (boardFrom s) c m (senders-count 32 (drop 2 s)),
         rows-are t boardOn 32 (drop 2 s),
       )
-      (moved (encodesSenders 32 (drop 2 s))
-      ((leb (getD s 0 0) 1024 && leb (getD s 1 0) 1024) && sharesOk (drop talliesAt s) (getD s 0 0))
-      (messagesOk t boardOn c (getD s 0 0)) (matchesTest t (boardFrom s) c m)
-      (every (senderOk t boardOn) (map (senderIn t) (sendersIn s))) (noneShared (map (senderIn t) (sendersIn s))))
+      (moved (encodesSenders 32 (drop 2 s)) (countsOk s) (messagesOk t boardOn c (getD s 0 0))
+      (matchesTest t (boardFrom s) c m) (every (senderOk t boardOn) (map (senderIn t) (sendersIn s)))
+      (noneShared (map (senderIn t) (sendersIn s))))
 
   -- what the test of senders sees of the board
   pub seen-numbers : Seen boardOn (getD s 0 0) (getD s 1 0) (c .channels)

@@ -16,7 +16,8 @@ use Rattle.refusals.specs.Judged.{statusesOk, boardRefusal}
 
 abbrev pub nothing : Held
 nothing =
-    heldBy (record { messages = 0; matches = 0; senders = []; closed = false; tallies = [] }) [] [] [] [] [] [] [] [] []
+    heldBy (record { messages = 0; matches = 0; senders = []; closed = false; tallies = []; backoffs = [] })
+    [] [] [] [] [] [] [] [] []
 
 -- what lists of their lengths hold
 abbrev pub heldOf : Lists → Held

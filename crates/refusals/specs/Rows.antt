@@ -1,15 +1,17 @@
--- The tests of a sender by its 21 numbers (rules 3.4 to 3.6 and 6.2).
+-- The tests of a sender by its 21 numbers (rules 3.4 to 3.6 and 6.2), and of the numbers beside the senders.
 use mathlib.Core.Bool.{Bool, true, _&&_}
 use mathlib.Core.List.{List, [], _∷_}
 use Prim.Native.Nat.{ℕ, zero, suc}
 use lib.Dec.{leb}
 use lib.ListN.{getD, drop, take}
 use Rattle.model.specs.Tables.{Table}
-use Rattle.model.specs.Boards.{Board, Sender}
+use Rattle.model.specs.Boards.{Board, Sender, backoffsPass}
+use Rattle.model.specs.Shares.{sharesOk}
 use Rattle.model.specs.Sound.{senderOk}
 use Rattle.soundness.specs.Tests.{eachBelow}
 use Rattle.state.specs.declared.Sender as DD
 use Rattle.state.specs.Views.{senderIn}
+use Rattle.boards.specs.Layout.{talliesIn, backoffsIn}
 use Rattle.rows.specs.Numbers.{encodesSender}
 use Rattle.rows.specs.Decoded.{senderFrom, sendersFrom}
 
@@ -42,3 +44,9 @@ rowsOk t b (suc n) s = rowOk t b (take 21 s) && rowsOk t b n (drop 21 s)
 -- the 32 senders of a board's numbers
 abbrev pub sendersIn : List ℕ → List DD.Sender
 sendersIn s = sendersFrom 32 (drop 2 s)
+
+-- rules 3.1, 9.9 and 9.10: the counts, the tallies and the backoff table of a board's numbers
+abbrev pub countsOk : List ℕ → Bool
+countsOk s =
+    (leb (getD s 0 0) 1024 && leb (getD s 1 0) 1024)
+    && (sharesOk (talliesIn s) (getD s 0 0) && backoffsPass (backoffsIn s))

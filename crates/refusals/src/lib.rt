@@ -3,18 +3,16 @@ ghost use mathlib.Core.Path.{_≡_};
 ghost use mathlib.Core.Bool.{true, _&&_};
 ghost use mathlib.Core.List.{List, map};
 ghost use Prim.Native.Nat.{ℕ, _+_, _≤_};
-ghost use lib.Dec.{leb};
 ghost use lib.ListN.{length, getD, drop};
 ghost use Rattle.model.specs.Boards as MB;
 ghost use Rattle.model.specs.Layout.{tableRefusal, tableOf};
-ghost use Rattle.model.specs.Shares.{sharesOk};
 ghost use Rattle.model.specs.Sound.{stateOk, noneShared};
 ghost use Rattle.state.specs.Views.{senderIn};
-ghost use Rattle.boards.specs.Layout.{boardLen, closedAt, talliesAt, bytesLen, linksLen, centsLen, lists, listsOk};
+ghost use Rattle.boards.specs.Layout.{boardLen, closedAt, bytesLen, linksLen, centsLen, lists, listsOk};
 ghost use Rattle.senders.specs.Seen.{Seen, Known, markBy};
 ghost use Rattle.rows.specs.Numbers.{encodesPhase, encodesSender};
 ghost use Rattle.rows.specs.Decoded.{senderFrom};
-ghost use Rattle.refusals.specs.Rows.{row, within, limits, rowSender, rowOk, rowsOk, sendersIn};
+ghost use Rattle.refusals.specs.Rows.{row, within, limits, rowSender, rowOk, rowsOk, sendersIn, countsOk};
 ghost use Rattle.refusals.specs.Held.{heldIn, soundIn};
 ghost use Rattle.refusals.specs.Calls.{refusalOf};
 
@@ -186,16 +184,16 @@ fn lists_ok(bytes: &[u8], links: &[u16], keys: &[u32], cents: &[i64]) -> bool
             & ((keys.len() == boards::KEYS_LEN) & (cents.len() == boards::CENTS_LEN)))
 }
 
-// Whether there are at most 1,024 messages and matches, and the senders' shares are kept.
+// Whether there are at most 1,024 messages and matches, the senders' shares are kept, and the backoff table passes.
 fn counts_ok(board: &[u16]) -> bool
     requires { ⌜ length (now board) ≡ boardLen ⌝ }
-    ensures { λ r. ⌜ r ≡ ((leb (getD (now (board .entry)) 0 0) 1024 && leb (getD (now (board .entry)) 1 0) 1024)
-        && sharesOk (drop talliesAt (now (board .entry))) (getD (now (board .entry)) 0 0)) ⌝ }
+    ensures { λ r. ⌜ r ≡ countsOk (now (board .entry)) ⌝ }
 {
     let n = board[0];
     let k = board[1];
     let shared = shares::shares_ok(boards::tallies(board), n);
-    ((n <= 1024) & (k <= 1024)) & shared
+    let rests = backoffs::passes(boards::backoffs(board));
+    ((n <= 1024) & (k <= 1024)) & (shared & rests)
 }
 
 // Whether the numbers are those of a sound board: the counts, the messages and matches by their columns, and then the

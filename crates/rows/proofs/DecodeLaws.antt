@@ -1,18 +1,20 @@
 -- The board that numbers are has these numbers, and its senders are those of their parts.
-use mathlib.Core.Path.{_≡_, refl}
+use mathlib.Core.Path.{_≡_, refl, sym, ap, _∙_}
 use mathlib.Core.Bool.{true, false}
 use mathlib.Core.List.{List, [], _∷_, _++_, append-assoc}
 use Prim.Native.Nat.{ℕ, zero, suc, _+_, _*_, _<_, _≤_}
 use borrow.Author.Tests.{eqb-false}
 use lib.Dec.{eqb}
 use lib.ListN.{length, getD, take, drop, length-drop, take-append-drop}
-use lib.Seq.{drop-drop, drop-cons, length-take-le}
+use lib.Seq.{drop-drop, drop-cons, length-take-le, take-all}
 use native.Mathlib.Omega.{arith}
 use Rattle.model.proofs.Tests.{both}
 use Rattle.model.proofs.Parts.{drop-next}
 use Rattle.model.proofs.Tests.{flag-byte}
 use Rattle.state.specs.declared.Sender as DD
-use Rattle.boards.specs.Layout.{boardLen, closedAt, talliesAt}
+use Rattle.boards.specs.Layout.{boardLen, closedAt, talliesAt, backoffsAt, talliesIn, backoffsIn}
+use Rattle.boards.specs.Parts.{part}
+use Rattle.boards.proofs.PartLaws.{length-part}
 use Rattle.rows.specs.Numbers.{stateNumber, phaseNumbers, senderNumbers, sendersNumbers, boardNumbers}
 use Rattle.rows.specs.Numbers.{placeless, encodesPhase, encodesSender, encodesSenders, encodes}
 use Rattle.rows.specs.Decoded.{stateFrom, phaseFrom, senderFrom, sendersFrom, boardFrom}
@@ -82,8 +84,17 @@ senders-from-back (suc n) s l ok =
     )
 
 -- the numbers behind the senders
-behind : (s : List ℕ) → length s ≡ boardLen → drop 672 (drop 2 s) ≡ getD s closedAt 0 ∷ drop talliesAt s
-behind s l = rw (drop-drop 672 2 s) (drop-cons s closedAt 0 (omega (arith, l)))
+module _ (s : List ℕ) (l : length s ≡ boardLen) where
+  lasts : drop talliesAt s ≡ talliesIn s ++ backoffsIn s
+  unfolding part
+  lasts =
+      sym (take-append-drop 32 (drop talliesAt s))
+      ∙ ap (λ (x : List ℕ). talliesIn s ++ x)
+      (drop-drop 32 talliesAt s ∙ sym (take-all 16 (drop backoffsAt s) (omega (arith, length-drop backoffsAt s))))
+
+  behind : drop 672 (drop 2 s) ≡ getD s closedAt 0 ∷ (talliesIn s ++ backoffsIn s)
+  behind =
+      drop-drop 672 2 s ∙ drop-cons s closedAt 0 (omega (arith, l)) ∙ ap (λ (x : List ℕ). getD s closedAt 0 ∷ x) lasts
 
 -- numbers that pass are those of their board, which fits its types
 pub from-back : (s : List ℕ) → encodes s ≡ true → (boardNumbers (boardFrom s) ≡ s) × BoardFits (boardFrom s)
@@ -92,7 +103,14 @@ from-back s ok =
     let p = all-numbers s ok in
     let r = senders-from-back 32 (drop 2 s) (omega (arith, p .0, length-drop 2 s)) (p .1) in (
       rw (flag-byte (getD s closedAt 0) (p .2), ← behind s (p .0), r .0) (counts-read s (omega (arith, p .0))),
-      record { all = r .2; each = r .1; tallied = omega (arith, length-drop talliesAt s, p .0) },
+      record {
+        all = r .2;
+        each = r .1;
+        ends = (
+          length-part talliesAt 32 s (omega (arith, p .0)),
+          length-part backoffsAt 16 s (omega (arith, p .0)),
+        );
+      },
     )
 
 senders-from : (n i : ℕ) (s : List ℕ) (z : DD.Sender) → i < n

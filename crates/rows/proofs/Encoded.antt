@@ -5,8 +5,8 @@ use mathlib.Core.List.{List, [], _∷_, _++_, append-assoc}
 use Prim.Native.Nat.{ℕ, _+_, _*_}
 use borrow.Author.Tests.{le-leb, eq-eqb}
 use lib.Dec.{eqb, leb}
-use lib.ListN.{length, drop, length-append}
-use lib.Seq.{take-at, drop-at, getD-at, drop-append-add}
+use lib.ListN.{length, drop, take, length-append}
+use lib.Seq.{take-at, take-all, drop-at, getD-at, drop-append-add}
 use native.Mathlib.Omega.{arith}
 use Rattle.model.specs.Basics.{flag}
 use Rattle.model.proofs.Tests.{and, flag-small, flag-read}
@@ -16,9 +16,10 @@ use Rattle.state.specs.declared.State as DS
 use Rattle.state.specs.declared.State.the-variants as S
 use Rattle.state.specs.declared.Sender as DD
 use Rattle.boards.specs.Boards.{HeldBoard}
-use Rattle.boards.specs.Layout.{boardLen, closedAt, talliesAt}
-use Rattle.rows.specs.Numbers.{stateNumber, kind, place, second, senderNumbers, sendersNumbers, boardNumbers}
-use Rattle.rows.specs.Numbers.{encodesPhase, encodesSender, encodesSenders, encodes}
+use Rattle.boards.specs.Layout.{boardLen, closedAt, talliesAt, backoffsAt, talliesIn, backoffsIn}
+use Rattle.boards.specs.Parts.{part}
+use Rattle.rows.specs.Numbers.{stateNumber, kind, place, second, senderNumbers, sendersNumbers, endNumbers}
+use Rattle.rows.specs.Numbers.{boardNumbers, encodesPhase, encodesSender, encodesSenders, encodes}
 use Rattle.rows.specs.Decoded.{stateFrom, phaseFrom, senderFrom, sendersFrom, boardFrom}
 use Rattle.rows.specs.Fits.{PhaseFits, SenderFits, SendersFit, BoardFits}
 use Rattle.rows.proofs.SenderLaws.{numbers-listed, sender-long}
@@ -79,14 +80,21 @@ senders-pass (d ∷ ds) rest f =
 pub encoded-ok : (b : HeldBoard) → BoardFits b → encodes (boardNumbers b) ≡ true
 unfolding encodes boardNumbers
 encoded-ok b f =
-    let rest = flag (b .closed) ∷ b .tallies in
     let l = senders-long (b .senders) (f .each) in
-    let n : length (b .messages ∷ b .matches ∷ (sendersNumbers (b .senders) ++ rest)) ≡ boardLen =
-    omega (arith, length-append (sendersNumbers (b .senders)) rest, l, f .all, f .tallied) in
-    let z = getD-at (b .messages ∷ b .matches ∷ sendersNumbers (b .senders)) (flag (b .closed)) (b .tallies) 0 closedAt
-    (omega (arith, l, f .all)) in
+    let n : length (boardNumbers b) ≡ boardLen =
+    omega (
+      arith,
+      length-append (sendersNumbers (b .senders)) (endNumbers b),
+      l,
+      f .all,
+      length-append (b .tallies) (b .backoffs),
+      f .ends .0,
+      f .ends .1,
+    ) in
+    let z = getD-at (b .messages ∷ b .matches ∷ sendersNumbers (b .senders)) (flag (b .closed))
+    (b .tallies ++ b .backoffs) 0 closedAt (omega (arith, l, f .all)) in
     and (eq-eqb _ boardLen n)
-    (and (rw (f .all) at (senders-pass (b .senders) rest (f .each))) (rw z (flag-small (b .closed))))
+    (and (rw (f .all) at (senders-pass (b .senders) (endNumbers b) (f .each))) (rw z (flag-small (b .closed))))
 
 state-back : (s : DS.State) → stateFrom (stateNumber s) ≡ s
 state-back S.Idle = refl
@@ -129,14 +137,35 @@ senders-back (d ∷ ds) rest f =
       senders-back ds rest (f .1),
     )
 
-pub board-back : (b : HeldBoard) → BoardFits b → boardFrom (boardNumbers b) ≡ b
-unfolding boardNumbers boardFrom
-board-back b f =
-    let front = b .messages ∷ b .matches ∷ sendersNumbers (b .senders) in
-    let rest = flag (b .closed) ∷ b .tallies in
-    let l = senders-long (b .senders) (f .each) in
-    let z = getD-at front (flag (b .closed)) (b .tallies) 0 closedAt (omega (arith, l, f .all)) in
-    let past : talliesAt ≡ length front + 1 = omega (arith, l, f .all) in
-    let k : drop talliesAt (front ++ rest) ≡ b .tallies =
-    ap (λ (n : ℕ). drop n (front ++ rest)) past ∙ drop-append-add front rest 1 in
-    rw (rw (f .all) at (senders-back (b .senders) rest (f .each)), z, flag-read (b .closed), k)
+module _ (b : HeldBoard) (f : BoardFits b) where
+  abbrev front : List ℕ
+  front = b .messages ∷ b .matches ∷ sendersNumbers (b .senders)
+
+  -- the numbers from a place behind the senders on
+  behind : (at k : ℕ) → at ≡ closedAt + k → drop at (front ++ endNumbers b) ≡ drop k (endNumbers b)
+  behind at k e =
+      let past : at ≡ length front + k = omega (arith, senders-long (b .senders) (f .each), f .all) in
+      ap (λ (n : ℕ). drop n (front ++ endNumbers b)) past ∙ drop-append-add front (endNumbers b) k
+
+  tallies-back : talliesIn (front ++ endNumbers b) ≡ b .tallies
+  unfolding part
+  tallies-back = ap (take 32) (behind talliesAt 1 refl) ∙ take-at (b .tallies) (b .backoffs) 32 (f .ends .0)
+
+  backoffs-back : backoffsIn (front ++ endNumbers b) ≡ b .backoffs
+  unfolding part
+  backoffs-back =
+      ap (take 16) (behind backoffsAt 33 refl ∙ drop-at (b .tallies) (b .backoffs) 32 (f .ends .0))
+      ∙ take-all 16 (b .backoffs) (omega (arith, f .ends .1))
+
+  pub board-back : boardFrom (boardNumbers b) ≡ b
+  unfolding boardNumbers boardFrom
+  board-back =
+      let l = senders-long (b .senders) (f .each) in
+      let z = getD-at front (flag (b .closed)) (b .tallies ++ b .backoffs) 0 closedAt (omega (arith, l, f .all)) in
+      rw (
+        rw (f .all) at (senders-back (b .senders) (endNumbers b) (f .each)),
+        z,
+        flag-read (b .closed),
+        tallies-back,
+        backoffs-back,
+      )

@@ -1,15 +1,15 @@
--- Laws of an empty board's numbers, written: the same sender at each of 32 places, then two counts and a flag of 0, and
--- no sender has added a message.
-use mathlib.Core.Path.{_≡_, ap, _∙_, sym}
-use mathlib.Core.List.{List, [], _∷_, _++_, append-assoc}
+-- Laws of an empty board's numbers, written: the same sender at each of 32 places, then two counts and a flag of 0, no
+-- sender has added a message, and last the backoff table.
+use mathlib.Core.Path.{_≡_, refl, ap, _∙_, sym}
+use mathlib.Core.List.{List, [], _∷_, _++_, append-assoc, append-nil}
 use Prim.Native.Nat.{ℕ, _+_, _*_, _<_, _≤_}
 use lib.ListN.{length, getD, take, drop, set, replicate, getD-replicate, length-replicate, length-append}
 use lib.ListN.{take-append-drop, drop-of-length-le, length-drop}
-use lib.Seq.{paste, drop-cons, length-take-le, set-at}
+use lib.Seq.{paste, drop-cons, length-take-le, set-at, take-all}
 use native.Mathlib.Omega.{arith}
 use Rattle.model.proofs.Parts.{paste-behind}
 use Rattle.state.specs.declared.Sender as DD
-use Rattle.boards.specs.Layout.{boardLen, closedAt, talliesAt}
+use Rattle.boards.specs.Layout.{boardLen, closedAt, talliesAt, backoffsAt}
 use Rattle.rows.specs.Numbers.{senderNumbers, sendersNumbers, boardNumbers}
 use Rattle.rows.specs.Fresh.{freshSender, freshBoard}
 use Rattle.rows.proofs.WalkLaws.{write-next, write-end, counts-set}
@@ -55,19 +55,40 @@ fresh-front d s front i is n l h e =
       long,
     )
 
-pub fresh-end : (d : DD.Sender) (s s′ front : List ℕ) (i : ℕ) → d ≡ freshSender → length s ≡ boardLen
-    → 2 ≤ length front → i ≡ 32 → Written d s (take 2 front) i
+-- behind the senders: the tallies, and then the table
+module _ (s s′ s″ front rests : List ℕ) (n : length s ≡ boardLen) (m : length front ≡ closedAt)
+    (k : length rests ≡ 16) where
+  abbrev none-added : List ℕ
+  none-added = replicate 32 0
+
+  tallied : s′ ≡ paste (front ++ (0 ∷ drop talliesAt s)) talliesAt none-added 32
+      → s′ ≡ front ++ (0 ∷ (none-added ++ drop 32 (drop talliesAt s)))
+  tallied e =
+      let past : talliesAt ≡ length front + 1 = omega (arith, m) in
+      e
+      ∙ ap (λ (x : ℕ). paste (front ++ (0 ∷ drop talliesAt s)) x none-added 32) past
+      ∙ paste-behind front (0 ∷ drop talliesAt s) none-added 1 32
+
+  pub ended : s′ ≡ paste (front ++ (0 ∷ drop talliesAt s)) talliesAt none-added 32 → s″ ≡ paste s′ backoffsAt rests 16
+      → s″ ≡ front ++ (0 ∷ (none-added ++ rests))
+  ended e e′ =
+      let w = drop 32 (drop talliesAt s) in
+      let past : backoffsAt ≡ length front + 33 = omega (arith, m) in
+      let few : length w ≤ 16 =
+      omega (arith, length-drop 32 (drop talliesAt s), length-drop talliesAt s, n) in
+      e′
+      ∙ ap (λ (x : List ℕ). paste x backoffsAt rests 16) (tallied e)
+      ∙ ap (λ (x : ℕ). paste (front ++ (0 ∷ (none-added ++ w))) x rests 16) past
+      ∙ paste-behind front (0 ∷ (none-added ++ w)) rests 33 16
+      ∙ rw (take-all 16 rests (omega (arith, k)), drop-of-length-le w {i = 16} few, append-nil rests)
+
+pub fresh-end : (d : DD.Sender) (s s′ s″ front rests : List ℕ) (i : ℕ) → d ≡ freshSender → length s ≡ boardLen
+    → 2 ≤ length front → length rests ≡ 16 → i ≡ 32 → Written d s (take 2 front) i
     → s′ ≡ paste (set (set (set s 0 0) 1 0) closedAt 0) talliesAt (replicate 32 0) 32
-    → s′ ≡ boardNumbers freshBoard
+    → s″ ≡ paste s′ backoffsAt rests 16
+    → s″ ≡ boardNumbers (freshBoard rests)
 unfolding boardNumbers
-fresh-end d s s′ front i is n l h e p =
-    let z : List ℕ = replicate 32 0 in
+fresh-end d s s′ s″ front rests i is n l k h e p p′ =
     let q = fresh-front d s front i is n l h e in
-    let k : talliesAt ≡ length (0 ∷ 0 ∷ idle) + 1 = omega (arith, q .1) in
-    let none : drop 33 (0 ∷ drop talliesAt s) ≡ [] =
-    drop-of-length-le (0 ∷ drop talliesAt s) {i = 33} (omega (arith, length-drop talliesAt s, n)) in
-    p
-    ∙ ap (λ (x : List ℕ). paste x talliesAt z 32) (q .0)
-    ∙ ap (λ (m : ℕ). paste ((0 ∷ 0 ∷ idle) ++ (0 ∷ drop talliesAt s)) m z 32) k
-    ∙ paste-behind (0 ∷ 0 ∷ idle) (0 ∷ drop talliesAt s) z 1 32
-    ∙ rw none
+    ended s s′ s″ (0 ∷ 0 ∷ idle) rests n (q .1) k
+    (p ∙ ap (λ (x : List ℕ). paste x talliesAt (replicate 32 0) 32) (q .0)) p′

@@ -10,7 +10,7 @@ use Rattle.state.specs.declared.State as DS
 use Rattle.state.specs.declared.State.the-variants as S
 use Rattle.state.specs.declared.Sender as DD
 use Rattle.boards.specs.Boards.{HeldBoard}
-use Rattle.boards.specs.Layout.{closedAt, talliesAt}
+use Rattle.boards.specs.Layout.{closedAt, talliesIn, backoffsIn}
 
 abbrev pub stateFrom : ℕ → DS.State
 stateFrom n = pick (eqb n 0) S.Idle (pick (eqb n 1) S.Working S.Blocked)
@@ -51,5 +51,6 @@ boardFrom s = record {
   matches = getD s 1 0;
   senders = sendersFrom 32 (drop 2 s);
   closed = eqb (getD s closedAt 0) 1;
-  tallies = drop talliesAt s;
+  tallies = talliesIn s;
+  backoffs = backoffsIn s;
 }

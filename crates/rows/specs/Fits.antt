@@ -33,4 +33,4 @@ SendersFit (d ∷ ds) = SenderFits d × SendersFit ds
 pub record BoardFits (b : HeldBoard) : Type 0 where
   pub all : length (b .senders) ≡ 32
   pub each : SendersFit (b .senders)
-  pub tallied : length (b .tallies) ≡ 32
+  pub ends : (length (b .tallies) ≡ 32) × (length (b .backoffs) ≡ 16)

@@ -1,5 +1,6 @@
--- The board as 707 plain numbers (rules 1.11, 9.8 and 9.9): how many messages and matches there are, then 21 numbers
--- for each of 32 senders, then whether a day is closed, then how many messages each sender has added.
+-- The board as 723 plain numbers (rules 1.11, 9.8, 9.9 and 9.10): how many messages and matches there are, then 21
+-- numbers for each of 32 senders, then whether a day is closed, how many messages each sender has added, and the
+-- backoff table.
 use mathlib.Core.Bool.{Bool, true, _&&_, _||_, not}
 use mathlib.Core.List.{List, [], _∷_, _++_}
 use Prim.Native.Nat.{ℕ, zero, suc}
@@ -53,9 +54,13 @@ unfoldable pub sendersNumbers : List DD.Sender → List ℕ
 sendersNumbers [] = []
 sendersNumbers (d ∷ ds) = senderNumbers d ++ sendersNumbers ds
 
--- 0 messages, 1 matches, then the senders, then the flag of a closed day and the tallies
+-- the numbers behind the senders: the flag of a closed day, the tallies, the backoff table
+abbrev pub endNumbers : HeldBoard → List ℕ
+endNumbers b = flag (b .closed) ∷ (b .tallies ++ b .backoffs)
+
+-- 0 messages, 1 matches, then the senders, and those behind them
 unfoldable pub boardNumbers : HeldBoard → List ℕ
-boardNumbers b = b .messages ∷ b .matches ∷ (sendersNumbers (b .senders) ++ (flag (b .closed) ∷ b .tallies))
+boardNumbers b = b .messages ∷ b .matches ∷ (sendersNumbers (b .senders) ++ endNumbers b)
 
 -- wake, signal and pass end have no place
 abbrev pub placeless : ℕ → Bool

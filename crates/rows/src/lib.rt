@@ -9,7 +9,7 @@ ghost use lib.Seq.{paste};
 ghost use Rattle.model.specs.Basics.{flag};
 ghost use Rattle.state.specs.Views.{stepsIn, senderSteps, idleIs};
 ghost use Rattle.boards.specs.Boards.{zeroSender};
-ghost use Rattle.boards.specs.Layout.{boardLen, talliesAt};
+ghost use Rattle.boards.specs.Layout.{boardLen, talliesAt, backoffsAt};
 ghost use Rattle.rows.specs.Decoded.{stateFrom, boardFrom};
 ghost use Rattle.rows.specs.Numbers.{stateNumber, phaseNumbers, kind, place, second};
 ghost use Rattle.rows.specs.Numbers.{senderNumbers, boardNumbers};
@@ -304,10 +304,23 @@ fn clear_tallies(s: &mut [u16])
     }
 }
 
-// The numbers of an empty board: no messages, no matches, every sender idle, no day closed.
-pub fn put_fresh(s: &mut [u16])
-    requires { ⌜ length (now s) ≡ boardLen ⌝ }
-    ensures { λ _. ⌜ now (s .exit) ≡ boardNumbers freshBoard ⌝ }
+// A backoff table.
+fn put_backoffs(s: &mut [u16], rests: &[u8])
+    requires { ⌜ (length (now s) ≡ boardLen) × (length (now rests) ≡ 16) ⌝ }
+    ensures { λ _. ⌜ now (s .exit) ≡ paste (now (s .entry)) backoffsAt (now (rests .entry)) 16 ⌝ }
+{
+    let mut i: usize = 0;
+    while i < 16 {
+        s[boards::BACKOFFS + i] = rests[i] as u16;
+        i += 1;
+    }
+}
+
+// The numbers of an empty board with a backoff table: no messages, no matches, every sender idle, no day closed, none
+// added.
+pub fn put_fresh(s: &mut [u16], rests: &[u8])
+    requires { ⌜ (length (now s) ≡ boardLen) × (length (now rests) ≡ 16) ⌝ }
+    ensures { λ _. ⌜ now (s .exit) ≡ boardNumbers (freshBoard (now (rests .entry))) ⌝ }
 {
     let idle = fresh_sender();
     let mut i: usize = 0;
@@ -319,4 +332,5 @@ pub fn put_fresh(s: &mut [u16])
     s[1] = 0;
     s[boards::CLOSED] = 0;
     clear_tallies(s);
+    put_backoffs(s, rests);
 }

@@ -6,5 +6,6 @@ pub mod PublicMerge
 pub mod Mixed
 pub mod PublicClosing
 pub mod PublicSharing
+pub mod PublicResting
 pub mod Unseen
 pub mod Outcomes

@@ -101,14 +101,14 @@ module _ (s : List ℕ) where
 
 pub mixed-calls : Mixed-calls
 mixed-calls = record {
-  demand = λ s l xs l′ o p.
-      let r = acts-part s l xs l′ (opened s l o .0) p in
-      demand s l (callsIn xs) (heldIn l′) o (r .accepted) (r .leaves);
-  says = λ s l xs l′ o p.
-      acts-part s l xs l′ (opened s l o .0) p .says
-      ∙ ap (λ (b : Board). answerNumbers (history (tableOf s) b (callsIn xs))) (opened s l o .1);
-  between = λ s l xs ys l′ o p.
+  demand = λ s rests l xs l′ o p.
+      let r = acts-part s l xs l′ (opened s rests l o .0) p in
+      demand s rests l (callsIn xs) (heldIn l′) o (r .accepted) (r .leaves);
+  says = λ s rests l xs l′ o p.
+      acts-part s l xs l′ (opened s rests l o .0) p .says
+      ∙ ap (λ (b : Board). answerNumbers (history (tableOf s) b (callsIn xs))) (opened s rests l o .1);
+  between = λ s rests l xs ys l′ o p.
       let q = acts-split s l xs ys l′ p in
-      let r = acts-part s l xs (q .0) (opened s l o .0) (q .1) in
-      (q .0, demand s l (callsIn xs) (heldIn (q .0)) o (r .accepted) (r .leaves), q .2);
+      let r = acts-part s l xs (q .0) (opened s rests l o .0) (q .1) in
+      (q .0, demand s rests l (callsIn xs) (heldIn (q .0)) o (r .accepted) (r .leaves), q .2);
 }

@@ -50,8 +50,9 @@ matches-more t b (closes day) = omega (arith, ap length (frame .close t b day .m
 
 -- One call
 
-abbrev boardBy : ℕ → ℕ → List DD.Sender → Bool → List ℕ → HeldBoard
-boardBy n m ds u ks = record { messages = n; matches = m; senders = ds; closed = u; tallies = ks }
+abbrev boardBy : ℕ → ℕ → List DD.Sender → Bool → List ℕ → List ℕ → HeldBoard
+boardBy n m ds u ks rests =
+    record { messages = n; matches = m; senders = ds; closed = u; tallies = ks; backoffs = rests }
 
 -- two close days plus 1 that are equal
 same-flag : (u v : Bool) (x y : ℕ) → closedBy u x ≡ closedBy v y → u ≡ v
@@ -117,6 +118,9 @@ module _ (s : List ℕ) (h : Held) (k : Call) (v w : Said) (f g : Held) (z : ref
 
   tallies-same : f .board .tallies ≡ g .board .tallies
   tallies-same = ap (λ (b : Board). b .tallies) boards
+
+  backoffs-same : f .board .backoffs ≡ g .board .backoffs
+  backoffs-same = ap (λ (b : Board). b .backoffs) boards
 
   day-same : getD (f .columns .keys) closeDayAt 0 ≡ getD (g .columns .keys) closeDayAt 0
   day-same = go (f .board .closed) refl
@@ -259,15 +263,16 @@ module _ (s : List ℕ) (h : Held) (k : Call) (v w : Said) (f g : Held) (z : ref
   outcome-same = go
     where
       go : held (boardBy (f .board .messages) (f .board .matches) (f .board .senders) (f .board .closed)
-          (f .board .tallies)) (f .columns) (matchesOf (f .matches .chords) (f .matches .messages))
+          (f .board .tallies) (f .board .backoffs)) (f .columns) (matchesOf (f .matches .chords) (f .matches .messages))
           ≡ held (boardBy (g .board .messages) (g .board .matches) (g .board .senders) (g .board .closed)
-          (g .board .tallies)) (g .columns) (matchesOf (g .matches .chords) (g .matches .messages))
+          (g .board .tallies) (g .board .backoffs)) (g .columns) (matchesOf (g .matches .chords) (g .matches .messages))
       go = cc (
         messages-count,
         matches-count,
         senders-same,
         closed-same,
         tallies-same,
+        backoffs-same,
         columns-same,
         chords-same,
         members-same,

@@ -1,13 +1,14 @@
 -- Public calls one after another are the model's schedule, and so keep demand 3.
 use mathlib.Core.Path.{_≡_, refl, sym, ap, subst, _∙_}
 use mathlib.Core.Logic.{_≢_}
+use mathlib.Core.Bool.{true}
 use mathlib.Core.List.{List, [], _∷_, _++_}
 use Prim.Native.Nat.{ℕ, zero, suc, _≤_}
 use native.Mathlib.Omega.{arith}
 use lib.ListN.{getD, drop}
 use Rattle.model.specs.Layout.{tableOf, tableRefusal}
 use Rattle.model.specs.Tables.{Table}
-use Rattle.model.specs.Boards.{Board, Sender, builtinBackoffs, emptyBoard, noMatch}
+use Rattle.model.specs.Boards.{Board, Sender, emptyBoard, noMatch, backoffsPass}
 use Rattle.model.specs.Effects.{Said, numberOf, Ended}
 use Rattle.model.specs.Pools.{Call, Exchange, answerTo, afterAll, history, quiet, noRead, readMatch}
 use Rattle.model.proofs.Lists.{nth-map}
@@ -17,6 +18,8 @@ use Rattle.columns.proofs.ListFrom.{length-from}
 use Rattle.columns.proofs.Messages.{length-messages}
 use Rattle.boards.specs.Calls.{Held}
 use Rattle.boards.proofs.SenderLaws.{nth-sender}
+use Rattle.rows.specs.Numbers.{boardNumbers}
+use Rattle.rows.specs.Fresh.{freshBoard}
 use Rattle.refusals.specs.Calls.{boardOf, refusalOf, Plays}
 use Rattle.boards.specs.Layout.{Lists}
 use Rattle.refusals.specs.Held.{heldIn}
@@ -84,43 +87,46 @@ few-said t b [] n z e = omega (arith, e)
 few-said t b (k ∷ ks) zero z e = answer-few t b k
 few-said t b (k ∷ ks) (suc n) z e = few-said t (answerTo t b k .board) ks n z e
 
-pub table-opened : (s : List ℕ) (l : Lists) → Opened s l → tableRefusal s ≡ 0
-table-opened s l o = unrefused s (o .before) (o .opens) .0
+pub table-opened : (s rests : List ℕ) (l : Lists) → Opened s rests l
+    → (tableRefusal s ≡ 0) × (backoffsPass rests ≡ true) × (l .board ≡ boardNumbers (freshBoard rests))
+table-opened s rests l o =
+    let a = unrefused s rests (o .before) (o .opens) in (a .0, a .1, o .board ∙ a .2)
 
-pub opened : (s : List ℕ) (l : Lists) → Opened s l
-    → (refusalOf s (heldIn l) ≡ 0) × (boardOf s (heldIn l) ≡ emptyBoard builtinBackoffs)
-opened s l o =
-    let fresh = o .board ∙ unrefused s (o .before) (o .opens) .1 in
-    let a = opened-accepted s l (table-opened s l o) fresh (o .sized) in
-    rw (held-is l (a .numbers) (a .sized)) (a .accepted, opened-empty s l fresh)
+pub opened : (s rests : List ℕ) (l : Lists) → Opened s rests l
+    → (refusalOf s (heldIn l) ≡ 0) × (boardOf s (heldIn l) ≡ emptyBoard rests)
+opened s rests l o =
+    let t = table-opened s rests l o in
+    let a = opened-accepted s rests (t .1) l (t .2) (t .0) (o .sized) in
+    rw (held-is l (a .numbers) (a .sized)) (a .accepted, opened-empty s rests (t .1) l (t .2))
 
 -- a board that the calls lead to, accepted
-pub demand : (s : List ℕ) (l : Lists) (ks : List Call) (h : Held) → Opened s l → refusalOf s h ≡ 0
-    → boardOf s h ≡ afterAll (tableOf s) (boardOf s (heldIn l)) ks → Keeps-demand-3 s ks h
-demand s l ks h o a e =
+pub demand : (s rests : List ℕ) (l : Lists) (ks : List Call) (h : Held) → Opened s rests l → refusalOf s h ≡ 0
+    → boardOf s h ≡ afterAll (tableOf s) (boardOf s (heldIn l)) ks → Keeps-demand-3 s rests ks h
+demand s rests l ks h o a e =
     let t = tableOf s in
-    let q = e ∙ ap (λ (b : Board). afterAll t b ks) (opened s l o .1) in
+    let z = table-opened s rests l o .0 in
+    let q = e ∙ ap (λ (b : Board). afterAll t b ks) (opened s rests l o .1) in
     record {
       leaves = q;
       reads = subst (Reads-as s h) q (reads-as s h a);
       accepted = a;
-      run = demand-3 .runs s builtinBackoffs ks (table-opened s l o);
-      quietly = λ y. demand-3 .quietly s builtinBackoffs ks (table-opened s l o) (sym (ap quiet q) ∙ y);
+      run = demand-3 .runs s rests ks z;
+      quietly = λ y. demand-3 .quietly s rests ks z (sym (ap quiet q) ∙ y);
     }
 
 pub public-calls : Public-calls
 public-calls = record {
   schedule = schedule;
   opened = opened;
-  demand = λ s l ks ws l′ o p.
-      let r = schedule s l ks ws l′ (opened s l o .0) p in
-      (r, demand s l ks (heldIn l′) o (r .accepted) (r .leaves));
-  replayed = λ s l c before after l′ o p.
+  demand = λ s rests l ks ws l′ o p.
+      let r = schedule s l ks ws l′ (opened s rests l o .0) p in
+      (r, demand s rests l ks (heldIn l′) o (r .accepted) (r .leaves));
+  replayed = λ s rests l c before after l′ o p.
       let r = p .replays .plays refl in (
-        demand s l (callsOf c) (heldIn l′) o (r .accepted) (r .leaves),
+        demand s rests l (callsOf c) (heldIn l′) o (r .accepted) (r .leaves),
         r .says
             ∙ ap (λ (b : Board). answerNumbers (history (tableOf s) b (callsOf c)) ++ drop (callsLen c) before)
-            (opened s l o .1),
+            (opened s rests l o .1),
       );
   history-never-30 = λ s h ks n z e q. omega (arith, q, few-said (tableOf s) (boardOf s h) ks n z e);
 }

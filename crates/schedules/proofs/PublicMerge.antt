@@ -4,7 +4,7 @@ use mathlib.Core.List.{List, [], _∷_, _++_}
 use Prim.Native.Nat.{ℕ}
 use lib.ListN.{length, getD, drop}
 use Rattle.model.specs.Layout.{tableOf}
-use Rattle.model.specs.Boards.{Board, builtinBackoffs, emptyBoard}
+use Rattle.model.specs.Boards.{Board, emptyBoard}
 use Rattle.model.specs.Effects.{Said, Ended}
 use Rattle.model.specs.Pools.{Call, Exchange, MatchRead, history, matchReads, noRead}
 use Rattle.model.specs.Demands.{boardAfter}
@@ -24,16 +24,16 @@ use Rattle.schedules.proofs.PublicCalls.{public-calls}
 use Rattle.schedules.proofs.HeldParts.{messages-held, matches-held}
 
 -- boards h and g that the same calls lead to, under the first table and under the merged one
-module _ (s z ms : List ℕ) (ks : List Call) (h g : Held) (e : mergeRefusal s z ms ≡ 0) (o : Own-calls s z ms ks)
-    (d : Keeps-demand-3 s ks h) (d′ : Keeps-demand-3 (mergedBytes s z ms) ks g) where
+module _ (s z ms rests : List ℕ) (ks : List Call) (h g : Held) (e : mergeRefusal s z ms ≡ 0) (o : Own-calls s z ms ks)
+    (d : Keeps-demand-3 s rests ks h) (d′ : Keeps-demand-3 (mergedBytes s z ms) rests ks g) where
   abbrev v : List ℕ
   v = mergedBytes s z ms
 
   abbrev b : Board
-  b = boardAfter (tableOf s) builtinBackoffs ks
+  b = boardAfter (tableOf s) rests ks
 
-  abbrev m : Same-schedule (tableOf s) (tableOf v) builtinBackoffs ks
-  m = merges .same s z ms builtinBackoffs ks e o
+  abbrev m : Same-schedule (tableOf s) (tableOf v) rests ks
+  m = merges .same s z ms rests ks e o
 
   merged-leaves : boardOf v g ≡ b
   merged-leaves = d′ .leaves ∙ m .board
@@ -122,31 +122,32 @@ same-said s z l l′ m m′ (k ∷ ks) (w ∷ ws) (v ∷ vs) p q e =
     let a : v ≡ w = ap said-first e in
     rw (a, same-said s z (p .0) l′ (q .0) m′ ks ws vs (p .2) (q .2) (ap rest e))
 
-says-is : (s : List ℕ) (l l′ : Lists) (ks : List Call) (ws : List Said) → Opened s l → Calls-in-turn s l ks ws l′
-    → exchanges ks ws ≡ history (tableOf s) (emptyBoard builtinBackoffs) ks
-says-is s l l′ ks ws o p =
-    public-calls .demand s l ks ws l′ o p .0 .says
-    ∙ ap (λ (b : Board). history (tableOf s) b ks) (public-calls .opened s l o .1)
+says-is : (s rests : List ℕ) (l l′ : Lists) (ks : List Call) (ws : List Said) → Opened s rests l
+    → Calls-in-turn s l ks ws l′
+    → exchanges ks ws ≡ history (tableOf s) (emptyBoard rests) ks
+says-is s rests l l′ ks ws o p =
+    public-calls .demand s rests l ks ws l′ o p .0 .says
+    ∙ ap (λ (b : Board). history (tableOf s) b ks) (public-calls .opened s rests l o .1)
 
 pub merged-calls : Merged-calls
 merged-calls = record {
-  same = λ s z ms l l′ m m′ ks ws vs e own o p o′ q.
+  same = λ s z ms rests l l′ m m′ ks ws vs e own o p o′ q.
       let t = mergedBytes s z ms in (
         same-said s t l l′ m m′ ks ws vs p q
-            (says-is t m m′ ks vs o′ q
-            ∙ merges .same s z ms builtinBackoffs ks e own .answers
-            ∙ sym (says-is s l l′ ks ws o p)),
-        alike s z ms ks (heldIn l′) (heldIn m′) e own (public-calls .demand s l ks ws l′ o p .1)
-            (public-calls .demand t m ks vs m′ o′ q .1),
+            (says-is t rests m m′ ks vs o′ q
+            ∙ merges .same s z ms rests ks e own .answers
+            ∙ sym (says-is s rests l l′ ks ws o p)),
+        alike s z ms rests ks (heldIn l′) (heldIn m′) e own (public-calls .demand s rests l ks ws l′ o p .1)
+            (public-calls .demand t rests m ks vs m′ o′ q .1),
       );
-  replayed = λ s z ms l l′ m m′ c before after after′ e own o p o′ q.
+  replayed = λ s z ms rests l l′ m m′ c before after after′ e own o p o′ q.
       let t = mergedBytes s z ms in
-      let a = public-calls .replayed s l c before after l′ o p in
-      let b = public-calls .replayed t m c before after′ m′ o′ q in (
+      let a = public-calls .replayed s rests l c before after l′ o p in
+      let b = public-calls .replayed t rests m c before after′ m′ o′ q in (
         b .1
             ∙ ap (λ (xs : List Exchange). answerNumbers xs ++ drop (callsLen c) before)
-            (merges .same s z ms builtinBackoffs (callsOf c) e own .answers)
+            (merges .same s z ms rests (callsOf c) e own .answers)
             ∙ sym (a .1),
-        alike s z ms (callsOf c) (heldIn l′) (heldIn m′) e own (a .0) (b .0),
+        alike s z ms rests (callsOf c) (heldIn l′) (heldIn m′) e own (a .0) (b .0),
       );
 }

@@ -5,10 +5,9 @@ use Prim.Native.Nat.{ℕ, _≤_}
 use lib.ListN.{replicate}
 use native.Mathlib.Omega.{arith}
 use Rattle.model.specs.Layout.{tableOf}
-use Rattle.model.specs.Boards.{Board, builtinBackoffs}
+use Rattle.model.specs.Boards.{Board}
 use Rattle.model.specs.Effects.{Said, Outcome, Refused, numberOf}
 use Rattle.model.specs.Pools.{steps, stepAnswer, answerTo}
-use Rattle.model.proofs.Backoffs.{builtin-passes}
 use Rattle.alone.specs.Alone.{In-peace, steppedAlone, Finishes, mostSteps}
 use Rattle.alone.proofs.Theorem.{alone}
 use Rattle.boards.specs.Layout.{Lists}
@@ -35,10 +34,11 @@ comes-to-rest s l i a f = record { count = f .count; few = f .few; then-13 = end
         (said, q .keeps (λ z. omega (arith, sym (ap numberOf said) ∙ z)))
 
 pub public-peace : Public-peace
-public-peace s l ks ws l′ i o p few peace =
+public-peace s rests l ks ws l′ i o p few peace =
     let t = tableOf s in
-    let d = public-calls .demand s l ks ws l′ o p .1 in
+    let a = table-opened s rests l o in
+    let d = public-calls .demand s rests l ks ws l′ o p .1 in
     comes-to-rest s l′ i (d .accepted)
     (subst⁻¹ (λ (b : Board). Finishes t b i mostSteps) (d .leaves)
-    (alone .finishes s builtinBackoffs ks i (table-opened s l o) builtin-passes few
+    (alone .finishes s rests ks i (a .0) (a .1) few
     (subst (λ (b : Board). In-peace t b i) (d .leaves) peace)))

@@ -4,7 +4,6 @@ use mathlib.Core.Logic.{_≢_}
 use mathlib.Core.List.{List}
 use Prim.Native.Nat.{ℕ, _+_, _<_, _≤_}
 use native.Mathlib.Omega.{arith}
-use lib.Seq.{getD-drop}
 use Rattle.model.specs.Layout.{tableOf}
 use Rattle.model.specs.Boards.{Board, Sent}
 use Rattle.model.specs.Effects.{Said, Refused}
@@ -13,7 +12,7 @@ use Rattle.model.specs.Pools.{adds, history}
 use Rattle.model.specs.Demands.{acceptedAdds}
 use Rattle.model.proofs.Shares.{no-tally}
 use Rattle.model.proofs.FairShares.{fair-shares}
-use Rattle.boards.specs.Layout.{Lists, talliesAt}
+use Rattle.boards.specs.Layout.{Lists}
 use Rattle.boards.specs.Calls.{Held}
 use Rattle.rows.specs.Decoded.{boardFrom}
 use Rattle.refusals.specs.Held.{heldIn}
@@ -34,7 +33,6 @@ module _ (s : List ℕ) (l : Lists) (z : refusalOf s (heldIn l) ≡ 0) where
   tally-is i =
       let a = accepted-lists s l z in
       ap (λ (h : Held). tally (h .board .tallies) i) (held-is l (a .numbers) (a .sized))
-      ∙ getD-drop talliesAt (l .board) i 0
 
   at-most-528 : (i : ℕ) → tallyIn l i ≤ 528
   at-most-528 i =
@@ -63,9 +61,9 @@ tallied s l xs l′ i z p =
       fair-shares .tallied (tableOf s) (boardOf s (heldIn l)) (callsIn xs) (board-sound s _ _ _ z) i,
     )
 
-opened : (s : List ℕ) (l : Lists) (i : ℕ) → Opened s l → tallyIn l i ≡ 0
-opened s l i o =
-    let q = P.opened s l o in
+opened : (s rests : List ℕ) (l : Lists) (i : ℕ) → Opened s rests l → tallyIn l i ≡ 0
+opened s rests l i o =
+    let q = P.opened s rests l o in
     sym (tally-is s l (q .0) i) ∙ ap (λ (b : Board). tally (b .tallies) i) (q .1) ∙ no-tally i
 
 pub shared-calls : Shared-calls

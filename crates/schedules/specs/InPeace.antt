@@ -20,11 +20,12 @@ pub record Comes-to-rest (s : List ℕ) (l : Lists) (i : ℕ) : Type 0 where
   pub then-13 : (n : ℕ) (ws : List Said) (g : Lists) → count ≤ n → Calls-in-turn s l (replicate n (steps i)) ws g
       → (w : Said) (g′ : Lists) → Calls s g (steps i) w g′ → (w ≡ Refused 13) × (g′ ≡ g)
 
--- rule 9.1: from any board that public calls reach, with no other sender holding a claimed message
+-- rule 9.1: from any board that public calls reach, whatever backoff table it was opened with, with no other sender
+-- holding a claimed message
 abbrev pub Public-peace : Type 0
 Public-peace =
-    (s : List ℕ) (l : Lists) (ks : List Call) (ws : List Said) (l′ : Lists) (i : ℕ)
-    → Opened s l
+    (s rests : List ℕ) (l : Lists) (ks : List Call) (ws : List Said) (l′ : Lists) (i : ℕ)
+    → Opened s rests l
     → Calls-in-turn s l ks ws l′
     → i < 32
     → In-peace (tableOf s) (boardOf s (heldIn l′)) i

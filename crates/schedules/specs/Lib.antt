@@ -5,4 +5,5 @@ pub mod Merged
 pub mod Mixes
 pub mod Closing
 pub mod Sharing
+pub mod Resting
 pub mod Outcomes

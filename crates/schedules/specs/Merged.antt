@@ -35,13 +35,14 @@ pub record Reads-alike (s : List ℕ) (h : Held) (v : List ℕ) (g : Held) : Typ
 abbrev pub Own-calls : List ℕ → List ℕ → List ℕ → List Call → Type 0
 Own-calls s z ms ks = every (addsTo (ownChannel (tableOf s) (tableOf z) ms)) ks ≡ true
 
--- the same calls to a board opened with the first table, and to one opened with the merged table
+-- the same calls to a board opened with the first table, and to one opened with the merged table and the same backoff
+-- table
 pub record Merged-calls : Type 0 where
-  pub same : (s z ms : List ℕ) (l l′ m m′ : Lists) (ks : List Call) (ws vs : List Said) → mergeRefusal s z ms ≡ 0
-      → Own-calls s z ms ks → Opened s l → Calls-in-turn s l ks ws l′ → Opened (mergedBytes s z ms) m
+  pub same : (s z ms rests : List ℕ) (l l′ m m′ : Lists) (ks : List Call) (ws vs : List Said) → mergeRefusal s z ms ≡ 0
+      → Own-calls s z ms ks → Opened s rests l → Calls-in-turn s l ks ws l′ → Opened (mergedBytes s z ms) rests m
       → Calls-in-turn (mergedBytes s z ms) m ks vs m′
       → (vs ≡ ws) × Reads-alike s (heldIn l′) (mergedBytes s z ms) (heldIn m′)
-  pub replayed : (s z ms : List ℕ) (l l′ m m′ : Lists) (c : CallRows) (before after after′ : List ℕ)
-      → mergeRefusal s z ms ≡ 0 → Own-calls s z ms (callsOf c) → Opened s l → Replays-in s l c before after 0 l′
-      → Opened (mergedBytes s z ms) m → Replays-in (mergedBytes s z ms) m c before after′ 0 m′
+  pub replayed : (s z ms rests : List ℕ) (l l′ m m′ : Lists) (c : CallRows) (before after after′ : List ℕ)
+      → mergeRefusal s z ms ≡ 0 → Own-calls s z ms (callsOf c) → Opened s rests l → Replays-in s l c before after 0 l′
+      → Opened (mergedBytes s z ms) rests m → Replays-in (mergedBytes s z ms) m c before after′ 0 m′
       → (after′ ≡ after) × Reads-alike s (heldIn l′) (mergedBytes s z ms) (heldIn m′)

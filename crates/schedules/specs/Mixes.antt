@@ -4,7 +4,7 @@ use mathlib.Core.List.{List, [], _∷_, _++_}
 use Prim.Native.Nat.{ℕ, zero, suc}
 use lib.ListN.{take}
 use Rattle.model.specs.Layout.{tableOf}
-use Rattle.model.specs.Boards.{emptyBoard, builtinBackoffs}
+use Rattle.model.specs.Boards.{emptyBoard}
 use Rattle.model.specs.Effects.{Said}
 use Rattle.model.specs.Pools.{Call, history}
 use Rattle.boards.specs.Layout.{Lists}
@@ -46,12 +46,12 @@ answersIn (replayed c before after f ∷ xs) = answersBy f c after ++ answersIn 
 
 -- rule 7.10
 pub record Mixed-calls : Type 0 where
-  pub demand : (s : List ℕ) (l : Lists) (xs : List Act) (l′ : Lists)
-      → Opened s l → Acts s l xs l′ → Keeps-demand-3 s (callsIn xs) (heldIn l′)
-  pub says : (s : List ℕ) (l : Lists) (xs : List Act) (l′ : Lists)
-      → Opened s l → Acts s l xs l′
-      → answersIn xs ≡ answerNumbers (history (tableOf s) (emptyBoard builtinBackoffs) (callsIn xs))
+  pub demand : (s rests : List ℕ) (l : Lists) (xs : List Act) (l′ : Lists)
+      → Opened s rests l → Acts s l xs l′ → Keeps-demand-3 s rests (callsIn xs) (heldIn l′)
+  pub says : (s rests : List ℕ) (l : Lists) (xs : List Act) (l′ : Lists)
+      → Opened s rests l → Acts s l xs l′
+      → answersIn xs ≡ answerNumbers (history (tableOf s) (emptyBoard rests) (callsIn xs))
   -- so wherever a read stands in the mix, it answers what the schedule up to there has left
-  pub between : (s : List ℕ) (l : Lists) (xs ys : List Act) (l′ : Lists)
-      → Opened s l → Acts s l (xs ++ ys) l′
-      → (g : Lists) × Keeps-demand-3 s (callsIn xs) (heldIn g) × Acts s g ys l′
+  pub between : (s rests : List ℕ) (l : Lists) (xs ys : List Act) (l′ : Lists)
+      → Opened s rests l → Acts s l (xs ++ ys) l′
+      → (g : Lists) × Keeps-demand-3 s rests (callsIn xs) (heldIn g) × Acts s g ys l′

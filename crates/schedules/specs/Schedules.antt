@@ -7,7 +7,7 @@ use mathlib.Core.List.{List, [], _∷_, _++_}
 use Prim.Native.Nat.{ℕ, _<_}
 use lib.ListN.{length, getD, drop}
 use Rattle.model.specs.Layout.{tableOf}
-use Rattle.model.specs.Boards.{Board, builtinBackoffs, emptyBoard, messageAt, senderAt}
+use Rattle.model.specs.Boards.{Board, emptyBoard, messageAt, senderAt}
 use Rattle.model.specs.Effects.{Said, numberOf, Ended}
 use Rattle.model.specs.Pools.{Call, Exchange, afterAll, history, quiet, matchReads, noRead}
 use Rattle.model.specs.Demands.{boardAfter, Run-of, Quiet-at}
@@ -48,32 +48,33 @@ pub record Reads-as (s : List ℕ) (h : Held) (b : Board) : Type 0 where
   pub quiet-reads : quietAnswer s h ≡ quiet b
 
 -- rules 7.2 to 7.9: h′ and its reads are those that demand 3 speaks of after these calls
-pub record Keeps-demand-3 (s : List ℕ) (ks : List Call) (h′ : Held) : Type 0 where
-  pub leaves : boardOf s h′ ≡ boardAfter (tableOf s) builtinBackoffs ks
-  pub reads : Reads-as s h′ (boardAfter (tableOf s) builtinBackoffs ks)
+pub record Keeps-demand-3 (s rests : List ℕ) (ks : List Call) (h′ : Held) : Type 0 where
+  pub leaves : boardOf s h′ ≡ boardAfter (tableOf s) rests ks
+  pub reads : Reads-as s h′ (boardAfter (tableOf s) rests ks)
   pub accepted : refusalOf s h′ ≡ 0
-  pub run : Run-of (tableOf s) builtinBackoffs ks
-  pub quietly : quiet (boardOf s h′) ≡ true → Quiet-at (tableOf s) builtinBackoffs ks
+  pub run : Run-of (tableOf s) rests ks
+  pub quietly : quiet (boardOf s h′) ≡ true → Quiet-at (tableOf s) rests ks
 
--- rule 6.3: lists whose board was just opened; the others are of their lengths and hold anything
-pub record Opened (s : List ℕ) (l : Lists) : Type 0 where
+-- rules 6.3 and 9.10: lists whose board was just opened with a backoff table, given or built in; the others are of
+-- their lengths and hold anything
+pub record Opened (s rests : List ℕ) (l : Lists) : Type 0 where
   pub before : List ℕ
-  pub opens : openNumber s before ≡ 0
-  pub board : l .board ≡ openedNumbers s before
+  pub opens : openNumber s rests before ≡ 0
+  pub board : l .board ≡ openedNumbers s rests before
   pub sized : Sized l
 
 -- rule 7.10
 pub record Public-calls : Type 0 where
   pub schedule : (s : List ℕ) (l : Lists) (ks : List Call) (ws : List Said) (l′ : Lists)
       → refusalOf s (heldIn l) ≡ 0 → Calls-in-turn s l ks ws l′ → Is-schedule s (heldIn l) ks ws (heldIn l′)
-  pub opened : (s : List ℕ) (l : Lists) → Opened s l
-      → (refusalOf s (heldIn l) ≡ 0) × (boardOf s (heldIn l) ≡ emptyBoard builtinBackoffs)
-  pub demand : (s : List ℕ) (l : Lists) (ks : List Call) (ws : List Said) (l′ : Lists)
-      → Opened s l → Calls-in-turn s l ks ws l′
-      → Is-schedule s (heldIn l) ks ws (heldIn l′) × Keeps-demand-3 s ks (heldIn l′)
-  pub replayed : (s : List ℕ) (l : Lists) (c : CallRows) (before after : List ℕ) (l′ : Lists)
-      → Opened s l → Replays-in s l c before after 0 l′ → Keeps-demand-3 s (callsOf c) (heldIn l′)
-      × (after ≡ answerNumbers (history (tableOf s) (emptyBoard builtinBackoffs) (callsOf c))
+  pub opened : (s rests : List ℕ) (l : Lists) → Opened s rests l
+      → (refusalOf s (heldIn l) ≡ 0) × (boardOf s (heldIn l) ≡ emptyBoard rests)
+  pub demand : (s rests : List ℕ) (l : Lists) (ks : List Call) (ws : List Said) (l′ : Lists)
+      → Opened s rests l → Calls-in-turn s l ks ws l′
+      → Is-schedule s (heldIn l) ks ws (heldIn l′) × Keeps-demand-3 s rests ks (heldIn l′)
+  pub replayed : (s rests : List ℕ) (l : Lists) (c : CallRows) (before after : List ℕ) (l′ : Lists)
+      → Opened s rests l → Replays-in s l c before after 0 l′ → Keeps-demand-3 s rests (callsOf c) (heldIn l′)
+      × (after ≡ answerNumbers (history (tableOf s) (emptyBoard rests) (callsOf c))
       ++ drop (callsLen c) before)
   -- whatever is called, no answer of a schedule is 30
   pub history-never-30 : (s : List ℕ) (h : Held) (ks : List Call) (n : ℕ) (z : Exchange) → numberOf (z .said) ≡ 0

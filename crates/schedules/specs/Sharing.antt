@@ -3,13 +3,13 @@ use mathlib.Core.Path.{_≡_}
 use mathlib.Core.Logic.{_≢_}
 use mathlib.Core.List.{List}
 use Prim.Native.Nat.{ℕ, _+_, _<_, _≤_}
-use lib.ListN.{getD}
 use Rattle.model.specs.Layout.{tableOf}
 use Rattle.model.specs.Boards.{Sent}
 use Rattle.model.specs.Effects.{Said, Refused}
+use Rattle.model.specs.Shares.{tally}
 use Rattle.model.specs.Pools.{adds, history}
 use Rattle.model.specs.Demands.{acceptedAdds}
-use Rattle.boards.specs.Layout.{Lists, talliesAt}
+use Rattle.boards.specs.Layout.{Lists, talliesIn}
 use Rattle.refusals.specs.Held.{heldIn}
 use Rattle.refusals.specs.Calls.{boardOf, refusalOf}
 use Rattle.calls.specs.Calls.{Calls}
@@ -18,11 +18,11 @@ use Rattle.schedules.specs.Mixes.{Act, Acts, callsIn}
 
 -- sender i's tally, in the board's list
 abbrev pub tallyIn : Lists → ℕ → ℕ
-tallyIn l i = getD (l .board) (talliesAt + i) 0
+tallyIn l i = tally (talliesIn (l .board)) i
 
 -- rule 9.9
 pub record Shared-calls : Type 0 where
-  pub opened : (s : List ℕ) (l : Lists) (i : ℕ) → Opened s l → tallyIn l i ≡ 0
+  pub opened : (s rests : List ℕ) (l : Lists) (i : ℕ) → Opened s rests l → tallyIn l i ≡ 0
   -- from any accepted lists on, calls and replays in any mix raise a tally by the sender's accepted adds
   pub tallied : (s : List ℕ) (l : Lists) (xs : List Act) (l′ : Lists) (i : ℕ)
       → refusalOf s (heldIn l) ≡ 0 → Acts s l xs l′

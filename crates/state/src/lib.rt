@@ -4,7 +4,7 @@ ghost use mathlib.Core.List.{List};
 ghost use Prim.Native.Nat.{_-_, _<_, _≤_};
 ghost use lib.ListN.{length, getD};
 ghost use Rattle.model.specs.Tables as MT;
-ghost use Rattle.model.specs.Boards.{Board, Message, noMessage, channelOf, isConsumed, builtinBackoffs, backoffAt};
+ghost use Rattle.model.specs.Boards.{Board, Message, noMessage, channelOf, isConsumed};
 ghost use Rattle.model.specs.Jobs as MJ;
 ghost use Rattle.model.specs.Layout.{tableRefusal, tableOf};
 ghost use Rattle.model.specs.Effects.{wordOf, valueOf, numberOf};
@@ -436,15 +436,4 @@ pub fn more(k: u8) -> u8
         return MOST;
     }
     k + 1
-}
-
-// The rests by the count of retries, from 1 on.
-const RESTS: [u8; 16] = [0, 1, 1, 2, 2, 4, 4, 8, 8, 16, 16, 16, 32, 32, 32, 32];
-
-// The rests at a count of retries.
-pub fn rests_at(k: u8) -> u8
-    requires { ⌜ (1 ≤ k) × (k ≤ 16) ⌝ }
-    ensures { λ r. ⌜ r ≡ backoffAt builtinBackoffs k ⌝ }
-{
-    RESTS[(k - 1) as usize]
 }

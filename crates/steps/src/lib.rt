@@ -5,7 +5,7 @@ ghost use mathlib.Core.List.{List};
 ghost use Prim.Native.Nat.{ℕ, _<_, _≤_};
 ghost use lib.Dec.{eqb};
 ghost use lib.ListN.{length, getD};
-ghost use Rattle.model.specs.Boards.{builtinBackoffs};
+ghost use Rattle.model.specs.Boards.{backoffsPass};
 ghost use Rattle.model.specs.Effects.{does};
 ghost use Rattle.model.specs.Layout.{tableRefusal, tableOf};
 ghost use Rattle.model.specs.Steps as MS;
@@ -68,11 +68,12 @@ fn job_step(
     keys: &[u32],
     units: &[u16],
     statuses: &[u8],
+    backoffs: &[u16],
 ) -> Effect
-    requires { ⌜ (tableRefusal (now table) ≡ 0) × (d .state ≡ S.Working) ⌝ }
+    requires { ⌜ (tableRefusal (now table) ≡ 0) × (d .state ≡ S.Working) × (backoffsPass (now backoffs) ≡ true) ⌝ }
     requires { ⌜ Ready (tableOf (now table)) (now channels) (now keys) (now units) (now statuses) n count d ⌝ }
     requires { ⌜ Passed start n (now statuses) ⌝ }
-    ensures { λ r. ⌜ ((o : Others) → length (o .matches) ≡ count → o .backoffs ≡ builtinBackoffs
+    ensures { λ r. ⌜ ((o : Others) → length (o .matches) ≡ count → o .backoffs ≡ now (backoffs .entry)
         → o .units ≡ now (units .entry) → effectIn (tableOf (now (table .entry))) r
         ≡ MS.job-step (tableOf (now (table .entry)))
         (boardBy (now (channels .entry)) (now (keys .entry)) (now (statuses .entry)) n o)
@@ -106,7 +107,17 @@ fn job_step(
         }
         Phase::PassEnd => {
             let v = sees(table, d, n, channels, statuses);
-            ends::pass_end_step(table, d, channel, opened, v.sync, v.channel, v.consumed)
+            let rests = backoffs::rests_at(backoffs, state::more(j.retries));
+            ends::pass_end_step(
+                table,
+                d,
+                channel,
+                opened,
+                v.sync,
+                v.channel,
+                v.consumed,
+                rests,
+            )
         }
         Phase::Backoff(rests) => ends::backoff_step(table, d, rests, channel),
     }
@@ -153,12 +164,14 @@ pub fn effect_of(
     keys: &[u32],
     statuses: &[u8],
     links: &[u16],
+    backoffs: &[u16],
 ) -> Effect
-    requires { ⌜ (tableRefusal (now table) ≡ 0) × (senderSteps d ≡ true) × (length (now links) ≡ linksLen) ⌝ }
+    requires { ⌜ (tableRefusal (now table) ≡ 0) × (senderSteps d ≡ true) × (length (now links) ≡ linksLen)
+        × (backoffsPass (now backoffs) ≡ true) ⌝ }
     requires { ⌜ Ready (tableOf (now table)) (now channels) (now keys) (unitsIn (now links)) (now statuses) n count
         d ⌝ }
     requires { ⌜ Passed start n (now statuses) ⌝ }
-    ensures { λ r. ⌜ ((o : Others) → length (o .matches) ≡ count → o .backoffs ≡ builtinBackoffs
+    ensures { λ r. ⌜ ((o : Others) → length (o .matches) ≡ count → o .backoffs ≡ now (backoffs .entry)
         → o .matched ≡ matchedIn (now (links .entry)) → o .wakers ≡ wakersIn (now (links .entry))
         → o .units ≡ unitsIn (now (links .entry)) → MS.stateStep (tableOf (now (table .entry)))
         (boardBy (now (channels .entry)) (now (keys .entry)) (now (statuses .entry)) n o)
@@ -174,7 +187,18 @@ pub fn effect_of(
         },
         State::Working => {
             let units = boards::units(links);
-            job_step(table, d, start, n, count, channels, keys, units, statuses)
+            job_step(
+                table,
+                d,
+                start,
+                n,
+                count,
+                channels,
+                keys,
+                units,
+                statuses,
+                backoffs,
+            )
         }
         State::Blocked => {
             let matched = boards::matched(links);

@@ -8,7 +8,7 @@ use lib.ListN.{set}
 use Rattle.state.specs.declared.Change as DG
 use Rattle.state.specs.declared.Change.the-variants as G
 use Rattle.state.specs.declared.Sender as DD
-use Rattle.boards.specs.Boards.{HeldBoard}
+use Rattle.boards.specs.Boards.{HeldBoard, withSenders}
 use Rattle.writes.specs.Writes.{Sure, SignalFits, signalBy, signalledBy, sendersBy, matchesBy}
 use Rattle.writes.specs.declared.Move as DM
 use Rattle.writes.specs.Moves.{messagesBy, movedBoard}
@@ -50,5 +50,5 @@ module _ (g : DG.Change) (x : ℕ) (e : x ≡ signalBy g) (ds : List DD.Sender) 
 pub moved-by : (b : HeldBoard) (i : ℕ) (m : DM.Move) (n k : ℕ) (ds : List DD.Sender)
     → n ≡ messagesBy (m .adds) (b .messages)
     → k ≡ matchesBy (m .change) (b .matches) → ds ≡ sendersBy (m .change) (set (b .senders) i (m .sender))
-    → record { messages = n; matches = k; senders = ds; closed = b .closed; tallies = b .tallies } ≡ movedBoard b i m
+    → withSenders b n k ds ≡ movedBoard b i m
 moved-by b i m n k ds en ek ed = rw (en, ek, ed)

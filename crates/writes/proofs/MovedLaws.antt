@@ -9,14 +9,14 @@ use lib.Seq.{paste}
 use native.Mathlib.Omega.{arith}
 use Rattle.model.specs.Basics.{flag}
 use Rattle.state.specs.declared.Sender as DD
-use Rattle.boards.specs.Boards.{HeldBoard}
+use Rattle.boards.specs.Boards.{HeldBoard, withSenders}
 use Rattle.writes.specs.Writes.{signalBy, signalledBy, matchesBy}
 use Rattle.writes.specs.declared.Move as DM
 use Rattle.writes.specs.Moves.{messagesBy, movedBoard}
 use Rattle.writes.proofs.ChangeLaws.{signal-none, signal-some, moved-by}
 use Rattle.model.proofs.Parts.{paste-behind}
 use Rattle.rows.specs.Fits.{SenderFits, SendersFit, BoardFits}
-use Rattle.rows.specs.Numbers.{senderNumbers, sendersNumbers, boardNumbers, encodes}
+use Rattle.rows.specs.Numbers.{senderNumbers, sendersNumbers, endNumbers, boardNumbers, encodes}
 use Rattle.rows.specs.Decoded.{boardFrom}
 use Rattle.rows.proofs.DecodeLaws.{from-back}
 use Rattle.writes.specs.Signals.{signalledBoard}
@@ -25,13 +25,7 @@ use Rattle.writes.proofs.SignalLaws.{IsBoard, is-board}
 
 -- the board with another sender at a place, and other counts
 abbrev pub withSender : HeldBoard → ℕ → DD.Sender → ℕ → ℕ → HeldBoard
-withSender b i d n k = record {
-  messages = n;
-  matches = k;
-  senders = set (b .senders) i d;
-  closed = b .closed;
-  tallies = b .tallies;
-}
+withSender b i d n k = withSenders b n k (set (b .senders) i d)
 
 fit-set : (ds : List DD.Sender) (i : ℕ) (d : DD.Sender) → SendersFit ds → SenderFits d → SendersFit (set ds i d)
 fit-set [] i d f g = tt
@@ -45,10 +39,10 @@ unfolding boardNumbers
 written b s i n k d f h g e =
     ap (λ (x : List ℕ). set (set x 0 n) 1 k)
     (e
-    ∙ paste-behind (b .messages ∷ b .matches ∷ []) (sendersNumbers (b .senders) ++ (flag (b .closed) ∷ b .tallies))
+    ∙ paste-behind (b .messages ∷ b .matches ∷ []) (sendersNumbers (b .senders) ++ endNumbers b)
     (senderNumbers d) (21 * i) 21
     ∙ ap (λ (x : List ℕ). b .messages ∷ b .matches ∷ x)
-    (senders-paste (flag (b .closed) ∷ b .tallies) (b .senders) i d (omega (arith, f .all)) (f .each) g))
+    (senders-paste (endNumbers b) (b .senders) i d (omega (arith, f .all)) (f .each) g))
 
 -- the numbers of a sender and the two counts, written
 pub sender-put : (s s′ : List ℕ) (i n k : ℕ) (d : DD.Sender) → encodes s ≡ true → i < 32 → SenderFits d
@@ -60,7 +54,7 @@ sender-put s s′ i n k d ok h g e =
     (record {
       all = length-set (boardFrom s .senders) i d ∙ r .1 .all;
       each = fit-set (boardFrom s .senders) i d (r .1 .each) g;
-      tallied = r .1 .tallied;
+      ends = r .1 .ends;
     })
     (written (boardFrom s) s′ i n k d (r .1) h g
     (e ∙ ap (λ (x : List ℕ). paste x (2 + 21 * i) (senderNumbers d) 21) (sym (r .0))))

@@ -15,10 +15,10 @@ use Rattle.state.specs.declared.State as DS
 use Rattle.state.specs.declared.State.the-variants as S
 use Rattle.state.specs.declared.Sender as DD
 use Rattle.state.specs.Views.{idleIs}
-use Rattle.boards.specs.Boards.{HeldBoard, zeroSender}
+use Rattle.boards.specs.Boards.{HeldBoard, withSenders, zeroSender}
 use Rattle.writes.specs.Writes.{signalledBy}
 use Rattle.rows.specs.Fits.{SenderFits, SendersFit, BoardFits}
-use Rattle.rows.specs.Numbers.{stateNumber, senderNumbers, sendersNumbers, boardNumbers, encodes}
+use Rattle.rows.specs.Numbers.{stateNumber, senderNumbers, sendersNumbers, endNumbers, boardNumbers, encodes}
 use Rattle.rows.specs.Decoded.{boardFrom}
 use Rattle.rows.proofs.SenderLaws.{numbers-listed}
 use Rattle.rows.proofs.Encoded.{encoded-ok, board-back}
@@ -89,13 +89,8 @@ module _ (m k : ℕ) (ds : List DD.Sender) (rest : List ℕ) (i : ℕ) (h : i < 
 
 -- the first i senders signalled
 abbrev pub signalledTo : ℕ → ℕ → HeldBoard → HeldBoard
-signalledTo n i b = record {
-  messages = b .messages;
-  matches = b .matches;
-  senders = map (signalledBy n) (take i (b .senders)) ++ drop i (b .senders);
-  closed = b .closed;
-  tallies = b .tallies;
-}
+signalledTo n i b =
+    withSenders b (b .messages) (b .matches) (map (signalledBy n) (take i (b .senders)) ++ drop i (b .senders))
 
 module _ (n : ℕ) where
   signalled-fits : (d : DD.Sender) → SenderFits d → SenderFits (signalledBy n d)
@@ -114,7 +109,7 @@ module _ (n : ℕ) where
   to-fits : (b : HeldBoard) (i : ℕ) → BoardFits b → BoardFits (signalledTo n i b)
   to-fits b i f =
       let p = part-fits (b .senders) i (f .each) in
-      record { all = p .1 ∙ f .all; each = p .0; tallied = f .tallied }
+      record { all = p .1 ∙ f .all; each = p .0; ends = f .ends }
 
   -- one sender more is signalled
   pub signal-next : (b : HeldBoard) (i own : ℕ) (s s′ : List ℕ) → BoardFits b → i < 32 → own ≡ n + 1
@@ -126,8 +121,7 @@ module _ (n : ℕ) where
       let ds = map (signalledBy n) (take i (b .senders)) ++ drop i (b .senders) in
       let step = in-place-step (signalledBy n) zeroSender (b .senders) i (omega (arith, f .all)) in
       q ∙ ap (λ (x : List ℕ). signalAt x (2 + 21 * i) own) p
-      ∙ signal-here (b .messages) (b .matches) ds (flag (b .closed) ∷ b .tallies) i (omega (arith, g .all)) (g .each) n
-      own e
+      ∙ signal-here (b .messages) (b .matches) ds (endNumbers b) i (omega (arith, g .all)) (g .each) n own e
       ∙ rw (step, add-one i)
 
   -- all are signalled

@@ -9,7 +9,7 @@ use Rattle.columns.specs.Columns.{columnsOf, daysAt}
 use Rattle.columns.specs.MatchColumns.{matchesOf}
 use Rattle.state.specs.declared.Change as DG
 use Rattle.state.specs.declared.Change.the-variants as G
-use Rattle.boards.specs.Boards.{HeldBoard}
+use Rattle.boards.specs.Boards.{HeldBoard, withSenders}
 use Rattle.boards.specs.Calls.{Held, held}
 use Rattle.writes.specs.Writes.{Sure, sendersBy, matchesBy}
 use Rattle.writes.specs.Writes.{statusesBy, matchedBy, wakersBy, chordsBy, matchMessagesBy}
@@ -39,17 +39,14 @@ talliedBoard b i u = record {
   senders = b .senders;
   closed = b .closed;
   tallies = putIf u (b .tallies) i (tally (b .tallies) i + 1);
+  backoffs = b .backoffs;
 }
 
 -- the board after a move of the sender at place i, but for its tally
 abbrev pub movedBoard : HeldBoard → ℕ → DM.Move → HeldBoard
-movedBoard b i m = record {
-  messages = messagesBy (m .adds) (b .messages);
-  matches = matchesBy (m .change) (b .matches);
-  senders = sendersBy (m .change) (set (b .senders) i (m .sender));
-  closed = b .closed;
-  tallies = b .tallies;
-}
+movedBoard b i m =
+    withSenders b (messagesBy (m .adds) (b .messages)) (matchesBy (m .change) (b .matches))
+    (sendersBy (m .change) (set (b .senders) i (m .sender)))
 
 -- what is held after it
 abbrev pub movedHeld : Held → ℕ → DM.Move → Held

@@ -5,7 +5,7 @@ use Prim.Native.Nat.{ℕ, _+_}
 use lib.Dec.{eqb}
 use lib.ListN.{getD, set}
 use Rattle.model.specs.Basics.{pick}
-use Rattle.boards.specs.Boards.{HeldBoard}
+use Rattle.boards.specs.Boards.{HeldBoard, withSenders}
 use Rattle.writes.specs.Writes.{signalledBy}
 
 -- the sender whose numbers are from a place on is not idle, and own is its own message plus 1
@@ -18,10 +18,4 @@ signalAt s at own = pick (ownedAt s at own) (set s (at + 1) 1) s
 
 -- every sender signalled, where message n is its own
 abbrev pub signalledBoard : ℕ → HeldBoard → HeldBoard
-signalledBoard n b = record {
-  messages = b .messages;
-  matches = b .matches;
-  senders = map (signalledBy n) (b .senders);
-  closed = b .closed;
-  tallies = b .tallies;
-}
+signalledBoard n b = withSenders b (b .messages) (b .matches) (map (signalledBy n) (b .senders))

@@ -13,7 +13,7 @@ use Rattle.state.specs.declared.Change.the-variants as G
 use Rattle.state.specs.declared.Sender as DD
 use Rattle.state.specs.declared.Effect as DE
 use Rattle.state.specs.Views.{idleIs}
-use Rattle.boards.specs.Boards.{HeldBoard}
+use Rattle.boards.specs.Boards.{HeldBoard, withSenders}
 
 -- eight numbers hold a match of any chord
 abbrev pub ChordsFit : Table → Type 0
@@ -128,10 +128,6 @@ sendersBy (G.Signal n) ds = map (signalledBy n) ds
 
 -- the board after an effect of sender i
 abbrev pub effectBoard : HeldBoard → ℕ → DE.Effect → HeldBoard
-effectBoard b i e = record {
-  messages = b .messages;
-  matches = matchesBy (e .change) (b .matches);
-  senders = sendersBy (e .change) (set (b .senders) i (e .sender));
-  closed = b .closed;
-  tallies = b .tallies;
-}
+effectBoard b i e =
+    withSenders b (b .messages) (matchesBy (e .change) (b .matches))
+    (sendersBy (e .change) (set (b .senders) i (e .sender)))

@@ -6,7 +6,7 @@ use Prim.Native.Nat.{ℕ}
 use native.Mathlib.Omega.{arith}
 use borrow.Author.Needs.{needs}
 use lib.Dec.{leb}
-use lib.ListN.{getD, length, drop}
+use lib.ListN.{getD, length}
 use Rattle.model.specs.Tables.{Table}
 use Rattle.model.specs.Layout.{tableOf}
 use Rattle.model.specs.Boards.{Sent}
@@ -16,7 +16,7 @@ use Rattle.state.specs.Views.{idleIs}
 use Rattle.boards.specs.declared.Call as DC
 use Rattle.boards.specs.Boards.{HeldBoard, closedIn, zeroSender}
 use Rattle.boards.specs.Calls.{sentIn, callIn}
-use Rattle.boards.specs.Layout.{boardLen, talliesAt}
+use Rattle.boards.specs.Layout.{boardLen, talliesIn}
 use Rattle.rows.specs.Decoded.{boardFrom}
 use Rattle.rows.proofs.WalkLaws.{all-numbers}
 use Rattle.adds.specs.Refusals.{refusalBy}
@@ -47,7 +47,7 @@ room-is c =
     let at = d .before .place-of in
     c .has-room .ensures
     ∙ ap (λ (ks : List ℕ). hasRoom ks (at .result)) (c .before .tallies .ensures .0)
-    ∙ ap (hasRoom (drop talliesAt (start d .args .board .now))) (at .ensures .0)
+    ∙ ap (hasRoom (talliesIn (start d .args .board .now))) (at .ensures .0)
 
 -- an add is refused by what is read
 by-add : (t : Table) (b : HeldBoard) (keys : List ℕ) (i : ℕ) (x : Sent) (idle timely room : Bool) (number : ℕ)

@@ -4,6 +4,7 @@ use native.Mathlib.Omega.{arith}
 use borrow.Author.Needs.{needs}
 use lib.IntN.{pos}
 use lib.ListN.{length, getD, length-map}
+use Rattle.model.specs.Boards.{backoffsPass}
 use Rattle.model.specs.Effects.{does}
 use Rattle.model.specs.Layout.{tableOf}
 use Rattle.model.specs.Steps.{stateStep}
@@ -19,7 +20,7 @@ use Rattle.rows.specs.Decoded.{boardFrom}
 use Rattle.rows.proofs.WalkLaws.{all-numbers}
 use Rattle.refusals.specs.Held.{heldOf}
 use Rattle.refusals.specs.Calls.{boardOf, refusalOf}
-use Rattle.refusals.proofs.Refusals.{table-accepted}
+use Rattle.refusals.proofs.Refusals.{table-accepted, board-rests}
 use Rattle.moves.proofs.StepLaws.{SenderIs, others, ready-by, state-by, is-ready, does-it, is-sure}
 use Rattle.moves.proofs.StepLaws.{effect-accepted}
 use Rattle.moves.proofs.MoveLaws.{sender-is, step-move}
@@ -64,18 +65,22 @@ columns-are : (c : tie.After-statuses)
     (c .before .channels .result .now ≡ columnsIn l .channels) × (c .statuses .result .now ≡ columnsIn l .statuses)
 columns-are c = (c .before .channels .ensures .0, c .statuses .ensures .0)
 
+backoffs-requires : tie.Need-backoffs-requires
+backoffs-requires c κs = numbers (start (caught c))
+
 effect-of-requires : tie.Need-effect-of-requires
 unfolding boardFrom
 effect-of-requires c κs =
-    let f = caught c in
+    let f = caught (c .before) in
     let s = start f in
     let a = s .args in
-    let e = columns-are c in
+    let e = columns-are (c .before) in
     let z = accepted s in (
       (
         table-accepted _ _ _ _ z,
         ap senderSteps (f .sender-at .ensures) ∙ s .pre .1 .0 .1,
         s .pre .0 .sized .links-len,
+        ap backoffsPass (c .backoffs .ensures .0) ∙ board-rests _ _ _ _ z,
       ),
       (
         ready-by (a .keys .now) (e .0) (e .1)
@@ -87,13 +92,14 @@ effect-of-requires c κs =
 
 -- the effect is the model's
 by-effect : (c : tie.After-effect-of)
-    → let s = start (caught (c .before)) in
+    → let w = c .before .before in
+    let s = start (caught w) in
     let t = tableOf (s .args .table .now) in
-    let d = senderIn t (caught (c .before) .sender-at .result) in
+    let d = senderIn t (caught w .sender-at .result) in
     stateStep t (boardOf (s .args .table .now) (view s)) d (d .state) ≡ does (effectIn t (c .effect-of .result))
 unfolding boardFrom
 by-effect c =
-    let w = c .before in
+    let w = c .before .before in
     let s = start (caught w) in
     let t = s .args .table .now in
     let g = view s in
@@ -101,7 +107,8 @@ by-effect c =
     let o = others t (g .board) (g .columns) (g .matches) (accepted s) in
     sym (state-by (s .args .keys .now) (e .0) (e .1) (tableOf t) (getD (s .args .board .now) 0 0) o
     (senderIn (tableOf t) (caught w .sender-at .result)))
-    ∙ c .effect-of .ensures o (length-from (matchIn (tableOf t) (g .matches)) 0 (g .board .matches)) refl refl refl refl
+    ∙ c .effect-of .ensures o (length-from (matchIn (tableOf t) (g .matches)) 0 (g .board .matches))
+    (sym (c .before .backoffs .ensures .0)) refl refl refl
 
 eight : (c : tie.After-effect-of) → length (c .effect-of .result .sender .job .chosen) ≡ 8
 eight c = simp length-map at (c .effect-of .ok .1 .1 .1 .1 .0 .1 .1 .1 .1 .1 .1 .1 .1 .0 .1 .1 .1 .1 .1 .0 .1 .0 .1)
@@ -114,7 +121,7 @@ returns : tie.Need-returns
 unfolding boardFrom
 returns c =
     let q = c .before in
-    let f = caught (q .before) in
+    let f = caught (q .before .before) in
     let s = start f in
     let a = s .args in
     let t = a .table .now in
@@ -142,5 +149,6 @@ step-move-spec =
     shared-slice-read-effect-of-2
     (λ c κs. search needs)
     (λ c κs. search needs)
+    backoffs-requires
     effect-of-requires
     returns)

@@ -1,15 +1,15 @@
 -- `plays::play` meets its contract: refused by itself, or its move, written.
-use mathlib.Core.Path.{_≡_, sym, ap, _∙_}
+use mathlib.Core.Path.{_≡_, refl, sym, ap, _∙_}
 use Prim.Native.Nat.{ℕ, _+_, _<_, _≤_}
 use native.Mathlib.Omega.{arith}
 use borrow.Author.Needs.{needs}
 use lib.ListN.{getD}
-use lib.Seq.{getD-drop}
 use Rattle.model.specs.Layout.{tableOf}
 use Rattle.model.proofs.Shares.{share-most}
 use Rattle.state.specs.Views.{saidIn}
 use Rattle.boards.specs.Calls.{Held, callIn}
 use Rattle.boards.specs.Layout.{talliesAt, Lists, lists, statusesIn}
+use Rattle.boards.proofs.PartLaws.{getD-part}
 use Rattle.rows.specs.Decoded.{boardFrom}
 use Rattle.rows.proofs.WalkLaws.{all-numbers}
 use Rattle.refusals.specs.Held.{Accepted}
@@ -71,13 +71,13 @@ few : (s : tie.Start) → (getD (s .args .board .now) 0 0 ≤ 1024) × (getD (s 
 unfolding boardFrom
 few s = (messages-few _ _ _ _ (accepted s .accepted), matches-few _ _ _ _ (accepted s .accepted))
 
-tally-few : (s : tie.Start) (i : ℕ) → getD (s .args .board .now) (talliesAt + i) 0 ≤ 1024
+tally-few : (s : tie.Start) (i : ℕ) → i < 32 → getD (s .args .board .now) (talliesAt + i) 0 ≤ 1024
 unfolding boardFrom
-tally-few s i =
+tally-few s i l =
     omega (
       arith,
       share-most (board-shares _ _ _ _ (accepted s .accepted)) i,
-      getD-drop talliesAt (s .args .board .now) i 0,
+      getD-part talliesAt 32 (s .args .board .now) (talliesAt + i) i 0 refl l,
     )
 
 -- the lists once the move is written
@@ -131,7 +131,8 @@ write-move-requires c κs =
     let k = c .before .before .before .before .before in
     let s = begun (k .before) in
     let a = accepted s in
-    (a .numbers, caller-few k, a .sized, few s .0, few s .1, tally-few s _, k .before .move-of .ensures .1 .0)
+    let i = caller-few k in
+    (a .numbers, i, a .sized, few s .0, few s .1, tally-few s _ i, k .before .move-of .ensures .1 .0)
 
 slice-read-start-after : tie.Need-slice-read-start-after
 slice-read-start-after c =

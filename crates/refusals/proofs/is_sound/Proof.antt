@@ -12,17 +12,16 @@ use native.Mathlib.Omega.{arith}
 use Rattle.model.proofs.Tests.{both}
 use Rattle.model.specs.Boards.{Board}
 use Rattle.model.specs.Layout.{tableOf}
-use Rattle.model.specs.Shares.{sharesOk}
 use Rattle.model.specs.Sound.{noneShared}
 use Rattle.model.specs.Tables.{Table}
 use Rattle.columns.specs.Columns.{columnsOf}
 use Rattle.state.specs.Views.{senderIn}
-use Rattle.boards.specs.Layout.{talliesAt, Lists, lists, columnsIn, matchesIn, unitsIn}
+use Rattle.boards.specs.Layout.{Lists, lists, columnsIn, matchesIn, unitsIn}
 use Rattle.soundness.specs.Tests.{messagesOk}
 use Rattle.senders.specs.Seen.{Seen}
 use Rattle.rows.specs.Decoded.{boardFrom}
 use Rattle.refusals.specs.Held.{soundIn}
-use Rattle.refusals.specs.Rows.{rowsOk, sendersIn}
+use Rattle.refusals.specs.Rows.{rowsOk, sendersIn, countsOk}
 use Rattle.refusals.proofs.Parts.{matchesTest}
 use Rattle.refusals.proofs.SoundNumbers.{boardOn, numbers-sound, seen-numbers, known-numbers}
 use Rattle.refusals.proofs.is_sound.Statement.{statement}
@@ -33,10 +32,6 @@ table s = tableOf (s .args .table .now)
 
 abbrev numbers : tie.Start → List ℕ
 numbers s = s .args .board .now
-
--- the counts and the shares
-abbrev countsTest : List ℕ → Bool
-countsTest s = (leb (getD s 0 0) 1024 && leb (getD s 1 0) 1024) && sharesOk (drop talliesAt s) (getD s 0 0)
 
 -- what is lent, with any keys
 module _ (s : tie.Start) (keys : List ℕ) where
@@ -50,7 +45,7 @@ module _ (s : tie.Start) (keys : List ℕ) where
   sees = seen-numbers (table s) (numbers s) (columnsIn lent) (matchesIn lent)
 
   in-order : soundIn (s .args .table .now) lent
-      ≡ (countsTest (numbers s) && (messagesOk (table s) board (columnsIn lent) (getD (numbers s) 0 0)
+      ≡ (countsOk (numbers s) && (messagesOk (table s) board (columnsIn lent) (getD (numbers s) 0 0)
       && (matchesTest (table s) (boardFrom (numbers s)) (columnsIn lent) (matchesIn lent)
       && (rowsOk (table s) board 32 (drop 2 (numbers s))
       && noneShared (map (senderIn (table s)) (sendersIn (numbers s)))))))
@@ -68,7 +63,7 @@ abbrev counts : tie.After-messages-ok → tie.Else1
 counts c = c .before .before .before .before .before .before .before
 
 -- the counts are within the limits
-counted : (c : tie.Else1) → countsTest (numbers (start c)) ≡ true
+counted : (c : tie.Else1) → countsOk (numbers (start c)) ≡ true
 counted c = sym (c .before .counts-ok .ensures) ∙ not-false _ (c .if1 .left)
 
 few : (c : tie.Else1) → (getD (numbers (start c)) 0 0 ≤ 1024) × (getD (numbers (start c)) 1 0 ≤ 1024)

@@ -9,8 +9,8 @@ use borrow.Author.Needs.{needs}
 use Rattle.steps.proofs.effect_of.Statement.{statement}
 use Rattle.steps.proofs.effect_of.Tie as tie
 
-abbrev start : tie.After-shared-slice-known5 → tie.Start
-start c = c .before .before .before .before .before
+abbrev start : tie.After-shared-slice-known6 → tie.Start
+start c = c .before .before .before .before .before .before
 
 returns : tie.Need-returns
 returns c =
@@ -22,7 +22,7 @@ job-step-requires : tie.Need-job-step-requires
 job-step-requires c κs =
     let g = c .before in
     let s = start (g .before .before) in (
-      (s .pre .0 .0, g .enum-told2 .given .1),
+      (s .pre .0 .0, g .enum-told2 .given .1, s .pre .0 .3),
       (rw (c .units .ensures .0) (s .pre .1 .0), s .pre .1 .1),
     )
 

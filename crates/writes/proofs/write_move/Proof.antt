@@ -41,7 +41,7 @@ tallied-is w =
     let s = start w in
     let a = s .args in
     subst⁻¹ (λ (x : List ℕ). IsBoard x (talliedBoard (boardFrom (a .board .now)) (a .i) (a .m .adds)))
-    (w .put-added .ensures .1) (tallied (a .board .now) (a .i) (s .pre .0) (a .m .adds))
+    (w .put-added .ensures .1) (tallied (a .board .now) (a .i) (s .pre .0) (s .pre .1) (a .m .adds))
 
 count-is : (w : tie.After-put-added) (j : ℕ) → j < talliesAt
     → getD (tallied-now w) j 0 ≡ getD (start w .args .board .now) j 0
