@@ -1,6 +1,6 @@
 #!/usr/bin/env python3
-# The expected printout of edges, from document 01 and requests 2, 3, 8 and 13 of document 02 alone: each line with the
-# sentence or the reason that gives it.
+# The expected printout of edges, from document 01 and requests 2, 3, 4, 8 and 13 of document 02 alone: each line with
+# the sentence or the reason that gives it.
 # Run: python3 oracle.py | diff - stdout
 #
 # A line of calls: their answers, and `kept` where every list must be as found ("a refusal returns the number only and
@@ -9,14 +9,15 @@
 # after it, of day 0, a close of day 31, each with its `kept`, then quiet, that desk's slip, item 0, match 0; in the
 # lines on tables and lengths each call is made on an empty board, all by one desk, whose number is the day closed.
 #
-# The five lists: board, 707 numbers (items, matches, then 21 for each of 32 desks, 1 where a day is closed, else 0, and
-# for each desk its tally, how many items it has added); bytes, 3,072 (trays, statuses, rules of matches); links, 11,264
-# (matches of items, wakers, eight items of each match, units); keys, 2,049 (properties, days, and the close day,
-# anything where none is closed); cents, 1,024. A desk's 21: state (0 idle, 1 at work, 2 blocked), signal, own item,
-# waker, slip, match made (these four plus 1, 0 for none), item in hand, rule, phase, place, second number, mark, how
-# often `again`, eight chosen items. Phases: 0 look, 1 claim, 2 revert (second: claims made), 3 consume (second: match
-# plus 1), 4 tell, 5 wake, 6 free, 7 signal, 8 pass end, 9 rest (place: rests left less 1). Wake, signal and pass end
-# have no place. A rule, a place, the claims made and the count of `again` are bytes; signal and mark are 0 or 1.
+# The five lists: board, 723 numbers (items, matches, then 21 for each of 32 desks, 1 where a day is closed, else 0, for
+# each desk its tally, how many items it has added, and from 707 on the rest table, 16 numbers); bytes, 3,072 (trays,
+# statuses, rules of matches); links, 11,264 (matches of items, wakers, eight items of each match, units); keys, 2,049
+# (properties, days, and the close day, anything where none is closed); cents, 1,024. A desk's 21: state (0 idle, 1 at
+# work, 2 blocked), signal, own item, waker, slip, match made (these four plus 1, 0 for none), item in hand, rule,
+# phase, place, second number, mark, how often `again`, eight chosen items. Phases: 0 look, 1 claim, 2 revert (second:
+# claims made), 3 consume (second: match plus 1), 4 tell, 5 wake, 6 free, 7 signal, 8 pass end, 9 rest (place: rests
+# left less 1). Wake, signal and pass end have no place. A rule, a place, the claims made and the count of `again` are
+# bytes; signal and mark are 0 or 1.
 
 
 def marked(word):
@@ -125,6 +126,7 @@ for name in ["board", "bytes", "links", "keys", "cents"]:
     seven(name, 13, 0, 0, 0, 0, 14, 15)
     broken(name)
     if name == "board":
+        broken("board without rests")  # 707 numbers
         broken("board without tallies")  # 675 numbers
     if name == "links":
         broken("links without units")  # 10,240 numbers
@@ -144,9 +146,10 @@ broken("last byte 2")
 print("opened, last byte 2: 0")
 print("open, 674 numbers: 30 kept")
 print("open, 675 numbers: 30 kept")
-print("open, 706 numbers: 30 kept")
-print("open, 707 numbers: 0")
-print("open, 708 numbers: 30 kept")
+print("open, 707 numbers: 30 kept")
+print("open, 722 numbers: 30 kept")
+print("open, 723 numbers: 0")
+print("open, 724 numbers: 30 kept")
 broken("30 before 8")
 
 # 5. Refusals in their order, on table P where desk 0 is blocked.
@@ -368,7 +371,8 @@ replay("no room", "31 kept")
 replay("30 before 31", "30 kept")
 replay("rows that fit, a board that is not sound", "30 kept")
 replay("rows that fit, a board of 675 numbers", "30 kept")
-replay("rows that fit, a board of 706 numbers", "30 kept")
+replay("rows that fit, a board of 707 numbers", "30 kept")
+replay("rows that fit, a board of 722 numbers", "30 kept")
 replay("rows that fit, an add too many", "30 kept")
 replay("rows that fit, 529 adds of desk 0", "30 kept")
 replay("rows that fit, keys of 2,048 numbers", "30 kept")
@@ -695,3 +699,125 @@ accepted("544 items, 527 of desk 31, 16 and 1")
 accepted("1,023 items, 15 of desk 31, 528 of desk 0")
 spent("1,023 items, 528 of desk 31, 15 of desk 0")
 accepted("1,023 items, 31 of desk 31, 32 of each other")  # 511
+
+
+# 17. "The sixteen rests come from the customer as sixteen bytes, checked on loading; the built-in table remains for
+# those who give none." An opening is said as a number, with `kept` where every list is as found. First on lists that
+# are no board: "21 for a wrong length, zero bytes too, a falling entry or one over 64".
+def opened(label, *said):
+    print(f"{label}:", *said)
+
+
+for label in ["no rests", "a rest", "15 rests", "17 rests", "32 rests",  # of 0
+              "rests of 65", "a rest of 65 at first", "rests of 65 from the 8th on", "a rest of 65 at the 8th",
+              "a rest of 65 at last", "a rest of 255 at last", "rests of 255", "15 rests and 65", "falling at first",
+              "falling at first, then rising", "falling in the middle", "falling at last", "falling at last to 0",
+              "falling all along"]:
+    opened(label, "21 kept")
+# Taken on lists that are no board; then the board is one opened with none given, once the built-in rests are put there
+opened("rests of 0, then none given", 0, "0 kept")
+opened("the built-in rests, then none given", 0, "0 kept")
+opened("none given, then the built-in rests", 0, "0 kept")
+# opened with none given; the rests are put there, and then given: "No entry may exceed 64 or be less than the one
+# before"
+for label in ["rests of 0", "rests of 64", "a rest of 64 at last", "rests from 1 to 16", "rests of 63 and 64"]:
+    opened(f"none given, then {label}", 0, "0 kept")
+
+# The board of 8.: a refused opening alters nothing, and every call is accepted after it
+for label in ["15 rests", "no rests", "a rest of 65 at last"]:
+    opened(f"{label}, a board in use", "21 kept", 0, 0, "0 kept", 0, 0, 0, 0)
+# "checked when a board is opened, after the rule table", and before the length of the board's list
+for label in ["no rests, 722", "17 rests, 724", "a rest of 65 at last, no", "falling at last, 722"]:
+    opened(f"{label} numbers", "21 kept")
+for number in ["722", "724", "707", "no"]:
+    opened(f"rests of 0, {number} numbers", "30 kept")
+one("rests of 0, a board in use", "0", "0 quiet", "refused 13", "item 0")  # an empty board
+one("rests of 0, a day closed", "closed", "0", "item 0")  # where no day is closed
+# "sound also asks that it passes"; an opening asks nothing of the board as found
+one("falling, then none given", "refused 30", "0", "refused 13")
+one("falling, then rests of 0", "refused 30", "0", "refused 13")
+one("falling, then no rests", "refused 30", "21 kept", "refused 30")
+
+# Rule tables that are refused, in the order of 4.: before 21, 30 and 8
+for n in range(1, 8):
+    print(f"a table refused {n}")
+    for label in ["no rests", "no rests, 722 numbers", "a rest of 65 at last", "rests of 0", "rests of 0, 724 numbers"]:
+        opened(label, f"{n} kept")
+    seven("falling", *[n] * 7)  # the board has rests that fall, and the calls are desk 32's
+    replay("falling, in rows", f"{n} kept")
+
+# 18. "The board keeps the one it was opened with, and sound also asks that it passes." The board of 8. with the
+# built-in rests, of which the label says what is another: 0 1 1 2 2 4 4 8 8 16 16 16 32 32 32 32.
+accepted("the built-in rests")
+accepted("rest 1 as rest 2")
+broken("rest 1 over rest 2")  # 2 1
+broken("rest 1 of 64")
+broken("rest 8 over rest 9")  # 9 8
+accepted("rest 9 as rest 10")  # 16 16
+accepted("rest 10 as rest 9")  # 8 8
+broken("rest 10 under rest 9")  # 8 7
+broken("rest 15 over rest 16")  # 33 32
+accepted("rest 16 as rest 15")
+broken("rest 16 under rest 15")  # 32 31
+broken("rest 16 of 0")
+accepted("rest 16 of 64")
+for number in ["65", "255", "256", "288", "65,535"]:
+    broken(f"rest 16 of {number}")  # 288 is 32 and 256
+broken("rest 1 of 256")
+broken("rest 8 of 264")  # 8 and 256
+accepted("rests of 0")
+accepted("rests of 1")
+accepted("rests of 64")
+broken("rests of 65")
+broken("rests of 256")
+accepted("rests from 1 to 16")
+broken("rests from 16 to 1")
+accepted("rests of 0 and a rest of 64")
+broken("rests of 64 and a rest of 63")
+broken("rest 16 of 65, desk 32")  # 30 before 8
+
+# "After the k-th `again` of a job the desk first spends as many steps, each `rested`, as the rest table says at k (from
+# 1; beyond 16, at 16)". Desk 0 at the end of a pass, its mark set; then so many rests, and the first look of a new
+# pass.
+BUILT_IN = [0, 1, 1, 2, 2, 4, 4, 8, 8, 16, 16, 16, 32, 32, 32, 32]
+RISING = list(range(1, 17))
+LAST = [0] * 15 + [64]
+for label, rests, agains in [("built-in", BUILT_IN, [1, 2, 9, 10, 16, 17]),
+                             ("1 to 16", RISING, [1, 2, 8, 15, 16, 17, 256]), ("64", [64] * 16, [1, 16, 17]),
+                             ("0", [0] * 16, [1, 16, 17]), ("0, then 64", [0] + [64] * 15, [1, 2]),
+                             ("64 at last", LAST, [15, 16, 17])]:
+    for k in agains:
+        one(f"{label}, again {k}", "again", f"rests {rests[min(k, 16) - 1]}", "looked 0")
+
+# rests left are no part of sound: 256 steps, the place being 255, whatever the table; 256 is no place (9.)
+accepted("rest 255 of rests of 0")
+one("rest 255 of rests of 0, spent", "rests 256", "looked 0")
+accepted("rest 255 of rests of 64")
+broken("rest 255 of rests that fall")
+broken("rest 256 of rests of 64")
+one("rest 0 of rests of 64, spent", "rests 1", "looked 0")
+one("64, then 0", "again", "rests 64", "looked 0")  # the table was read at `again`
+
+# The rows of 10., and one of a close
+for label in ["falling", "falling at last", "a rest of 65"]:
+    replay(f"{label}, in rows", "30 kept 30 kept")
+replay("falling, 30 before 31", "30 kept")
+replay("rests of 64, in rows", 0, *RUN[:2], "-")
+
+# Rule: trays 0 1. Desk 1 holds item 0, of tray 0; desk 2 misses it, "the retry mark is set", and is at it again.
+HOLDS = ["item 0", "item 1", "item 2", "looked 0", "looked 1", "claimed 0"]
+for label, rests in [("rests from 1 to 16", RISING), ("a rest of 64 at last", LAST)]:
+    one(f"desk 1 holds item 0, {label}", "0", *HOLDS)
+    one("agains", *[f"missed again rests {rests[min(k, 16) - 1]}" for k in range(1, 19)])
+one("desk 1 holds item 0, none given", *HOLDS)
+one("agains", *[f"missed again rests {BUILT_IN[min(k, 16) - 1]}" for k in range(1, 19)])
+# rests of 2, whatever else is called: a close, an add, a refused opening, a step of desk 3, and a read of quiet
+one("desk 1 holds item 0, rests of 2", "0", *HOLDS)
+one("calls between", "missed", "again", "closed", "item 3", "21 kept", "rests 2", "missed", "again", "missed", "0",
+    "rests 2")
+# six steps, an add and a close in rows, then steps by themselves
+replay("rows", 0, "missed", "again", "rested", "rested", "missed", "again", "item 3", "closed", "-", "rests 2",
+       "missed", "again", "rests 2")
+# desk 1 matches; then nothing is claimed
+one("desk 1 done", "missed", "again", "rests 2", "missed", "again", "matched 0", "consumed 0", "consumed 1", "rests 2",
+    "missed", "ended")

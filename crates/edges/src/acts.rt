@@ -10,7 +10,7 @@ use state::Said;
 fn set(w: World, kind: u8, at: usize, x: u16) -> World {
     let mut v = w;
     match kind {
-        b'n' => v.board[at % 708] = x,
+        b'n' => v.board[at % 724] = x,
         b'b' => v.bytes[at % 3073] = (x % 256) as u8,
         b'l' => v.links[at % 11265] = x,
         b'L' => v.lens[at % 5] = x as usize,
@@ -87,6 +87,7 @@ fn say_said(kind: u8, said: Said) {
         b'u' => say::refusal(said),
         b'Z' => say::refusal(said),
         b'o' => say::refusal(said),
+        b'O' => say::refusal(said),
         _ => say::said(said),
     }
 }
@@ -125,6 +126,23 @@ fn calls(table: &[u8], w: World, i: u16, j: u16, each: bool) -> World {
     hear(table, pick(each, w, c), script::ask(b'v', j))
 }
 
+// The steps of a sender while it rests, each with answer 917504: how many, which is 256 at most.
+fn rest(table: &[u8], w: World, i: u16) -> World {
+    let mut v = w;
+    let mut n: u16 = 0;
+    while n < 300 {
+        let a = world::asked(table, v, script::ask(b's', i));
+        let said = a.said;
+        if plays::answer_number(said) != 917504 {
+            break;
+        }
+        v = a.world;
+        n += 1;
+    }
+    say::word(b" rests", n);
+    v
+}
+
 fn act(table: &[u8], w: World, p: Part) -> World {
     let kind = p.kind;
     if is_edit(kind) {
@@ -134,6 +152,7 @@ fn act(table: &[u8], w: World, p: Part) -> World {
     match kind {
         b'x' => calls(table, w, i, 31, false),
         b'y' => calls(table, w, i, i, true),
+        b'R' => rest(table, w, i),
         _ => hear(table, w, p),
     }
 }

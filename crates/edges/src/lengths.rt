@@ -81,15 +81,16 @@ fn last_bytes() {
     );
 }
 
-// Each list at no numbers, one less than a board has, as many, and one more; a board without tallies, links without
-// units, keys without days, and both lists without what is kept of a close.
+// Each list at no numbers, one less than a board has, as many, and one more; a board without its backoff table, and
+// without tallies, links without units, keys without days, and both lists without what is kept of a close.
 fn lists() {
     opened(
         &ONE,
         b"board|L 0 0;y 0\n\
-        board|L 0 706;y 0\n\
-        board|L 0 707;y 0\n\
-        board|L 0 708;y 0\n\
+        board|L 0 722;y 0\n\
+        board|L 0 723;y 0\n\
+        board|L 0 724;y 0\n\
+        board without rests|L 0 707;y 0\n\
         board without tallies|L 0 675;y 0\n\
         bytes|L 1 0;y 0\n\
         bytes|L 1 3071;y 0\n\
@@ -129,9 +130,10 @@ pub fn lines() {
         &P,
         b"open, 674 numbers|L 0 674;o\n\
         open, 675 numbers|L 0 675;o\n\
-        open, 706 numbers|L 0 706;o\n\
-        open, 707 numbers|o\n\
-        open, 708 numbers|L 0 708;o\n",
+        open, 707 numbers|L 0 707;o\n\
+        open, 722 numbers|L 0 722;o\n\
+        open, 723 numbers|o\n\
+        open, 724 numbers|L 0 724;o\n",
     );
     opened(&ONE, b"30 before 8|L 1 3071;y 32\n");
 }

@@ -4,6 +4,7 @@ mod closed;
 mod closing;
 mod days;
 mod full;
+mod given;
 mod jobs;
 mod lengths;
 mod lost;
@@ -11,6 +12,7 @@ mod numbers;
 mod once;
 mod order;
 mod replays;
+mod rests;
 mod sound;
 mod spent;
 mod tables;
@@ -34,4 +36,6 @@ fn main() {
     closed::lines();
     spent::lines();
     tallies::lines();
+    given::lines();
+    rests::lines();
 }

@@ -28,7 +28,8 @@ pub fn lines() {
         30 before 31|w 7 4 2 0\n\
         rows that fit, a board that is not sound|n 0 1025;w 8 4 2 2\n\
         rows that fit, a board of 675 numbers|L 0 675;w 8 4 2 2\n\
-        rows that fit, a board of 706 numbers|L 0 706;w 8 4 2 2\n\
+        rows that fit, a board of 707 numbers|L 0 707;w 8 4 2 2\n\
+        rows that fit, a board of 722 numbers|L 0 722;w 8 4 2 2\n\
         rows that fit, an add too many|n 706 1;w 8 4 2 2\n\
         rows that fit, 529 adds of desk 0|n 0 529;n 675 529;w 8 4 2 2\n\
         rows that fit, keys of 2,048 numbers|L 3 2048;w 8 4 2 2\n\

@@ -6,6 +6,7 @@
 //     l AT x..         links from AT on
 //     c N x, C N x     the cents of message N: x, or -1 - x
 //     K AT x           the key at AT
+//     T x              every sender's tally
 //     L K n            list K is lent at n numbers
 //     a I C P x D U    an add by sender I, to channel C, of property P, x cents, day D and unit U; a day or a unit not
 //                      given is 0
@@ -15,6 +16,8 @@
 //     x I              a step of sender I, an add of the last sender, a close of day 31, and the reads, as numbers
 //     y I              a step and an add of sender I, and on the lists before both a close of day I and the reads
 //     o                an opening, as a number
+//     O x..            an opening given these bytes, none where there are no numbers, as a number
+//     R I              the steps of sender I while it rests: how many
 //     m N C P x D U, M a read of message N, which is to have these
 //     k K, r I, q      reads of match K, of sender I's reply, and whether the board is quiet
 //     w C N A R        a replay of C numbers of calls, four a row, N properties and days, two a row, and A amounts,
@@ -120,6 +123,17 @@ pub fn long(p: Part, k: usize) -> u32 {
     (at(p, k) % 4294967296) as u32
 }
 
+// The numbers of a part, as bytes.
+pub fn given(p: Part) -> [u8; 100] {
+    let mut bytes = [0u8; 100];
+    let mut k: usize = 0;
+    while k < 100 {
+        bytes[k] = (at(p, k) % 256) as u8;
+        k += 1;
+    }
+    bytes
+}
+
 // The first number of a part, but 0 where it is a sender's.
 pub fn first(p: Part) -> u16 {
     if p.kind == b'v' {
@@ -158,6 +172,7 @@ pub fn is_call(kind: u8) -> bool {
         | (kind == b't')
         | (kind == b'u')
         | (kind == b'o')
+        | (kind == b'O')
         | is_close(kind)
 }
 

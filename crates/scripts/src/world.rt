@@ -8,7 +8,7 @@ use state::Said;
 
 // Each list has a number past it, and is lent at a length.
 pub struct World {
-    pub board: [u16; 708],
+    pub board: [u16; 724],
     pub bytes: [u8; 3073],
     pub links: [u16; 11265],
     pub keys: [u32; 2050],
@@ -28,12 +28,12 @@ pub fn filled(x: u8) -> World {
     let key = x as u32;
     let amount = x as i64;
     World {
-        board: [number; 708],
+        board: [number; 724],
         bytes: [x; 3073],
         links: [number; 11265],
         keys: [key; 2050],
         cents: [amount; 1025],
-        lens: [707, 3072, 11264, 2049, 1024],
+        lens: [723, 3072, 11264, 2049, 1024],
     }
 }
 
@@ -41,7 +41,7 @@ pub fn filled(x: u8) -> World {
 pub fn is_same(a: World, b: World) -> bool {
     let mut i: usize = 0;
     while i < 11265 {
-        let n = i % 708;
+        let n = i % 724;
         let y = i % 3073;
         let k = i % 2050;
         let c = i % 1025;
@@ -66,10 +66,24 @@ pub fn least(n: usize, most: usize) -> usize
 }
 
 // An opening; what is said is a refusal, of number 0 where there is none.
-fn open(table: &[u8], w: World, mut board: [u16; 708], len: usize) -> After {
+fn open(table: &[u8], w: World, mut board: [u16; 724], len: usize) -> After {
     let mut v = w;
-    let n = len % 709;
+    let n = len % 725;
     let number = calls::open(table, &mut board[0..n]);
+    v.board = board;
+    After {
+        said: Said::Refused(number),
+        world: v,
+    }
+}
+
+// The same, given the bytes of a part.
+fn open_with(table: &[u8], w: World, mut board: [u16; 724], len: usize, p: Part) -> After {
+    let mut v = w;
+    let n = len % 725;
+    let given = script::given(p);
+    let m = least(p.len, 100);
+    let number = calls::open_with_rests(table, &given[0..m], &mut board[0..n]);
     v.board = board;
     After {
         said: Said::Refused(number),
@@ -135,7 +149,7 @@ fn lent(
 // The same, with each list at its length.
 fn lend(
     table: &[u8],
-    mut board: [u16; 708],
+    mut board: [u16; 724],
     mut bytes: [u8; 3073],
     mut links: [u16; 11265],
     mut keys: [u32; 2050],
@@ -143,7 +157,7 @@ fn lend(
     lens: [usize; 5],
     p: Part,
 ) -> After {
-    let n0 = lens[0] % 709;
+    let n0 = lens[0] % 725;
     let n1 = lens[1] % 3074;
     let n2 = lens[2] % 11266;
     let n3 = lens[3] % 2051;
@@ -179,6 +193,9 @@ pub fn asked(table: &[u8], w: World, p: Part) -> After {
     let lens = w.lens;
     if p.kind == b'o' {
         return open(table, w, board, lens[0]);
+    }
+    if p.kind == b'O' {
+        return open_with(table, w, board, lens[0], p);
     }
     lend(table, board, bytes, links, keys, cents, lens, p)
 }
