@@ -1,4 +1,4 @@
-"""A plain reading of the matching board (paper 01, and requests 2, 8 and 13 of paper 02).
+"""A plain reading of the matching board (paper 01, and requests 2, 4, 8 and 13 of paper 02).
 
     python3 tests/oracle.py RULES.BIN < INPUT
 
@@ -19,7 +19,8 @@ MOST_U32 = 4_294_967_295  # a property, a day
 MOST_U16 = 65_535  # a unit
 MOST_TABLE_BYTES = 412
 MOST_LINE_BYTES = 80
-REST_TABLE = (0, 1, 1, 2, 2, 4, 4, 8, 8, 16, 16, 16, 32, 32, 32, 32)
+MOST_RESTS = 64
+BUILT_IN_RESTS = (0, 1, 1, 2, 2, 4, 4, 8, 8, 16, 16, 16, 32, 32, 32, 32)
 
 # --- the status of an item -------------------------------------------------
 
@@ -102,6 +103,14 @@ def read_table(data):
     return Table(waiting, [Rule(list(member_bytes[a:b]), same) for a, b, same in spans])
 
 
+def read_rests(data):
+    """The rest table of these bytes, or Refused 21."""
+    falls = any(entry > following for entry, following in zip(data, data[1:]))
+    if len(data) != 16 or falls or max(data) > MOST_RESTS:
+        raise Refused(21)
+    return tuple(data)
+
+
 # --- the board ----------------------------------------------------------------
 
 
@@ -143,8 +152,9 @@ class Desk:
 
 
 class Board:
-    def __init__(self, table):
+    def __init__(self, table, rests=BUILT_IN_RESTS):
         self.table = table
+        self.rests = rests
         self.items = []
         self.matches = []
         self.desks = [Desk() for _ in range(DESKS)]
@@ -384,7 +394,7 @@ class Board:
             self.end_job(desk)
             return "ended"
         desk.agains += 1
-        rests = REST_TABLE[min(desk.agains, 16) - 1]
+        rests = self.rests[min(desk.agains, 16) - 1]
         if rests == 0:
             self.begin_pass(desk)
         else:
@@ -425,6 +435,12 @@ STEPS = {
     REST: Board.rest,
     BLOCKED: Board.unblock,
 }
+
+
+def open_board(table_bytes, rest_bytes=None):
+    """An empty board, or Refused 1 to 7, then 21; with the built-in rests where no bytes are given."""
+    table = read_table(table_bytes)
+    return Board(table, BUILT_IN_RESTS if rest_bytes is None else read_rests(rest_bytes))
 
 
 def at_rest(desk):
@@ -494,10 +510,10 @@ def closing_lines(board):
     yield "quiet yes" if board.quiet() else "quiet no"
 
 
-def printout(table_bytes, input_bytes):
-    """All lines that the program prints, as bytes."""
+def printout(table_bytes, input_bytes, rest_bytes=None):
+    """All lines that the program prints, as bytes; it has the built-in rests, others are for tests of boards."""
     try:
-        board = Board(read_table(table_bytes))
+        board = open_board(table_bytes, rest_bytes)
     except Refused as refused:
         return b"refused %d\n" % refused.number
     words = [answer(board, line) for line in split_lines(input_bytes)]

@@ -3,9 +3,9 @@
     python3 tests/oracles_test.py
 
 The printouts of the two test programs to their oracles, and the oracle's own printouts to the pool of the join
-calculus, over random tables and lines; each word, a quiet board and what days, units and shares decide must occur. Then
-the two flats, whose rents cross where the unit is not asked for, and the shares at their edges. The last line is
-'oracles: N passed, M failed'.
+calculus, over random tables and lines; each word, a quiet board and what days, units, shares and rests decide must
+occur. Then the two flats, whose rents cross where the unit is not asked for, and the shares and the rest tables at
+their edges. The last line is 'oracles: N passed, M failed'.
 """
 
 import subprocess
@@ -15,11 +15,13 @@ from pathlib import Path
 
 import oracle
 import pool_check
+import random_session
+import rest_cases
 import share_cases
 import text_to_bin
 
 ROOT = Path(__file__).resolve().parent.parent
-SEEDS, CROWDED, LINES = 400, 60, 400
+SEEDS, CROWDED, RESTING, LINES = 400, 60, 400, 400
 WORDS = (
     "item looked missed claimed lost reverted matched consumed told woke freed signalled again ended rested answered"
     " resumed quiet"
@@ -28,6 +30,8 @@ WORDS += ["older", "tie", "first day", "last day", "first unit", "last unit"]
 WORDS += ["unit passed over", "unit not asked", "unit missed", "unit unmarked", "unit left"]
 SHARES = ["refused 26", "9 before 26", "10 before 26", "11 before 26", "common", "own past the common", "all used"]
 SHARES += ["matched", "quiet after 26"]
+RESTS = ["again 1", "again to 15", "again 16", "again past 16", "rests of 0", "rests of 64", "other rests"]
+RESTS += ["rests unlike the built-in", "rested", "matched", "told", "signalled", "quiet"]
 FLATS = ROOT / "examples" / "two-flats"
 
 
@@ -37,10 +41,24 @@ def printout(crate):
     return said == (folder / "stdout").read_bytes()
 
 
-def pool(seeds, words, crowded):
-    total = sum((pool_check.check(seed, LINES, crowded) for seed in range(seeds)), Counter())
-    print("oracles: crowded pool," if crowded else "oracles: pool,", ", ".join(f"{w} {total[w]}" for w in words))
+def pool(name, checked, words):
+    total = sum(checked, Counter())
+    print(f"oracles: {name},", ", ".join(f"{word} {total[word]}" for word in words))
     return all(total[word] for word in words)
+
+
+def plain_pool():
+    return pool("pool", (pool_check.check(seed, LINES) for seed in range(SEEDS)), WORDS)
+
+
+def crowded_pool():
+    return pool("crowded pool", (pool_check.check(seed, LINES, True) for seed in range(CROWDED)), SHARES)
+
+
+def resting_pool():
+    tables = [random_session.random_rests(seed) for seed in range(RESTING)]
+    checked = (pool_check.check(seed, LINES, rests=rests) for seed, rests in enumerate(tables))
+    return pool(f"{len(set(tables))} rest tables, pool", checked, RESTS)
 
 
 def flats_cross():
@@ -57,14 +75,41 @@ def shares():
     return not wrong
 
 
+def number_of(table, rests):
+    """The number that refuses a board, or 0."""
+    try:
+        oracle.open_board(table, rests)
+    except oracle.Refused as refused:
+        return refused.number
+    return 0
+
+
+def rest_tables():
+    """Those that pass, none given, and those that do not, which the rule table's refusals come before."""
+    passing = [number_of(rest_cases.PAIRS, rests) for rests in (None, *rest_cases.PASSING.values())]
+    failing = [number_of(rest_cases.PAIRS, rests) for rests in rest_cases.FAILING.values()]
+    first = [number_of(b"", rests) for rests in (None, *rest_cases.PASSING.values(), *rest_cases.FAILING.values())]
+    return (set(passing), set(failing), set(first)) == ({0}, {21}, {1})
+
+
+def rests():
+    wrong = [name for name, rests, *case, wanted in rest_cases.cases() if oracle.printout(*case, rests) != wanted]
+    for name in wrong:
+        print(f"oracles: rests, {name}")
+    return not wrong
+
+
 def main():
     tests = {
         "printout of edges": lambda: printout("edges"),
         "printout of table_edges": lambda: printout("table_edges"),
-        f"{SEEDS} printouts by the pool": lambda: pool(SEEDS, WORDS, False),
-        f"{CROWDED} printouts of crowded boards by the pool": lambda: pool(CROWDED, SHARES, True),
+        f"{SEEDS} printouts by the pool": plain_pool,
+        f"{CROWDED} printouts of crowded boards by the pool": crowded_pool,
+        f"{RESTING} printouts with other rest tables by the pool": resting_pool,
         "two flats by property alone": flats_cross,
         "shares at their edges": shares,
+        "rest tables that pass and that do not": rest_tables,
+        "rests at their edges": rests,
     }
     failed = 0
     for name, test in tests.items():

@@ -2,10 +2,10 @@
 
     python3 tests/peace_test.py [SESSIONS]
 
-The schedule with the most steps alone that is known, on target/bin/gevnyusto and, with a rest table that the
-program cannot be given, on tests/oracle.py; then SESSIONS random sessions (default 100), each left at twenty points
-with each desk in peace alone. That no other desk holds a claimed item is compared with that this desk holds all that
-are claimed. The last line is `peace: N passed, M failed`.
+The schedule with the most steps alone that is known, on target/bin/gevnyusto and, with rest tables that the program
+cannot be given, on tests/oracle.py; then SESSIONS random sessions (default 100), each left at twenty points with each
+desk in peace alone, and half as many with rest tables of their own, on the oracle. That no other desk holds a claimed
+item is compared with that this desk holds all that are claimed. The last line is `peace: N passed, M failed`.
 """
 
 import collections
@@ -18,8 +18,8 @@ from program_test import printed
 from text_to_bin import table_bytes
 
 MOST_STEPS = 1628  # proved, for every rest table that passes
-SEEN_STEPS = 1579  # by the schedule below, with a rest table of sixteen 64s
-SEEN_BUILTIN = 1547  # by the same, with the built-in one
+SEEN_STEPS = 1515  # by the schedule below with no rests, and as many more as the last entry of its rest table says
+TABLES = 60  # random rest tables, for that schedule
 
 
 def held(board, number):
@@ -47,8 +47,8 @@ def all_claimed_held(board, number):
 class Schedule:
     """Lines, and the oracle's board that follows them."""
 
-    def __init__(self, table):
-        self.board = oracle.Board(oracle.read_table(table))
+    def __init__(self, table, rests=None):
+        self.board = oracle.open_board(table, rests)
         self.lines = []
         self.spare = iter(range(1, oracle.DESKS))
 
@@ -85,9 +85,15 @@ def worst_table():
     return table_bytes(waiting, rules)
 
 
-def worst_schedule(table):
+def longest_rest(board, desk):
+    """Is the desk about to spend as many rests as there can be?"""
+    most = max(board.rests)
+    return desk.agains > 0 and (most == 0 or (desk.place == oracle.REST and desk.at == most))
+
+
+def worst_schedule(table, rests=None):
     """Desk 0 is left resting, its item woken twice, with a pass of lost claims and three more before it."""
-    schedule = Schedule(table)
+    schedule = Schedule(table, rests)
     board, desk = schedule.board, schedule.board.desks[0]
     schedule.add(0, OWN, 1)
     schedule.run(0)
@@ -101,7 +107,7 @@ def worst_schedule(table):
         schedule.step(rival)
     for _ in range(4):
         schedule.step(rival)  # holds claims, so that desk 0 tries again and again
-    while desk.place != oracle.REST or desk.at < max(oracle.REST_TABLE):
+    while not longest_rest(board, desk):
         schedule.step(0)
     schedule.run(rival)  # wakes desk 0's item once more
     for tray in HELPS[:5]:
@@ -132,14 +138,23 @@ def worst_cases():
     yield "worst schedule: in peace", in_peace(schedule.board, 0) and all_claimed_held(schedule.board, 0)
     count, stays = steps_alone(schedule, 0)
     print(f"peace: {count} steps alone on the program, with its own rest table")
-    yield "worst schedule: steps", count == SEEN_BUILTIN and stays
+    yield "worst schedule: steps", count == SEEN_STEPS + 32 and stays
     yield "worst schedule: program", on_program(table, schedule)
 
-    builtin, oracle.REST_TABLE = oracle.REST_TABLE, (64,) * 16
-    count, stays = steps_alone(worst_schedule(table), 0)
-    oracle.REST_TABLE = builtin
-    print(f"peace: {count} steps alone with sixteen rests of 64 (by the oracle); proved: at most {MOST_STEPS}")
-    yield "worst schedule: steps, rests of 64", count == SEEN_STEPS <= MOST_STEPS and stays
+
+def worst_rests_cases():
+    """The same by the oracle, with other rest tables: no rests, sixteen of 64, and random ones."""
+    table, seen = worst_table(), collections.Counter()
+    tables = [bytes(16), bytes([64] * 16), *map(random_session.random_rests, range(TABLES))]
+    for rests in tables:
+        schedule = worst_schedule(table, rests)
+        count, stays = steps_alone(schedule, 0)
+        seen[count] += 1
+        peace = in_peace(schedule.board, 0) and all_claimed_held(schedule.board, 0)
+        yield f"worst schedule: rests {list(rests)}", count == SEEN_STEPS + rests[-1] <= MOST_STEPS and stays and peace
+    steps = f"{min(seen)} to {max(seen)} steps alone"
+    print(f"peace: {steps} with {len(set(tables))} rest tables (by the oracle); proved: at most {MOST_STEPS}")
+    yield "worst schedule: all lengths of rests", {SEEN_STEPS, SEEN_STEPS + 64} < set(seen)
 
 
 def left_alone(schedule, seen):
@@ -159,28 +174,52 @@ def left_alone(schedule, seen):
     return good, most, longest
 
 
+def left_at_points(seed, table, seen, rests=None):
+    """A session left after every 20th line: whether all went well, the most steps alone, and the copy with them."""
+    schedule, good, longest = Schedule(table, rests), True, (0, None)
+    session = random_session.random_input(seed, 400, table, rest_data=rests)
+    for number, line in enumerate(oracle.split_lines(session), 1):
+        schedule.say(line)
+        if number % 20 == 0:
+            well, count, alone = left_alone(schedule, seen)
+            good = good and well
+            longest = max(longest, (count, alone), key=lambda run: run[0])
+    return (good, *longest)
+
+
+def summed_up(name, most, seen):
+    """Prints what occurred; whether all that can occur did."""
+    print(f"peace: {name}, {most} steps alone at most; " + ", ".join(f"{k} {seen[k]}" for k in sorted(seen)))
+    return all(seen[key] for key in ("in peace", "not in peace", *oracle.STEPS))
+
+
 def random_cases(sessions):
-    """Each session is left after every 20th line; the longest run alone of each is played on the program."""
+    """The longest run alone of each session is played on the program."""
     seen, most = collections.Counter(), 0
     for seed in range(sessions):
         table = random_session.random_table(seed)
-        schedule, good, longest = Schedule(table), True, (0, None)
-        for number, line in enumerate(oracle.split_lines(random_session.random_input(seed, 400, table)), 1):
-            schedule.say(line)
-            if number % 20 == 0:
-                well, count, alone = left_alone(schedule, seen)
-                good = good and well
-                longest = max(longest, (count, alone), key=lambda run: run[0])
-        most = max(most, longest[0])
-        yield f"random session {seed}", good and (longest[1] is None or on_program(table, longest[1]))
-    print(f"peace: random sessions, {most} steps alone at most; " + ", ".join(f"{k} {seen[k]}" for k in sorted(seen)))
-    yield "all that can occur occurred", all(seen[key] for key in ("in peace", "not in peace", *oracle.STEPS))
+        good, count, alone = left_at_points(seed, table, seen)
+        most = max(most, count)
+        yield f"random session {seed}", good and (alone is None or on_program(table, alone))
+    yield "all that can occur occurred", summed_up("random sessions", most, seen)
+
+
+def rests_cases(sessions):
+    """Every fifth session has sixteen rests of 64, the others random tables."""
+    seen, most = collections.Counter(), 0
+    for seed in range(sessions):
+        rests = random_session.random_rests(seed) if seed % 5 else bytes([64] * 16)
+        table = random_session.random_table(seed)
+        good, count, _ = left_at_points(seed, table, seen, rests)
+        most = max(most, count)
+        yield f"random session {seed}, rests {list(rests)}", good
+    yield "all occurred with other rests", summed_up("other rest tables", most, seen)
 
 
 def main():
     sessions = int(sys.argv[1]) if len(sys.argv) > 1 else 100
     passed = failed = 0
-    for cases in (worst_cases(), random_cases(sessions)):
+    for cases in (worst_cases(), worst_rests_cases(), random_cases(sessions), rests_cases(max(1, sessions // 2))):
         for name, good in cases:
             if good:
                 passed += 1

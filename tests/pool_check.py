@@ -1,11 +1,12 @@
 """Checks printouts by 01's pool, from the printed words only.
 
-    python3 tests/pool_check.py FIRST LAST N [crowded]
+    python3 tests/pool_check.py FIRST LAST N [crowded | rests]
 
 For each seed: a random table, N random lines, the oracle's printout; then the
 pool is kept by the words printed, and on a quiet board no rule can be met; what
-is left of each desk's share and of the common items is kept so too. What days,
-units and shares decided is counted beside the words.
+is left of each desk's share and of the common items is kept so too, and the
+rests of each desk are counted. What days, units, shares and rests decided is
+counted beside the words. With `rests` each board has a random rest table.
 """
 
 import sys
@@ -50,8 +51,8 @@ class Watched(oracle.Board):
     by rules that want the property alone, and extremes.
     """
 
-    def __init__(self, table):
-        super().__init__(table)
+    def __init__(self, table, rests):
+        super().__init__(table, rests)
         self.seen = Counter()
 
     def found(self, desk):
@@ -134,8 +135,40 @@ class Shares:
         self.seen["all used"] += not any(self.own) and not self.common
 
 
-def decided(table, calls):
-    board = Watched(table)
+class Rests:
+    """The rests that each desk has still to spend, by the words printed for it; counts where they came from."""
+
+    # said when a job begins, or by the last steps of one
+    BOUNDS = ("item", "resumed", "ended", "signalled", "consumed", "told", "answered")
+
+    def __init__(self, rests):
+        self.rests = rests
+        self.agains, self.due = Counter(), Counter()
+        self.seen = Counter()
+
+    def hear(self, desk, word):
+        if word == "rested":
+            self.due[desk] -= 1
+            assert self.due[desk] >= 0, desk
+            return
+        assert not self.due[desk], (desk, word)
+        if word == "again":
+            self.again(desk)
+        elif word in self.BOUNDS:
+            self.agains[desk] = 0
+
+    def again(self, desk):
+        self.agains[desk] += 1
+        k = self.agains[desk]
+        rests = self.rests[min(k, 16) - 1]
+        self.due[desk] = rests
+        self.seen["again 1" if k == 1 else "again to 15" if k < 16 else "again 16" if k == 16 else "again past 16"] += 1
+        self.seen["rests of 0" if rests == 0 else "rests of 64" if rests == 64 else "other rests"] += 1
+        self.seen["rests unlike the built-in"] += rests != oracle.BUILT_IN_RESTS[min(k, 16) - 1]
+
+
+def decided(table, calls, rests):
+    board = Watched(table, rests)
     for line in calls:
         oracle.answer(board, line)
     return board.seen
@@ -149,15 +182,26 @@ def shared(calls, answers):
     return shares.seen
 
 
-def check(seed, lines, crowded=False):
+def rested(calls, answers, rests):
+    heard = Rests(rests)
+    for line, answer in zip(calls, answers):
+        if not answer.startswith("refused"):
+            heard.hear(int(line.split()[1]), answer.split()[0])
+    return heard.seen
+
+
+def check(seed, lines, crowded=False, rests=None):
+    """With the built-in rests where none are given."""
     data = random_session.crowded_table(seed) if crowded else random_session.random_table(seed)
     table = oracle.read_table(data)
-    session = random_session.random_input(seed, lines, data, crowded)
+    session = random_session.random_input(seed, lines, data, crowded, rests)
     calls = oracle.split_lines(session)
-    out = oracle.printout(data, session).decode().split("\n")[:-1]
+    out = oracle.printout(data, session, rests).decode().split("\n")[:-1]
     answers, rest = out[: len(calls)], out[len(calls) :]
     matches = [line.split() for line in rest if line.startswith("match")]
-    items, pool, own, words, made = [], set(), {}, decided(table, calls) + shared(calls, answers), 0
+    spent = oracle.BUILT_IN_RESTS if rests is None else rests
+    words = decided(table, calls, spent) + shared(calls, answers) + rested(calls, answers, spent)
+    items, pool, own, made = [], set(), {}, 0
     for line, words_printed in zip(calls, answers):
         word, *number = words_printed.split()
         words[words_printed if word == "refused" else word] += 1
@@ -192,11 +236,11 @@ def check(seed, lines, crowded=False):
 
 
 def main(arguments):
-    crowded = arguments[3:] == ["crowded"]
+    crowded, given = arguments[3:] == ["crowded"], arguments[3:] == ["rests"]
     first, last, lines = map(int, arguments[:3])
     total = Counter()
     for seed in range(first, last):
-        total += check(seed, lines, crowded)
+        total += check(seed, lines, crowded, random_session.random_rests(seed) if given else None)
     for word, count in sorted(total.items()):
         print(word, count)
 

@@ -3,9 +3,9 @@
     python3 tests/program_test.py [SESSIONS]
 
 The examples, odd files and odd inputs, the run of table P with units and after lines that look like closes, the shares
-at their edges, files that cannot be read or written, and SESSIONS random sessions (default 300), each on its own random
-table, and a tenth as many on crowded boards, against tests/oracle.py; of the crowded ones some line must be refused 26.
-The last line is `program: N passed, M failed`.
+at their edges, the built-in rests, files that cannot be read or written, and SESSIONS random sessions (default 300),
+each on its own random table, and a tenth as many on crowded boards, against tests/oracle.py; of the crowded ones some
+line must be refused 26. The last line is `program: N passed, M failed`.
 """
 
 import os
@@ -18,6 +18,7 @@ import tempfile
 import check_examples
 import oracle
 import random_session
+import rest_cases
 import share_cases
 
 ROOT = pathlib.Path(__file__).resolve().parent.parent
@@ -121,6 +122,8 @@ def close_cases():
 def edge_cases():
     for name, table, lines, wanted in share_cases.cases():
         yield f"shares, {name}", printed(table, lines), wanted
+    lines, wanted = rest_cases.case(rest_cases.BUILT_IN)
+    yield "the built-in rests", printed(rest_cases.PAIRS, lines), wanted
 
 
 def failing_cases():

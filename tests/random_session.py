@@ -90,6 +90,16 @@ def largest_table(rng):
     return table_bytes([rng.random() < 0.5 for _ in range(16)], rules)
 
 
+def random_rests(seed):
+    """The bytes of a rest table that passes."""
+    rng = random.Random(f"rests {seed}")
+    most = rng.choice((0, 0, 1, 2, 5, 20, oracle.MOST_RESTS, oracle.MOST_RESTS))
+    if rng.random() < 0.2:
+        return bytes([most] * 16)
+    first = rng.randrange(17)  # the entries before it are 0, so that many `again` are reached in few steps
+    return bytes([0] * first + sorted(rng.choice((rng.randint(0, most), most)) for _ in range(16 - first)))
+
+
 def write_random_table(seed, path):
     with open(path, "wb") as file:
         file.write(random_table(seed))
@@ -102,9 +112,9 @@ def past_share(desk):
 class Session:
     """Chooses line after line, with the oracle's board beside it."""
 
-    def __init__(self, seed, table_data):
+    def __init__(self, seed, table_data, rest_data=None):
         self.rng = random.Random(f"session {seed}")
-        self.board = oracle.Board(oracle.read_table(table_data))
+        self.board = oracle.open_board(table_data, rest_data)
         self.trays = len(self.board.table.waiting)
         desks = self.rng.choice((3, 6, 12, 32))
         self.favoured = self.rng.sample(range(oracle.DESKS), desks)
@@ -243,9 +253,9 @@ class Session:
         ))  # fmt: skip
 
 
-def random_input(seed, lines, table_data, crowded=False):
+def random_input(seed, lines, table_data, crowded=False, rest_data=None):
     """Half of the sessions end with steps only, so that many end quiet. Crowded ones have more lines, before these."""
-    session = Session(seed, table_data)
+    session = Session(seed, table_data, rest_data)
     tail = min(lines // 3, 400) if session.rng.random() < 0.5 else 0
     chosen = [line + b"\n" for line in session.crowd()] if crowded else []
     for number in range(lines):
