@@ -6,12 +6,13 @@
  * A refusal: 1 to 7 for the table, 30 for a board that is not sound or lists of another length, 31 for a buffer
  * that is too short; 8 no such sender, 9 sender not idle, 10 no such channel, 11 cents out of range, 13 sender idle,
  * or blocked without signal, 14 no such message, 15 no such match, 17 wrong map of a merge, 18 merged table too large,
- * 19 day of an add closed, 20 close day before the present one, 26 sender's own messages and the common ones used.
+ * 19 day of an add closed, 20 close day before the present one, 21 backoff table that does not pass, 26 sender's own
+ * messages and the common ones used.
  */
 #ifndef GEVNYUSTO_H
 #define GEVNYUSTO_H
 
-#define GV_VERSION "0.7.0"
+#define GV_VERSION "0.8.0"
 
 #include <stddef.h>
 #include <stdint.h>
@@ -32,7 +33,8 @@ extern "C" {
  *   10 the phase's second number (revert: claims made; consume: match plus 1; else 0)
  *   11 retry (0, 1)   12 retries   13 to 20 the eight chosen messages
  *   and at GV_HAS_CLOSE 1 where a day is closed, 0 where none is; from GV_TALLIES each sender's tally, how many
- *   messages it has added: tallies sum to the messages, and what they are above GV_SHARE to GV_COMMON at most
+ *   messages it has added: tallies sum to the messages, and what they are above GV_SHARE to GV_COMMON at most; from
+ *   GV_BACKOFFS the backoff table that the board was opened with, which passes and which only an opening writes
  * bytes: a channel for each message; from GV_STATUSES a status (0 pending, 1 claimed, 2 woken, 3 consumed) for each;
  *   from GV_CHORDS a chord for each match
  * links: for each message the match that it notes plus 1, 0 for none; from GV_WAKERS its waker plus 1, 0 for none;
@@ -40,7 +42,7 @@ extern "C" {
  * keys: a property number for each message; from GV_DAYS a day for each; at GV_CLOSE_DAY the close day, which is
  *   read only where a day is closed; where none is it may be anything, and only an accepted close writes it
  * cents: cents for each message */
-#define GV_BOARD 707
+#define GV_BOARD 723
 #define GV_BYTES 3072
 #define GV_LINKS 11264
 #define GV_KEYS 2049
@@ -54,11 +56,14 @@ extern "C" {
 #define GV_HAS_CLOSE 674
 #define GV_CLOSE_DAY 2048
 #define GV_TALLIES 675
+#define GV_BACKOFFS 707
 #define GV_SENDERS 32
 #define GV_MESSAGES 1024
 #define GV_MATCHES 1024
 #define GV_SHARE 16
 #define GV_COMMON 512
+#define GV_BACKOFF_ENTRIES 16
+#define GV_MOST_RESTS 64
 
 /* An answer: word * 65536 + value. The value is a message or a match, for GV_REFUSED the refusal, else 0. */
 #define GV_WORD(answer) ((answer) >> 16)
@@ -85,12 +90,22 @@ uint8_t gv_merge_tables(
     const uint8_t *first, size_t first_len, const uint8_t *second, size_t second_len,
     const uint8_t *map, size_t map_len, uint8_t *out, size_t out_len);
 
-/* Writes an empty board, with no day closed and all tallies 0; the other lists may hold anything. 0, 1 to 7, or 30 for
- * a board of another length. */
+/* Writes an empty board, with no day closed, all tallies 0 and the built-in backoff table, which is
+ * 0 1 1 2 2 4 4 8 8 16 16 16 32 32 32 32; the other lists may hold anything. 0, 1 to 7, or 30 for a board of another
+ * length. */
 uint8_t gv_open(const uint8_t *table, size_t table_len, uint16_t *board, size_t board_len);
 
+/* The same with a backoff table of one's own. After the k-th GV_AGAIN of a job a sender spends as many steps, each
+ * GV_RESTED, as entry k says, from 1; beyond GV_BACKOFF_ENTRIES, as the last one says. A table passes if it has
+ * GV_BACKOFF_ENTRIES entries, none over GV_MOST_RESTS and none less than the one before it.
+ * 0, 1 to 7, 21 for one that does not pass, of no bytes too, or 30 for a board of another length. */
+uint8_t gv_open_with_rests(
+    const uint8_t *table, size_t table_len, const uint8_t *rests, size_t rests_len,
+    uint16_t *board, size_t board_len);
+
 /* The lists of a call that may write them. An add leaves the matches' chords and messages as they are, a step channels,
- * properties, days, units, cents and tallies, and both the close day. A close leaves everything else. */
+ * properties, days, units, cents and tallies, and both the close day. A close leaves everything else. None of them
+ * writes the backoff table. */
 #define GV_LISTS \
     uint16_t *board, size_t board_len, uint8_t *bytes, size_t bytes_len, uint16_t *links, size_t links_len, \
     uint32_t *keys, size_t keys_len, int64_t *cents, size_t cents_len
@@ -106,7 +121,7 @@ uint32_t gv_add(
     const uint8_t *table, size_t table_len, GV_LISTS,
     uint16_t sender, uint16_t channel, uint32_t property, int64_t amount, uint32_t day, uint16_t unit);
 
-/* Takes one step of a sender: an answer. */
+/* Takes one step of a sender: an answer. Its rests are those of the board's own backoff table. */
 uint32_t gv_step(const uint8_t *table, size_t table_len, GV_LISTS, uint16_t sender);
 
 /* Closes the books up to a day, that day included: an answer, GV_CLOSED and 0. From then on no message of that day or

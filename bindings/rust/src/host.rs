@@ -4,7 +4,7 @@
 #![allow(unsafe_code)]
 
 /// The lengths of a board's lists.
-pub const BOARD_NUMBERS: usize = 707;
+pub const BOARD_NUMBERS: usize = 723;
 pub const BYTES: usize = 3072;
 pub const LINKS: usize = 11_264;
 pub const KEYS: usize = 2049;
@@ -19,6 +19,12 @@ pub const TALLIES: usize = 675;
 /// How many messages are each sender's own, and how many common.
 pub const SHARE: u16 = 16;
 pub const COMMON: u16 = 512;
+/// Where the backoff table begins in `board`: for how many steps a sender rests after the first `again` of a job, after
+/// the second, and so on.
+pub const BACKOFFS: usize = 707;
+/// How many entries it has, and how many rests an entry may say.
+pub const BACKOFF_ENTRIES: usize = 16;
+pub const MOST_RESTS: u8 = 64;
 /// Where the units begin in `links`.
 pub const UNITS: usize = 10_240;
 /// The longest table.
@@ -110,6 +116,14 @@ unsafe extern "C" {
         out_len: usize,
     ) -> u8;
     fn gv_open(table: *const u8, table_len: usize, board: *mut u16, board_len: usize) -> u8;
+    fn gv_open_with_rests(
+        table: *const u8,
+        table_len: usize,
+        rests: *const u8,
+        rests_len: usize,
+        board: *mut u16,
+        board_len: usize,
+    ) -> u8;
 }
 board_function!(gv_add, mut, [u16, u16, u32, i64, u32, u16], u32);
 board_function!(gv_step, mut, [u16], u32);
@@ -136,6 +150,14 @@ pub fn merge_tables(first: &[u8], second: &[u8], map: &[u8], out: &mut [u8]) -> 
 pub fn open(table: &[u8], board: &mut [u16]) -> u8 {
     // SAFETY: both slices are borrowed until the call returns, the board exclusively.
     unsafe { gv_open(table.as_ptr(), table.len(), board.as_mut_ptr(), board.len()) }
+}
+
+/// Opens a board with that backoff table in place of the built-in one.
+pub fn open_with_rests(table: &[u8], rests: &[u8], board: &mut [u16]) -> u8 {
+    let (table_len, rests_len, board_len) = (table.len(), rests.len(), board.len());
+    let (table, rests, board) = (table.as_ptr(), rests.as_ptr(), board.as_mut_ptr());
+    // SAFETY: the three slices are borrowed until the call returns, the board exclusively.
+    unsafe { gv_open_with_rests(table, table_len, rests, rests_len, board, board_len) }
 }
 
 #[expect(clippy::too_many_arguments)]

@@ -2,7 +2,8 @@
 //!
 //! A [`Matcher`] owns a table of chords and a board. Senders add messages and take steps; the matcher says what each
 //! step did. A close lets no more messages in that are dated up to its day. Of the board's 1,024 messages 16 are each
-//! sender's own and 512 common. A refused call alters nothing. [`merge_tables`] makes one table of two.
+//! sender's own and 512 common. How long a sender rests between its tries, the board's backoff table says. A refused
+//! call alters nothing. [`merge_tables`] makes one table of two.
 
 mod answer;
 pub mod host;
@@ -58,10 +59,33 @@ pub struct Matcher {
 }
 
 impl Matcher {
-    /// An empty board for that table, or what is wrong with the table.
+    /// An empty board for that table, with the built-in backoff table, or what is wrong with the table.
     pub fn open(table: impl Into<Vec<u8>>) -> Result<Matcher, Refusal> {
         let (table, mut lists) = (table.into(), Lists::default());
         refused(host::open(&table, &mut lists.board))?;
+        Ok(Matcher { table, lists })
+    }
+
+    /// The same with a backoff table of one's own: sixteen entries, none over 64 and none less than the one before it.
+    /// After the k-th [`Answer::Again`] of a job a sender spends as many steps, each [`Answer::Rested`], as entry k
+    /// says, from 1; beyond 16, as the last one says.
+    ///
+    /// ```
+    /// use gevnyusto::{Matcher, Refusal};
+    ///
+    /// // Rents and receipts, which leave; a chord of both, of one property.
+    /// const RENTS: [u8; 20] = [2, 0, 1, 0, 2, 0, 12, 0, 14, 0, 18, 0, 0, 0, 0, 0, 2, 1, 0, 1];
+    ///
+    /// let matcher = Matcher::open_with_rests(RENTS, &[20; 16])?;
+    /// assert_eq!(matcher.rests(), [20; 16]);
+    /// assert_eq!(Matcher::open(RENTS)?.rests(), [0, 1, 1, 2, 2, 4, 4, 8, 8, 16, 16, 16, 32, 32, 32, 32]);
+    /// assert_eq!(Matcher::open_with_rests(RENTS, &[65; 16]).err(), Some(Refusal::WrongBackoffs));
+    /// assert_eq!(Matcher::open_with_rests(RENTS, &[]).err(), Some(Refusal::WrongBackoffs));
+    /// # Ok::<(), Refusal>(())
+    /// ```
+    pub fn open_with_rests(table: impl Into<Vec<u8>>, rests: &[u8]) -> Result<Matcher, Refusal> {
+        let (table, mut lists) = (table.into(), Lists::default());
+        refused(host::open_with_rests(&table, rests, &mut lists.board))?;
         Ok(Matcher { table, lists })
     }
 
@@ -190,7 +214,12 @@ impl Matcher {
 
     /// How many messages a sender has added; none where there is no such sender.
     pub fn added(&self, sender: u16) -> Option<u16> {
-        self.lists.board.get(host::TALLIES + usize::from(sender)).copied()
+        self.lists.board[host::TALLIES..host::BACKOFFS].get(usize::from(sender)).copied()
+    }
+
+    /// The backoff table that the board was opened with.
+    pub fn rests(&self) -> [u8; host::BACKOFF_ENTRIES] {
+        std::array::from_fn(|at| self.lists.board[host::BACKOFFS + at] as u8)
     }
 }
 

@@ -61,6 +61,7 @@ refusals! {
     MergedCounts 18 "the merged table would have over 16 channels, 32 chords or 256 members"
     DayClosed 19 "the day is the close day or before it"
     EarlierCloseDay 20 "the close day is before the present one"
+    WrongBackoffs 21 "the backoff table does not have 16 entries, or one is over 64 or less than the one before it"
     ShareUsedUp 26 "the sender has added its own 16 messages, and the 512 common ones are used up"
     NotSound 30 "the lent lists are not of their lengths, or the board is not sound"
     BufferTooShort 31 "the buffer is too short"

@@ -137,7 +137,7 @@ fn lists_that_are_refused() {
         assert_eq!(host::quiet(&RENTS, lists, &mut [0]), 30);
         assert_eq!(*lists, found);
     };
-    for (board, keys) in [(674, 2048), (674, 2049), (707, 2048)] {
+    for (board, keys) in [(674, 2048), (674, 2049), (723, 2048)] {
         let mut lists = opened();
         lists.board.truncate(board);
         lists.keys.truncate(keys);

@@ -156,7 +156,7 @@ fn tallies_of_no_sound_board() {
 
 #[test]
 fn lists_without_tallies() {
-    for length in [675, 706, 708] {
+    for length in [675, 706, 707] {
         let mut lists = Lists::default();
         lists.board.resize(length, 0);
         assert_eq!(answer(&mut lists, 0), refused(30));
@@ -169,7 +169,7 @@ fn lists_without_tallies() {
 fn what_moves_no_tally() {
     let mut lists = counted(0, &[9; 32]);
     assert_eq!(host::open(&RENTS, &mut lists.board), 0);
-    assert_eq!(lists.board[host::TALLIES..], [0; 32]);
+    assert_eq!(lists.board[host::TALLIES..host::BACKOFFS], [0; 32]);
     assert_eq!([6, 7].map(|sender| answer(&mut lists, sender)), [0, 1]);
     let tallies = lists.board[host::TALLIES..].to_vec();
     assert_eq!(host::close(&RENTS, &mut lists, 0), 18 << 16);
