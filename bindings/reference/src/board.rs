@@ -1,4 +1,7 @@
-//! The board: counts, 32 senders, the close day, what each sender has added, and the columns of messages and matches.
+//! The board: counts, 32 senders, the close day, what each sender has added, the backoff table, and the columns of
+//! messages and matches.
+
+use crate::backoff::Backoff;
 
 pub const SENDERS: usize = 32;
 pub const MESSAGES: usize = 1024;
@@ -118,6 +121,8 @@ pub struct Board {
     pub close_day: Option<u32>,
     /// How many messages each sender has added.
     pub counts: [u16; SENDERS],
+    /// The one that the board was opened with.
+    pub backoff: Backoff,
     pub columns: Columns,
 }
 

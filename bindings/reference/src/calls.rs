@@ -1,6 +1,7 @@
 //! The public calls: each gives the table's refusal first, then 30 for a board that is not sound.
 
 use crate::answer::{Answer, Refusal};
+use crate::backoff::Backoff;
 use crate::board::{Board, held};
 use crate::table::Table;
 
@@ -72,8 +73,16 @@ fn judged(table: &[u8], board: &Board) -> Result<Table, Refusal> {
     if board.is_sound(&table) { Ok(table) } else { Err(30) }
 }
 
+/// An empty board, with the built-in backoff table.
 pub fn open(table: &[u8]) -> Result<Board, Refusal> {
     Table::read(table).map(|_| Board::default())
+}
+
+/// An empty board, with that backoff table.
+pub fn open_with_rests(table: &[u8], rests: &[u8]) -> Result<Board, Refusal> {
+    Table::read(table)?;
+    let backoff = Backoff::given(rests).ok_or(21)?;
+    Ok(Board { backoff, ..Board::default() })
 }
 
 pub fn call(table: &[u8], board: &mut Board, call: Call) -> Answer {

@@ -8,6 +8,7 @@
 //! the chord at the end of a pass is 0.
 
 pub mod answer;
+pub mod backoff;
 pub mod board;
 pub mod calls;
 pub mod lists;
@@ -20,12 +21,15 @@ pub mod step;
 pub mod table;
 
 pub use answer::{Answer, Refusal};
+pub use backoff::Backoff;
 pub use board::{Board, Columns, Phase, Sender, State};
 pub use calls::{Call, Match, Message, Rows, Sent};
 pub use lists::Lists;
-pub use numbers::{COUNTS, HAS_CLOSE, NUMBERS, SENDER_NUMBERS};
+pub use numbers::{COUNTS, HAS_CLOSE, NUMBERS, RESTS, SENDER_NUMBERS};
 pub use table::{Chord, Equality, Table};
 
+#[cfg(test)]
+mod backoff_tests;
 #[cfg(test)]
 mod close_tests;
 #[cfg(test)]

@@ -1,5 +1,6 @@
-//! The board as the host interface's 707 numbers, and the close day beside them.
+//! The board as the host interface's 723 numbers, and the close day beside them.
 
+use crate::backoff::{Backoff, ENTRIES};
 use crate::board::{Board, Columns, Phase, SENDERS, Sender, State, held, kept};
 
 /// Numbers a sender takes.
@@ -8,8 +9,10 @@ pub const SENDER_NUMBERS: usize = 21;
 pub const HAS_CLOSE: usize = 2 + SENDER_NUMBERS * SENDERS;
 /// From here, how many messages each sender has added.
 pub const COUNTS: usize = HAS_CLOSE + 1;
+/// From here, the backoff table.
+pub const RESTS: usize = COUNTS + SENDERS;
 /// Numbers a board takes.
-pub const NUMBERS: usize = COUNTS + SENDERS;
+pub const NUMBERS: usize = RESTS + ENTRIES;
 
 impl Board {
     pub fn to_numbers(&self) -> [u16; NUMBERS] {
@@ -19,7 +22,8 @@ impl Board {
             part.copy_from_slice(&sender.to_numbers());
         }
         numbers[HAS_CLOSE] = self.close_day.is_some().into();
-        numbers[COUNTS..].copy_from_slice(&self.counts);
+        numbers[COUNTS..RESTS].copy_from_slice(&self.counts);
+        numbers[RESTS..].copy_from_slice(&self.backoff.0.map(u16::from));
         numbers
     }
 
@@ -31,7 +35,8 @@ impl Board {
         for (part, sender) in numbers[2..HAS_CLOSE].chunks_exact(SENDER_NUMBERS).zip(&mut board.senders) {
             *sender = Sender::from_numbers(part)?;
         }
-        board.counts.copy_from_slice(&numbers[COUNTS..]);
+        board.counts.copy_from_slice(&numbers[COUNTS..RESTS]);
+        board.backoff = entries(&numbers[RESTS..])?;
         Some(board)
     }
 }
@@ -110,6 +115,15 @@ impl Phase {
             _ => None,
         }
     }
+}
+
+/// None where an entry is no byte.
+fn entries(numbers: &[u16]) -> Option<Backoff> {
+    let mut backoff = Backoff::default();
+    for (entry, &number) in backoff.0.iter_mut().zip(numbers) {
+        *entry = number.try_into().ok()?;
+    }
+    Some(backoff)
 }
 
 fn flag(number: u16) -> Option<bool> {

@@ -12,6 +12,7 @@ impl Board {
             && self.senders_sound(table)
             && self.owners_differ()
             && self.counts_sound()
+            && self.backoff.passes()
     }
 
     /// Every counted message has a channel, a status and cents in range, and what its status calls for.

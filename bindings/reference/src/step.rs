@@ -6,9 +6,6 @@ use crate::calls::Sent;
 use crate::look::Wanted;
 use crate::table::{Chord, Table};
 
-/// Rests after the k-th `again`, from 1; beyond 16, as at 16.
-const RESTS: [u8; 16] = [0, 1, 1, 2, 2, 4, 4, 8, 8, 16, 16, 16, 32, 32, 32, 32];
-
 impl Board {
     pub fn core_add(&mut self, table: &Table, sender: u16, sent: Sent) -> Answer {
         match self.add_refusal(table, sender, sent) {
@@ -254,7 +251,7 @@ impl Board {
         let sender = &mut self.senders[i];
         sender.retry = false;
         sender.retries = sender.retries.saturating_add(1);
-        match RESTS[usize::from(sender.retries.min(16)) - 1] {
+        match self.backoff.rests(sender.retries) {
             0 => self.begin_pass(table, i),
             rests => sender.phase = Phase::Backoff(rests - 1),
         }
