@@ -104,6 +104,7 @@ example table_p
 example two_offices
 example closed_month
 example one_import
+example slow_links
 try "the example in Rust" \
     prints bindings/rust/examples/table_p.out crates run -q -p gevnyusto --example table_p
 crate_tests
@@ -111,11 +112,12 @@ crate_tests
 try "the comparison, compiled" crates build -p differential
 try "a million calls and 200,000 merges compared" "$differential" --calls 1000000 --merges 200000
 sed 's/^/  /' "$work/said"
-# Every word is answered in these 2,000 calls, and days and units decide all that they can; in those 8,000 calls words
-# of sixty-four messages and closed days do, the common messages are used and a board is filled, and counts are set in
-# every way.
-try "the comparison under valgrind" careful "$differential" --calls 2000 --merges 1000 --seed 560
-try "looks by words, closed days and shares under valgrind" careful "$differential" --calls 8000 --merges 0 --seed 1423
+# Every word is answered in these 2,000 calls, and days and units decide all that they can; in those 13,000 calls words
+# of sixty-four messages, closed days and backoff tables do, the common messages are used and a board is filled, counts
+# and backoff tables are set in every way, and openings refused on every ground.
+try "the comparison under valgrind" careful "$differential" --calls 2000 --merges 1000 --seed 574
+try "looks by words, closed days, shares and rests under valgrind" \
+    careful "$differential" --calls 13000 --merges 0 --seed 452
 for fault in list refusal read reading merge law number newest tie hand \
     no-unit unit-alone unit-at-1 unit-at-0 mark last-byte \
     past-the-count lowest-bit zero-word next-bit last-bit whole-word mark-past \
@@ -123,7 +125,10 @@ for fault in list refusal read reading merge law number newest tie hand \
     close-day-open cents-first channel-last none-as-0 none-as-any \
     earlier-close equal-close close-signal unwritten-close close-sender \
     share-15 share-17 common-511 common-513 eaten-shares used-before-day used-before-cents \
-    refused-counts no-sum no-parts sum-modulo; do
+    refused-counts no-sum no-parts sum-modulo \
+    next-entry entry-16-for-15 entry-15-for-16 beyond-16 built-in-read built-in-kept rests-65 rests-64 first-entry \
+    last-falls empty-as-none length-modulo rests-before-table length-before-rests sound-65 sound-falls \
+    sound-low-byte rests-written half-opened; do
     try "a fault put in: $fault" finds "$fault"
 done
 

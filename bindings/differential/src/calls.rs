@@ -36,7 +36,8 @@ pub fn is_refusal(answer: u32) -> bool {
 /// The host interface. Answers and refusals are its numbers.
 pub trait Calls {
     fn table_refusal(&mut self, table: &[u8]) -> u8;
-    fn open(&mut self, table: &[u8], board: &mut [u16]) -> u8;
+    /// With that backoff table, or where none is given with the built-in one.
+    fn open(&mut self, table: &[u8], rests: Option<&[u8]>, board: &mut [u16]) -> u8;
     fn call(&mut self, table: &[u8], lists: &mut Lists, call: Call) -> u32;
     fn replay(&mut self, table: &[u8], lists: &mut Lists, rows: &Rows, answers: &mut [u32]) -> u8;
     fn read(&mut self, table: &[u8], lists: &mut Lists, read: Read, out: &mut [i64]) -> u8;

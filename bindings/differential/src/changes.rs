@@ -4,7 +4,7 @@ use crate::invariant::senders;
 use crate::random::Random;
 use reference::board::{CLAIMED, MESSAGES, MOST_CENTS, PENDING};
 use reference::lists::{CHORDS, CLOSE_DAY, DAYS, MEMBERS, STATUSES, UNITS, WAKERS};
-use reference::{COUNTS, HAS_CLOSE, Lists, SENDER_NUMBERS, Sender, State, Table};
+use reference::{COUNTS, HAS_CLOSE, Lists, RESTS, SENDER_NUMBERS, Sender, State, Table};
 
 /// Changes one number anywhere to any value; says in which of `PARTS`, and what.
 pub fn change_any(lists: &mut Lists, random: &mut Random) -> (usize, String) {
@@ -15,7 +15,7 @@ pub fn change_any(lists: &mut Lists, random: &mut Random) -> (usize, String) {
     };
     let (at, match_at) = (place(lists.board[0], random), place(lists.board[1], random));
     let cents = random.pick(&[MOST_CENTS + 1, -MOST_CENTS - 1, i64::MIN, i64::MAX, 5]);
-    match random.below(18) {
+    match random.below(19) {
         0 => (1, put(&mut lists.bytes, at, value as u8)),
         1 => (2, put(&mut lists.bytes, STATUSES + at, value as u8)),
         2 => (3, put(&mut lists.bytes, CHORDS + match_at, value as u8)),
@@ -28,7 +28,8 @@ pub fn change_any(lists: &mut Lists, random: &mut Random) -> (usize, String) {
         9 => (10, put(&mut lists.cents, at, cents)),
         10 => (11, put(&mut lists.board, HAS_CLOSE, random.pick(&[0, 1, 2, 3, value]))),
         11 => (12, put(&mut lists.keys, CLOSE_DAY, random.pick(&[0, 1, value.into(), u32::MAX]))),
-        12 => (13, put_another_count(&mut lists.board[COUNTS..], random, value)),
+        12 => (13, put_another_count(&mut lists.board[COUNTS..RESTS], random, value)),
+        13 => (14, put_entry(&mut lists.board[RESTS..], random, value)),
         _ => {
             let at = random.below(HAS_CLOSE);
             (0, put(&mut lists.board, at, value))
@@ -50,6 +51,13 @@ fn put_another_count(counts: &mut [u16], random: &mut Random, value: u16) -> Str
     let at = random.below(counts.len());
     let other = random.pick(&[1, u16::MAX, value.max(1)]);
     put(counts, at, counts[at].wrapping_add(other))
+}
+
+/// An entry as one beside it, one more or less, or any number.
+fn put_entry(rests: &mut [u16], random: &mut Random, value: u16) -> String {
+    let at = random.below(rests.len());
+    let (before, next) = (rests[at.saturating_sub(1)], rests[(at + 1).min(rests.len() - 1)]);
+    put(rests, at, random.pick(&[before, next, next + 1, before.wrapping_sub(1), 64, 65, value]))
 }
 
 /// Channels, statuses, units, properties and days as messages have them, most of them pending and many of them old.

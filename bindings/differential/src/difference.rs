@@ -1,7 +1,7 @@
 //! How the lists of two boards differ.
 
 use reference::lists::{CHORDS, CLOSE_DAY, DAYS, MEMBERS, STATUSES, UNITS, WAKERS};
-use reference::{COUNTS, HAS_CLOSE, Lists, NUMBERS, Phase, SENDER_NUMBERS, Sender, State, Table};
+use reference::{COUNTS, HAS_CLOSE, Lists, NUMBERS, Phase, RESTS, SENDER_NUMBERS, Sender, State, Table};
 use std::fmt::Display;
 
 /// The first difference in what the scope paper determines; without a table, in any number.
@@ -64,9 +64,11 @@ fn boards_differ(ours: &[u16], theirs: &[u16], table: Option<&Table>) -> Option<
     };
     let of_close = |_| "whether a day is closed".to_string();
     let of_counts = |i: usize| format!("how many messages sender {i} has added");
+    let of_rests = |at: usize| format!("entry {} of the backoff table", at + 1);
     first(plain, &ours[..2], &theirs[..2], |_| false)
         .or_else(|| first(of_close, &ours[HAS_CLOSE..COUNTS], &theirs[HAS_CLOSE..COUNTS], |_| false))
-        .or_else(|| first(of_counts, &ours[COUNTS..], &theirs[COUNTS..], |_| false))
+        .or_else(|| first(of_counts, &ours[COUNTS..RESTS], &theirs[COUNTS..RESTS], |_| false))
+        .or_else(|| first(of_rests, &ours[RESTS..], &theirs[RESTS..], |_| false))
         .or_else(|| (0..32).find_map(senders_differ))
 }
 

@@ -2,18 +2,21 @@
 
 use crate::calls::{Call, Calls, Merge, Read, is_refusal, refused};
 use crate::closes::close_day;
-use crate::looks::{Candidate, LOOKED, Look, MISSED};
+use crate::looks::{LOOKED, Look, MISSED};
 use crate::misclosed::{self, close_wrongly, refuse_by_sender};
+use crate::mislooked::{look_wrongly, mark_wrongly, unseen};
+use crate::misrested;
 use crate::misshared;
 use crate::plain_rust::Reference;
 use crate::shares::counts;
-use crate::words::{BLOCK, Blocks};
 use reference::board::{MESSAGES, SENDERS, WOKEN};
 use reference::lists::{DAYS, STATUSES, UNITS, WAKERS};
 use reference::table::HEADER;
-use reference::{COUNTS, Equality, HAS_CLOSE, Lists, Rows, SENDER_NUMBERS, Sent, Table};
+use reference::{COUNTS, Equality, HAS_CLOSE, Lists, RESTS, Rows, SENDER_NUMBERS, Sent, Table};
 
-/// Kinds of faults by name, but for those of shares.
+const AGAIN: u32 = 12;
+
+/// Kinds of faults by name, but for those of shares and of rests.
 const OTHERS: [&str; 39] = [
     "answer",
     "list",
@@ -58,7 +61,7 @@ const OTHERS: [&str; 39] = [
 
 /// All kinds of faults by name.
 pub fn faults() -> impl Iterator<Item = &'static str> {
-    OTHERS.into_iter().chain(misshared::FAULTS)
+    OTHERS.into_iter().chain(misshared::FAULTS).chain(misrested::FAULTS)
 }
 
 /// Looks by another equality than the chord's: at which last byte, which one stands for it, and whether properties are
@@ -86,6 +89,9 @@ impl Faulty {
         if self.fault == "refusal" && is_refusal(answer) {
             lists.links.iter_mut().last().into_iter().for_each(|link| *link ^= 1);
         }
+        if let Some(answer) = self.rest_wrongly(table, lists, &before, call, answer) {
+            return answer;
+        }
         if misshared::is_let_through(&self.fault, &before, call, answer) {
             return self.call_with_sound_counts(table, lists, call);
         }
@@ -101,6 +107,27 @@ impl Faulty {
             (_, LOOKED | MISSED) => self.look(table, lists, before, call, answer).unwrap_or(answer),
             (Call::Step { sender }, _) => step_wrongly(&self.fault, table, lists, sender.into(), answer),
         }
+    }
+
+    /// A call by another backoff table than the board's; none if the fault is no such one.
+    fn rest_wrongly(
+        &mut self,
+        table: &[u8],
+        lists: &mut Lists,
+        before: &Lists,
+        call: Call,
+        answer: u32,
+    ) -> Option<u32> {
+        misrested::write(&self.fault, lists, answer);
+        let again = call.sender().filter(|_| answer >> 16 == AGAIN);
+        let again = again.map(|i| 1 + usize::from(before.board[2 + SENDER_NUMBERS * i + 12]));
+        let read = again.and_then(|again| misrested::read(&self.fault, before, again));
+        let other = read.or_else(|| misrested::sound_rests(&self.fault, before, answer))?;
+        lists.copy(before);
+        lists.board[RESTS..].copy_from_slice(&other);
+        let answer = self.inner.call(table, lists, call);
+        lists.board[RESTS..].copy_from_slice(&before.board[RESTS..]);
+        Some(answer)
     }
 
     /// Whether it is an add of the close day, which the fault lets through.
@@ -119,10 +146,10 @@ impl Faulty {
     fn call_with_sound_counts(&mut self, table: &[u8], lists: &mut Lists, call: Call) -> u32 {
         let (mut counts, sender) = (counts(lists).to_vec(), call.sender().unwrap_or(0) % SENDERS);
         let sound = misshared::sound_counts(lists.board[0].min(MESSAGES as u16), sender);
-        lists.board[COUNTS..].copy_from_slice(&sound);
+        lists.board[COUNTS..RESTS].copy_from_slice(&sound);
         let answer = self.inner.call(table, lists, call);
         counts[sender] = counts[sender].wrapping_add((answer >> 16 == 0).into());
-        lists.board[COUNTS..].copy_from_slice(&counts);
+        lists.board[COUNTS..RESTS].copy_from_slice(&counts);
         answer
     }
 
@@ -185,8 +212,9 @@ impl Calls for Faulty {
         }
     }
 
-    fn open(&mut self, table: &[u8], board: &mut [u16]) -> u8 {
-        self.inner.open(table, board)
+    fn open(&mut self, table: &[u8], rests: Option<&[u8]>, board: &mut [u16]) -> u8 {
+        let fault = if self.due(&self.fault) { self.fault.as_str() } else { "" };
+        misrested::open(fault, &mut self.inner, table, rests, board)
     }
 
     fn call(&mut self, table: &[u8], lists: &mut Lists, call: Call) -> u32 {
@@ -239,55 +267,6 @@ fn step_wrongly(fault: &str, table: &[u8], lists: &mut Lists, sender: usize, ans
         _ => {}
     }
     answer
-}
-
-/// Takes another message than the look took: the first that fits, the newest, the last of the oldest, one past the
-/// count, the first of its block, or one that is older than the message in hand in its place.
-fn look_wrongly(fault: &str, look: &Look, lists: &mut Lists, answer: u32) -> Option<u32> {
-    let oldest = |it: &Candidate| (it.day, it.number);
-    let past = || look.pending_past.iter().copied().filter(|it| look.fits(it));
-    let wrong = match fault {
-        _ if answer >> 16 == MISSED => None,
-        "hand" if look.of_hand => look.fitting().min_by_key(oldest).filter(|it| it.day < look.hand.day),
-        _ if look.of_hand => None,
-        "number" => look.fitting().min_by_key(|it| it.number),
-        "newest" => look.fitting().min_by_key(|it| (!it.day, it.number)),
-        "tie" => look.fitting().min_by_key(|it| (it.day, !it.number)),
-        "past-the-count" => look.fitting().chain(past()).min_by_key(oldest),
-        "lowest-bit" => look.fitting().find(|it| it.block() == answer as u16 / BLOCK),
-        _ => None,
-    }?;
-    look.put(lists, wrong.number);
-    Some(LOOKED << 16 | u32::from(wrong.number))
-}
-
-/// Those that fit and are not seen: all after the first block of which none fits, the second of each block, the last of
-/// each block, or all of a last block that is whole.
-fn unseen(fault: &str, look: &Look) -> Vec<usize> {
-    let blocks = Blocks::of(look);
-    let zero = (blocks.fitting | blocks.chosen).trailing_ones() as u16;
-    let second = |block: u16| look.fitting().filter(|it| it.block() == block).nth(1);
-    let is_unseen = |it: &Candidate| match fault {
-        _ if look.of_hand => false,
-        "zero-word" => it.block() > zero,
-        "next-bit" => second(it.block()).is_some_and(|second| second.number == it.number),
-        "last-bit" => it.number % BLOCK == BLOCK - 1,
-        "whole-word" => look.count == (it.block() + 1) * BLOCK,
-        _ => false,
-    };
-    look.fitting().filter(is_unseen).map(|it| it.number.into()).collect()
-}
-
-/// A message that marks no retry marks one: a claimed one of another unit, or one past the count.
-fn mark_wrongly(fault: &str, look: &Look, lists: &mut Lists) {
-    let marks = match fault {
-        "mark" => look.equality == Equality::Unit && look.claimed.iter().any(Candidate::is_of_another_unit),
-        "mark-past" => look.claimed_past.iter().any(|it| look.fits(it)),
-        _ => false,
-    };
-    if marks {
-        look.mark(lists);
-    }
 }
 
 fn with_last_byte(table: &[u8], chord: u8, byte: u8) -> Vec<u8> {

@@ -1,41 +1,15 @@
 //! How a schedule chooses its calls.
 
+use crate::backoffs::{KINDS, Kind};
 use crate::calls::Call;
 use crate::closes::close_day;
+use crate::days::{self, Days};
 use crate::invariant::senders;
 use crate::random::{Random, random_table};
 use crate::shares::{counts, has_used_up};
 use reference::board::{MESSAGES, MOST_CENTS, PENDING, SENDERS, SHARE};
 use reference::lists::{DAYS, STATUSES};
-use reference::{Equality, Lists, Sender, Sent, State, Table};
-
-/// How the days of a schedule's messages come.
-#[derive(Clone, Copy)]
-enum Days {
-    None,
-    Equal,
-    Few,
-    Many,
-    Rising,
-    Falling,
-    Extreme,
-}
-
-impl Days {
-    /// A day for the message of that number.
-    fn next(self, random: &mut Random, number: u16) -> u32 {
-        let some = 1 + u32::from(number) / 3;
-        match self {
-            Days::None => 0,
-            Days::Equal => 20_454,
-            Days::Few => random.below(4) as u32,
-            Days::Many => random.next() as u32,
-            Days::Rising => some,
-            Days::Falling => u32::MAX - some,
-            Days::Extreme => random.pick(&[0, 1, u32::MAX - 1, u32::MAX]),
-        }
-    }
-}
+use reference::{Equality, Lists, Phase, Sender, Sent, State, Table};
 
 /// Units that a schedule's messages have: one, few, the extremes, such as differ in their high bytes only.
 const UNITS: [&[u16]; 5] = [&[0], &[0, 1], &[0, 1, 2, 65_535], &[1, 257, 65_281], &[0, 65_535]];
@@ -68,51 +42,61 @@ pub struct Habits {
     last: usize,
     /// No adds, until the board is quiet.
     pub draining: bool,
+    /// Senders that hold claimed messages mostly wait, so that others try again and again.
+    contending: bool,
+    /// The backoff table that the board is opened with.
+    pub kind: Kind,
 }
 
 impl Habits {
     pub fn new(random: &mut Random, number: u64) -> Habits {
-        let (filling, by_unit) = (number % 12 == 1, number % 24 == 13);
-        let greedy: &[usize] = if filling { GREEDY[(number / 12 % 3) as usize] } else { &[0] };
+        let (filling, by_unit, contending) = (number % 10 == 1, number % 20 == 11, number % 5 == 3);
+        let greedy: &[usize] = if filling { GREEDY[(number / 10 % 3) as usize] } else { &[0] };
         let properties: &[usize] = match (filling, by_unit) {
             (_, true) => &[3, 10, 30],
             (true, _) => &[1, 3, 30, 300],
+            _ if contending => &[1, 1, 2],
             _ => &[1, 2, 2, 3, 5],
+        };
+        let (adding, lengths): (&[usize], &[usize]) = match (filling, contending) {
+            (true, _) => (&[90], &[8_000]),
+            (_, true) => (&[0], &[600, 1_500]),
+            _ => (&[10, 20, 35, 50], &[100, 300, 600, 1_500]),
         };
         Habits {
             favoured: random.pick(&[2, 3, 6, 12, 32]),
             properties: random.pick(properties),
             apart: random.pick(&[1, 1, 1, 256, 65_536, 16_777_216]),
-            days: random.pick(&[
-                Days::None,
-                Days::Equal,
-                Days::Few,
-                Days::Many,
-                Days::Rising,
-                Days::Falling,
-                Days::Extreme,
-            ]),
+            days: random.pick(&days::SORTS),
             units: random.pick(if by_unit { &SEVERAL } else { &UNITS[..] }),
             closing: random.pick(if filling { &[0, 2, 10] } else { &[0, 0, 5, 20, 60] }),
-            adding: if filling { 90 } else { random.pick(&[10, 20, 35, 50]) },
+            adding: random.pick(adding),
             run_on: random.pick(&[0, 30, 70, 95]),
-            length: if filling { 8_000 } else { random.pick(&[100, 300, 600, 1_500]) },
+            length: random.pick(lengths),
             filling,
             greedy: random.pick(greedy),
             by_unit,
             last: 0,
             draining: false,
+            contending,
+            kind: random.pick(&KINDS).0,
         }
     }
 
-    /// A table; to be filled, a board wants one or two chords and a channel that lets its senders go.
+    /// A table; to be filled, a board wants one or two chords and a channel that lets its senders go, and its senders
+    /// want few chords to contend, the first of two messages or more.
     pub fn table(&self, random: &mut Random) -> Vec<u8> {
         loop {
             let table = random_table(random);
-            if !self.filling || Table::read(&table).is_ok_and(|table| self.can_fill(&table)) {
+            if Table::read(&table).is_ok_and(|table| self.suits(&table)) {
                 return table;
             }
         }
+    }
+
+    fn suits(&self, table: &Table) -> bool {
+        let can_contend = || (1..=3).contains(&table.chord_count) && table.chord(0).len > 1;
+        (!self.filling || self.can_fill(table)) && (!self.contending || can_contend())
     }
 
     fn can_fill(&self, table: &Table) -> bool {
@@ -132,7 +116,7 @@ impl Habits {
             return Call::Close { day: self.day_to_close(random, lists) };
         }
         let idle = self.adders(random, &senders, lists);
-        let busy = self.those(|i| !senders[i].at_rest());
+        let busy = self.steppers(random, &senders);
         if !busy.is_empty() && (self.draining || idle.is_empty() || !random.chance(self.adding)) {
             if !busy.contains(&self.last) || !random.chance(self.run_on) {
                 self.last = random.pick(&busy);
@@ -175,6 +159,13 @@ impl Habits {
         } else {
             self.those(|i| is_idle(i) && has_left(i) && i < self.greedy)
         }
+    }
+
+    /// Senders with a step to take. Where they contend, mostly those that hold no claimed message.
+    fn steppers(&self, random: &mut Random, senders: &[Sender]) -> Vec<usize> {
+        let free = self.those(|i| !senders[i].at_rest() && !holds(&senders[i]));
+        let waits = if free.is_empty() { random.chance(70) } else { random.below(400) > 0 };
+        if self.contending && !self.draining && waits { free } else { self.those(|i| !senders[i].at_rest()) }
     }
 
     /// The favoured senders that are as wanted; if none is, any such sender.
@@ -234,6 +225,12 @@ impl Habits {
     fn property(&self, random: &mut Random) -> u32 {
         if random.chance(2) { u32::MAX } else { self.apart.wrapping_mul(random.below(self.properties) as u32) }
     }
+}
+
+/// Whether a sender at work holds messages that it has claimed.
+fn holds(sender: &Sender) -> bool {
+    let holds = !matches!(sender.phase, Phase::Look(_) | Phase::Claim(0) | Phase::PassEnd | Phase::Backoff(_));
+    sender.state == State::Working && holds
 }
 
 fn leaving(table: &Table) -> impl Iterator<Item = u8> {

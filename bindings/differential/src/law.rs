@@ -1,6 +1,7 @@
 //! Request 1's law, played: a schedule that adds only to channels of the first table which no chord of the second names
 //! is answered alike under the first table and the merged one, and leaves the same board.
 
+use crate::backoffs::KINDS;
 use crate::calls::{Call, Calls, Merge, Read};
 use crate::closes::{Books, CLOSED};
 use crate::difference::difference;
@@ -10,6 +11,7 @@ use crate::merges::{merged_len, whole};
 use crate::pair::Checked;
 use crate::random::Random;
 use crate::strays::lent_anything;
+use crate::waits::Waits;
 use reference::{Lists, Sent, Table};
 
 const MATCHED: u32 = 6;
@@ -43,6 +45,8 @@ struct Boards<'a> {
     side: &'a mut dyn Calls,
     tables: &'a Tables,
     table: Table,
+    /// The backoff table that both were opened with.
+    rests: Option<Vec<u8>>,
     first: Lists,
     merged: Lists,
 }
@@ -62,6 +66,7 @@ pub fn run(side: &mut dyn Calls, random: &mut Random, number: u64, tally: &mut T
 
 fn play_inside(boards: &mut Boards, random: &mut Random, tally: &mut Tally) -> Checked<()> {
     let (mut habits, mut books, mut ledger) = (Habits::new(random, 0), Books::default(), Ledger::default());
+    let mut waits = Waits::of(boards.rests.as_deref())?;
     let length = random.pick(&[20, 40, 80, 120]);
     for turn in 0..length {
         habits.draining = turn > 2 * length / 3;
@@ -71,6 +76,7 @@ fn play_inside(boards: &mut Boards, random: &mut Random, tally: &mut Tally) -> C
         boards.compare(random, one, two).map_err(|difference| format!("{call:?}: {difference}"))?;
         books.check(&boards.first, call, one)?;
         ledger.check(&boards.first, call, one)?;
+        waits.check(&boards.first, call, one)?;
         tally.calls += 1;
         tally.reads += 4;
         tally.matches += u64::from(one >> 16 == MATCHED);
@@ -137,9 +143,10 @@ impl Boards<'_> {
     fn open<'a>(side: &'a mut dyn Calls, tables: &'a Tables, random: &mut Random) -> Checked<Boards<'a>> {
         let lent = lent_anything(random);
         let table = Table::read(&tables.first).map_err(|number| format!("refused {number}"))?;
-        let mut boards = Boards { side, tables, table, first: lent.clone(), merged: lent };
-        let one = boards.side.open(&tables.first, &mut boards.first.board);
-        let two = boards.side.open(&tables.merged, &mut boards.merged.board);
+        let rests = random.pick(&KINDS).0.bytes(random);
+        let mut boards = Boards { side, tables, table, rests, first: lent.clone(), merged: lent };
+        let one = boards.side.open(&tables.first, boards.rests.as_deref(), &mut boards.first.board);
+        let two = boards.side.open(&tables.merged, boards.rests.as_deref(), &mut boards.merged.board);
         if (one, two) == (0, 0) { Ok(boards) } else { Err(format!("open answers {one} and {two}")) }
     }
 

@@ -3,10 +3,11 @@
 //!     differential [--calls N] [--merges N] [--seed S] [--fault KIND]
 //!
 //! Random schedules, with excursions to sound boards that no schedule reaches, to damaged lists and tables, and to
-//! lists of another length. From 100,000 calls on, every word, the refusals 8 to 11, 13, 19, 20 and 26, every sort of
-//! damage, looks that days, units and words of sixty-four messages decide, and what closed days and senders' shares
-//! decide must occur. After every call of a schedule no add of a day that was closed before is accepted, and each
-//! sender has what its accepted adds come to, its own messages whatever the others do.
+//! lists of another length, and to openings with backoff tables that pass or do not. From 100,000 calls on, every word,
+//! the refusals 8 to 11, 13, 19, 20 and 26, every sort of damage and every ground of 21, looks that days, units and
+//! words of sixty-four messages decide, and what closed days, senders' shares and backoff tables decide must occur.
+//! After every call of a schedule no add of a day that was closed before is accepted, each sender has what its accepted
+//! adds come to, its own messages whatever the others do, and it rests as the backoff table of the opening says.
 //!
 //! Then merges of random tables, whole and damaged, and for every hundred of them two schedules that are played under a
 //! table and under a merged one: one inside request 1's law, which is answered alike, and one that leaves it. From
@@ -15,10 +16,13 @@
 //! With `--fault`, or built without the feature `host`, the reference stands on both sides. The last line is
 //! `differential: N passed, M failed`, N being the calls and merges that went the same way.
 
+mod backoffs;
 mod calls;
 mod changes;
 mod closes;
+mod days;
 mod difference;
+mod edited;
 mod faulty;
 mod grounds;
 mod habits;
@@ -28,7 +32,10 @@ mod ledger;
 mod looks;
 mod merges;
 mod misclosed;
+mod mislooked;
+mod misrested;
 mod misshared;
+mod openings;
 mod pair;
 mod plain_rust;
 #[cfg(feature = "host")]
@@ -40,6 +47,7 @@ mod seen;
 mod shares;
 mod stays;
 mod strays;
+mod waits;
 mod words;
 
 use calls::Calls;
@@ -52,9 +60,9 @@ use std::process::ExitCode;
 
 const HELP: &str = "\
 usage: differential [--calls N] [--merges N] [--seed S] [--fault KIND]
-From 100,000 calls on, every word, the refusals 8 to 11, 13, 19, 20 and 26, every sort of damage, looks that days, units
-and words of sixty-four messages decide, and what closed days and senders' shares decide must occur; from 100,000 merges
-on, every ground of a refusal and answers that differ outside the law.";
+From 100,000 calls on, every word, the refusals 8 to 11, 13, 19, 20 and 26, every sort of damage, every ground of 21,
+looks that days, units and words of sixty-four messages decide, and what closed days, senders' shares and backoff tables
+decide must occur; from 100,000 merges on, every ground of a refusal and answers that differ outside the law.";
 
 /// So many calls are enough for every word to occur, so many merges for every ground.
 const COVERING: u64 = 100_000;
@@ -134,7 +142,7 @@ fn accepting() -> impl Iterator<Item = usize> {
 }
 
 /// Every word and the refusals must have been answered, every list damaged, looks decided by days, by units and by
-/// words, and calls by closed days and by shares, if there were calls enough.
+/// words, and calls by closed days, by shares and by backoff tables, if there were calls enough.
 fn missing(tally: &Tally) -> Option<String> {
     if tally.calls < COVERING {
         return None;

@@ -7,7 +7,7 @@ use crate::seen::Seen;
 use crate::shares;
 use crate::stays::altered;
 use reference::calls::CLOSE;
-use reference::{Lists, Rows, Table};
+use reference::{Lists, RESTS, Rows, Table};
 
 pub type Checked<T> = Result<T, String>;
 
@@ -41,6 +41,8 @@ pub struct Pair {
     pub theirs: Lists,
     ours_before: Lists,
     theirs_before: Lists,
+    /// The numbers of their first opened board, up to the backoff table.
+    opened: Vec<u16>,
     pub tally: Tally,
 }
 
@@ -55,6 +57,7 @@ impl Pair {
             theirs: lists.clone(),
             ours_before: lists.clone(),
             theirs_before: lists,
+            opened: Vec::new(),
             tally: Tally::default(),
         }
     }
@@ -63,21 +66,32 @@ impl Pair {
         Table::read(&self.table).ok()
     }
 
-    /// Opens a board for that table in the lists of both.
-    pub fn open(&mut self, table: Vec<u8>) -> Checked<u8> {
+    /// Opens a board for that table in the lists of both, with that backoff table if one is given.
+    pub fn open(&mut self, table: Vec<u8>, rests: Option<&[u8]>) -> Checked<u8> {
         self.table = table;
         let (one, two) = (self.left.table_refusal(&self.table), self.right.table_refusal(&self.table));
         same("refusal of the table", one, two)?;
         self.keep_before();
-        let one = self.left.open(&self.table, &mut self.ours.board);
-        let two = self.right.open(&self.table, &mut self.theirs.board);
+        let one = self.left.open(&self.table, rests, &mut self.ours.board);
+        let two = self.right.open(&self.table, rests, &mut self.theirs.board);
         same("refusal of open", one, two)?;
         if one == 0 {
-            self.compare_lists()?
+            self.compare_opened()?
         } else {
             self.unchanged("refused opens")?
         }
         Ok(one)
+    }
+
+    /// What the papers leave open in an opened board is in every one the same, whatever stood there before.
+    fn compare_opened(&mut self) -> Checked<()> {
+        self.compare_lists()?;
+        let numbers = &self.theirs.board[..RESTS];
+        if self.opened.is_empty() {
+            self.opened = numbers.to_vec();
+        }
+        let other = (0..RESTS).find(|&at| self.opened[at] != numbers[at]);
+        other.map_or(Ok(()), |at| Err(format!("theirs: board number {at} is another than in the first opened board")))
     }
 
     /// The lists of both as given.

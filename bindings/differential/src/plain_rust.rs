@@ -43,8 +43,8 @@ impl Calls for Reference {
         table::table_refusal(table)
     }
 
-    fn open(&mut self, table: &[u8], board: &mut [u16]) -> u8 {
-        match calls::open(table) {
+    fn open(&mut self, table: &[u8], rests: Option<&[u8]>, board: &mut [u16]) -> u8 {
+        match rests.map_or_else(|| calls::open(table), |rests| calls::open_with_rests(table, rests)) {
             Err(number) => number,
             Ok(_) if board.len() != NUMBERS => 30,
             Ok(opened) => {

@@ -27,8 +27,11 @@ impl Calls for Host {
         host::table_refusal(table)
     }
 
-    fn open(&mut self, table: &[u8], board: &mut [u16]) -> u8 {
-        host::open(table, board)
+    fn open(&mut self, table: &[u8], rests: Option<&[u8]>, board: &mut [u16]) -> u8 {
+        match rests {
+            None => host::open(table, board),
+            Some(rests) => host::open_with_rests(table, rests, board),
+        }
     }
 
     fn call(&mut self, table: &[u8], lists: &mut Lists, call: Call) -> u32 {

@@ -8,7 +8,7 @@ use crate::shares::{counts, has_used_up};
 use crate::strays::{expect_number, expect_refused, random_call};
 use reference::board::{COMMON, MESSAGES, PENDING, SENDERS, SHARE};
 use reference::lists::{STATUSES, WAKERS};
-use reference::{COUNTS, Lists, Rows, Sent, State, Table};
+use reference::{COUNTS, Lists, RESTS, Rows, Sent, State, Table};
 
 const ITEM: u32 = 0;
 const SHARE_OF_ONE: usize = SHARE as usize;
@@ -104,7 +104,7 @@ fn recount(lists: &mut Lists, random: &mut Random, table: &Table, sort: Sort) {
         Sort::TooManyCommon => ALL_COMMON + 1,
         _ => some_common(random, messages),
     };
-    let counts = &mut lists.board[COUNTS..];
+    let counts = &mut lists.board[COUNTS..RESTS];
     counts.fill(0);
     spread(counts, random, messages, common);
     match sort {
@@ -184,8 +184,8 @@ mod tests {
             let (sort, what) = SORTS[turn % SORTS.len()];
             recount(&mut lists, &mut random, &table, sort);
             let is_sound = judge.verdict(&table, &lists) == Verdict::Sound;
-            assert_eq!(is_sound, sort.is_sound(), "{what} {:?}", &lists.board[COUNTS..]);
-            let (counts, messages) = (&lists.board[COUNTS..], u32::from(lists.board[0]));
+            assert_eq!(is_sound, sort.is_sound(), "{what} {:?}", counts(&lists));
+            let (counts, messages) = (counts(&lists), u32::from(lists.board[0]));
             let off = counts.iter().map(|&count| u32::from(count)).sum::<u32>().wrapping_sub(messages) as i32;
             let (off_by, common) = match sort {
                 Sort::Moved => (0, None),

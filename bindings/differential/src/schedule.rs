@@ -1,6 +1,7 @@
-//! Random schedules over random accepted tables, with the pool, the invariant and the laws of closes and shares beside
-//! them.
+//! Random schedules over random accepted tables, with the pool, the invariant and the laws of closes, shares and rests
+//! beside them.
 
+use crate::backoffs::{self, PAST_BUILT_IN};
 use crate::calls::{Call, Read, refused};
 use crate::closes::{self, Books, MATCHED_CLOSED, close_day};
 use crate::difference::difference;
@@ -12,6 +13,7 @@ use crate::pair::{Checked, Pair};
 use crate::random::Random;
 use crate::shares;
 use crate::strays;
+use crate::waits::Waits;
 use reference::board::MESSAGES;
 use reference::{Lists, Rows, Sender, Table};
 
@@ -19,20 +21,18 @@ const ITEM: u32 = 0;
 const MATCHED: u32 = 6;
 
 /// What a schedule's calls and answers alone say of its board.
-#[derive(Default)]
 struct Laws {
     pool: Pool,
     books: Books,
     ledger: Ledger,
+    waits: Waits,
 }
 
 /// The schedule of that number, on a table of its own; with excursions to boards that it does not reach.
 pub fn run(pair: &mut Pair, random: &mut Random, number: u64, most: u64) -> Checked<()> {
     let mut habits = Habits::new(random, number);
-    pair.set(&strays::lent_anything(random));
-    pair.open(habits.table(random))?;
-    let table = pair.parsed().ok_or("a random table is refused")?;
-    let (opened, mut laws) = (pair.ours.clone(), Laws::default());
+    let (table, mut laws) = open(pair, random, &habits)?;
+    let opened = pair.ours.clone();
     let (mut calls, mut answers) = (Vec::new(), Vec::new());
     let draining = if random.chance(50) { habits.length / 3 } else { 0 };
     for turn in 0..habits.length {
@@ -55,6 +55,17 @@ pub fn run(pair: &mut Pair, random: &mut Random, number: u64, most: u64) -> Chec
     play_again(pair, &opened, &calls, &answers)
 }
 
+/// A board with a table of its own, and often a backoff table, opened in lists that hold anything.
+fn open(pair: &mut Pair, random: &mut Random, habits: &Habits) -> Checked<(Table, Laws)> {
+    let rests = habits.kind.bytes(random);
+    pair.set(&strays::lent_anything(random));
+    pair.open(habits.table(random), rests.as_deref())?;
+    let table = pair.parsed().ok_or("a random table is refused")?;
+    pair.tally.seen.note(backoffs::opened("opened", habits.kind));
+    let waits = Waits::of(rests.as_deref())?;
+    Ok((table, Laws { pool: Pool::default(), books: Books::default(), ledger: Ledger::default(), waits }))
+}
+
 /// How soon a schedule ends on a board that takes no more messages, in percent.
 fn weariness(lists: &Lists) -> usize {
     let is_full = usize::from(lists.board[0]) == MESSAGES;
@@ -71,6 +82,7 @@ fn play(pair: &mut Pair, laws: &mut Laws, table: &Table, call: Call) -> Checked<
     let by_shares = shares::decided(pair.before(), call, answer);
     let decided: Vec<&str> = looked.chain(by_closes).chain(by_shares).collect();
     decided.into_iter().for_each(|what| pair.tally.seen.note(what));
+    backoffs::decided(pair.before(), call, answer).into_iter().for_each(|what| pair.tally.seen.note(what));
     if let (Some(sender), true) = (call.sender(), answer == refused(26)) {
         pair.tally.seen.note(shares::refused_to(sender));
     }
@@ -79,6 +91,9 @@ fn play(pair: &mut Pair, laws: &mut Laws, table: &Table, call: Call) -> Checked<
     }
     if laws.ledger.check(&pair.ours, call, answer)? {
         pair.tally.seen.note(shares::LAWFUL);
+    }
+    if laws.waits.check(&pair.ours, call, answer)? {
+        pair.tally.seen.note(PAST_BUILT_IN);
     }
     feed(pair, &mut laws.pool, table, call, answer)?;
     laws.pool.check(table, &pair.ours).map(|()| answer)

@@ -1,8 +1,11 @@
-//! Counts of what was lent to the calls, of refused calls that left it as found, and of what days, units, words, closes
-//! and shares decided.
+//! Counts of what was lent to the calls, of refused calls that left it as found, and of what days, units, words,
+//! closes, shares and backoff tables decided.
 
+use crate::backoffs::by_rests;
 use crate::closes::by_closes;
+use crate::edited::by_edits;
 use crate::looks::{BY_DAYS, BY_UNITS};
+use crate::openings::by_openings;
 use crate::random::LAST_BYTES;
 use crate::recounts::{DECIDING, SORTS};
 use crate::shares::by_shares;
@@ -11,7 +14,7 @@ use std::collections::HashMap;
 
 /// The lists of a board with their parts, and the lists of a replay's calls.
 pub const LISTS: [&str; 5] = ["board", "bytes", "links", "keys", "cents"];
-pub const PARTS: [&str; 14] = [
+pub const PARTS: [&str; 15] = [
     "board",
     "channels of bytes",
     "statuses of bytes",
@@ -26,12 +29,14 @@ pub const PARTS: [&str; 14] = [
     "close flag of board",
     "close day of keys",
     "counts of board",
+    "backoffs of board",
 ];
 pub const ROWS: [&str; 3] = ["calls", "numbers", "amounts"];
 /// Lengths that are not those of a list.
 pub const LENGTHS: [&str; 4] = ["one longer", "one shorter", "empty", "one part shorter"];
-/// Lists as they were before there were counts, and before there was a close day.
-pub const WITHOUT: [&str; 2] = ["board without the counts", "board and keys without the close"];
+/// Lists as they were before there were backoff tables, before there were counts, and before there was a close day.
+pub const WITHOUT: [&str; 3] =
+    ["board without the backoffs", "board without the counts", "board and keys without the close"];
 /// Calls after which each list of a board is compared with what it was, number by number.
 const AS_FOUND: [&str; 4] = ["refused calls", "refused replays", "refused opens", "reads"];
 const DAMAGES: [&str; 4] = ["tables refused", "tables accepted", "numbers of no board", "numbers of no sound board"];
@@ -53,7 +58,7 @@ impl Seen {
     }
 
     /// All that may be noted, by sort.
-    pub fn counts(&self) -> [(&'static str, Vec<(String, u64)>); 11] {
+    pub fn counts(&self) -> [(&'static str, Vec<(String, u64)>); 14] {
         let lengths = |list: &&str| LENGTHS.map(|length| format!("{list} {length}"));
         let lengths = LISTS.iter().chain(&ROWS).flat_map(lengths).chain(WITHOUT.map(String::from));
         // Any property, any day, any close day and any unit is one of a sound board.
@@ -75,6 +80,9 @@ impl Seen {
             ("by closes", self.of(by_closes())),
             ("by shares", self.of(by_shares())),
             ("counts set by the host", self.of(recounts.map(String::from).collect())),
+            ("by rests", self.of(by_rests())),
+            ("openings", self.of(by_openings())),
+            ("backoffs set by the host", self.of(by_edits())),
         ]
     }
 }

@@ -2,7 +2,7 @@
 
 use crate::calls::{Call, refused};
 use reference::board::{COMMON, MESSAGES, SENDERS, SHARE};
-use reference::{COUNTS, Lists};
+use reference::{COUNTS, Lists, RESTS};
 
 const ITEM: u32 = 0;
 /// What one sender can have added at most.
@@ -40,7 +40,7 @@ pub fn refused_to(sender: usize) -> String {
 
 /// How many messages each sender has added; none of lists without such numbers.
 pub fn counts(lists: &Lists) -> &[u16] {
-    lists.board.get(COUNTS..).unwrap_or(&[])
+    lists.board.get(COUNTS..RESTS).unwrap_or(&[])
 }
 
 pub fn common_used(counts: &[u16]) -> u32 {

@@ -1,8 +1,9 @@
 //! What an accepted call may not alter, whatever else it does. An add or a step: the rows of other senders, but for
 //! their signals, the eight numbers of every match that was recorded before it, what messages were sent with, in every
-//! record but that of a message that it adds, what the senders have added, but for one more of a sender that adds, and
-//! the close day. A close: any other number.
+//! record but that of a message that it adds, what the senders have added, but for one more of a sender that adds, the
+//! backoff table, and the close day. A close: any other number.
 
+use crate::backoffs::rests;
 use crate::calls::Call;
 use crate::difference::difference;
 use crate::invariant::sent_at;
@@ -18,6 +19,7 @@ pub fn altered(before: &Lists, after: &Lists, call: Call) -> Option<String> {
         .or_else(|| recorded_match(before, after))
         .or_else(|| other_message(before, after))
         .or_else(|| other_count(before, after, call))
+        .or_else(|| (rests(before) != rests(after)).then(|| "the backoff table".to_string()))
         .or_else(|| (close_numbers(before) != close_numbers(after)).then(|| "the close day".to_string()))
 }
 
@@ -70,8 +72,8 @@ fn other_sender(before: &[u16], after: &[u16], caller: usize) -> Option<String> 
 #[cfg(test)]
 mod tests {
     use super::*;
-    use reference::COUNTS;
     use reference::lists::DAYS;
+    use reference::{COUNTS, RESTS};
 
     fn found_after(call: Call, alter: impl Fn(&mut Lists)) -> Option<String> {
         let mut before = Lists::default();
@@ -114,6 +116,19 @@ mod tests {
         assert_eq!(found_after(add, |_| ()), altered(3));
         assert_eq!([3, 31].map(|i| found(count(i))), [altered(3), altered(31)]);
         assert_eq!(found_after(Call::Close { day: 5 }, count(0)), Some("board number 675: 0 and 1".into()));
+    }
+
+    #[test]
+    fn the_backoff_table_stays() {
+        let write = |lists: &mut Lists| lists.board[RESTS + 15] = 64;
+        let add = |lists: &mut Lists| {
+            lists.board[COUNTS + 3] = 1;
+            write(lists);
+        };
+        let the_table = Some("the backoff table".into());
+        let sent = Default::default();
+        assert_eq!((found(write), found_after(Call::Add { sender: 3, sent }, add)), (the_table.clone(), the_table));
+        assert_eq!(found_after(Call::Close { day: 5 }, write), Some("board number 722: 0 and 64".into()));
     }
 
     #[test]

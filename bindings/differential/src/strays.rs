@@ -3,8 +3,10 @@
 use crate::calls::{Call, Read, refused};
 use crate::changes;
 use crate::closes::close_day;
+use crate::edited;
 use crate::habits::odd_call;
 use crate::invariant::senders;
+use crate::openings;
 use crate::pair::{Checked, Pair};
 use crate::plain_rust::{Reference, Verdict};
 use crate::random::{Random, damage, put_last_byte};
@@ -12,7 +14,7 @@ use crate::recounts;
 use crate::seen::{LENGTHS, LISTS, PARTS, ROWS, WITHOUT, last_byte_of};
 use reference::board::MESSAGES;
 use reference::calls::CLOSE;
-use reference::{COUNTS, HAS_CLOSE, Lists, NUMBERS, Rows, SENDER_NUMBERS, Sent, Table};
+use reference::{COUNTS, HAS_CLOSE, Lists, NUMBERS, RESTS, Rows, SENDER_NUMBERS, Sent, Table};
 
 /// An opened board's lent lists may hold anything: zeros, what could be messages, any numbers.
 pub fn lent_anything(random: &mut Random) -> Lists {
@@ -52,12 +54,14 @@ pub fn compare_reads(pair: &mut Pair, random: &mut Random) -> Checked<()> {
 /// Leaves the schedule for a few calls, and comes back.
 pub fn excursion(pair: &mut Pair, random: &mut Random) -> Checked<()> {
     let (lists, theirs, table) = (pair.ours.clone(), pair.theirs.clone(), pair.table.clone());
-    match random.below(13) {
+    match random.below(15) {
         0 => damaged_table(pair, random),
         1 => another_length(pair, random),
         2 => any_replay(pair, random),
         3..=5 => one_number_changed(pair, random),
         6 => recounts::excursion(pair, random),
+        7 => openings::excursion(pair, random),
+        8 => edited::excursion(pair, random),
         _ => unreached_board(pair, random),
     }
     .map_err(|difference| format!("away from the schedule: {difference}"))?;
@@ -98,7 +102,7 @@ fn damaged_table(pair: &mut Pair, random: &mut Random) -> Checked<()> {
     }
     let lists = pair.ours.clone();
     pair.set(&lists);
-    let opened = pair.open(pair.table.clone())?;
+    let opened = pair.open(pair.table.clone(), None)?;
     pair.set(&lists);
     pair.tally.seen.note(if opened == 0 { "tables accepted" } else { "tables refused" });
     if let Some(byte) = last_byte {
@@ -154,7 +158,8 @@ fn another_length(pair: &mut Pair, random: &mut Random) -> Checked<()> {
         2 => resize(&mut lists.links, length, MESSAGES),
         3 => resize(&mut lists.keys, length, MESSAGES),
         4 => resize(&mut lists.cents, length, MESSAGES),
-        5 => lists.board.truncate(COUNTS),
+        5 => lists.board.truncate(RESTS),
+        6 => lists.board.truncate(COUNTS),
         _ => {
             lists.board.truncate(HAS_CLOSE);
             lists.keys.pop();
@@ -165,7 +170,7 @@ fn another_length(pair: &mut Pair, random: &mut Random) -> Checked<()> {
     pair.set(&lists);
     expect_refused(pair).map_err(|difference| format!("{what}: {difference}"))?;
     pair.tally.seen.note(&what);
-    let (opened, expected) = (pair.open(pair.table.clone())?, if lists.board.len() == NUMBERS { 0 } else { 30 });
+    let (opened, expected) = (pair.open(pair.table.clone(), None)?, if lists.board.len() == NUMBERS { 0 } else { 30 });
     if opened == expected { Ok(()) } else { Err(format!("{what}: open answered {opened}")) }
 }
 
