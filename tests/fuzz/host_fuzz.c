@@ -2,8 +2,9 @@
  * makes one call with lengths that are mostly right, twice: every lent list ends at an inaccessible page, then every
  * list begins after one. Both calls must answer the same documented number, alter nothing when they refuse, and leave
  * a board that is accepted when they do not. Adds and closes must be refused for a closed day just where they are to
- * be, adds for want of messages just where their sender has none left, and boards whose counts are no sound board's. A
- * merge of two tables, which are edited as its map is, must leave a table that is accepted.
+ * be, adds for want of messages just where their sender has none left, openings just where their backoff table does not
+ * pass, and boards whose counts or backoff tables are no sound board's; an `again` must rest as the board's table says.
+ * A merge of two tables, which are edited as its map is, must leave a table that is accepted.
  */
 #include <stdint.h>
 #include <stdio.h>
@@ -14,10 +15,12 @@
 #include "../../bindings/c/gevnyusto.h"
 
 enum list {
-    TABLE, BOARD, BYTES, LINKS, KEYS, CENTS, ROWS, NUMBERS, AMOUNTS, ANSWERS, OUT, SECOND, MAP, MERGED, LISTS
+    TABLE, BOARD, BYTES, LINKS, KEYS, CENTS, ROWS, NUMBERS, AMOUNTS, ANSWERS, OUT, SECOND, MAP, MERGED, RESTS, LISTS
 };
-enum call { REFUSAL, OPEN, ADD, STEP, CLOSE, REPLAY, READ_MESSAGE, READ_MATCH, READ_REPLY, QUIET, MERGE, CALLS };
-enum { PAGE = 4096, MOST_BYTES = 22536, REPLAYED = 24, MOST_CHANNELS = 16 };
+enum call {
+    REFUSAL, OPEN, OPEN_RESTS, ADD, STEP, CLOSE, REPLAY, READ_MESSAGE, READ_MATCH, READ_REPLY, QUIET, MERGE, CALLS
+};
+enum { PAGE = 4096, MOST_BYTES = 22536, REPLAYED = 24, MOST_CHANNELS = 16, BACKOFF = 9 };
 
 /* Which numbers of a list a call may write: from one to another, and from a third on where that is not 0. */
 struct range {
@@ -26,6 +29,7 @@ struct range {
 #define ALL {0, SIZE_MAX, 0}
 static const struct range written[CALLS][LISTS] = {
     [OPEN] = {[BOARD] = ALL},
+    [OPEN_RESTS] = {[BOARD] = ALL},
     [ADD] = {[BOARD] = {0, GV_HAS_CLOSE, GV_TALLIES}, [BYTES] = {0, GV_CHORDS, 0}, [LINKS] = {0, GV_MEMBERS, GV_UNITS},
              [KEYS] = {0, GV_CLOSE_DAY, 0}, [CENTS] = ALL},
     [STEP] = {[BOARD] = {0, GV_HAS_CLOSE, 0}, [BYTES] = {GV_STATUSES, GV_BYTES, 0}, [LINKS] = {0, GV_UNITS, 0}},
@@ -39,14 +43,15 @@ static const struct range written[CALLS][LISTS] = {
 };
 
 static const uint8_t table_p[20] = {2, 0, 1, 0, 2, 0, 12, 0, 14, 0, 18, 0, 0, 1, 0, 0, 2, 1, 0, 1};
-static const size_t element[LISTS] = {1, 2, 1, 2, 4, 8, 2, 4, 8, 4, 8, 1, 1, 1};
+static const uint8_t built_in[GV_BACKOFF_ENTRIES] = {0, 1, 1, 2, 2, 4, 4, 8, 8, 16, 16, 16, 32, 32, 32, 32};
+static const size_t element[LISTS] = {1, 2, 1, 2, 4, 8, 2, 4, 8, 4, 8, 1, 1, 1, 1};
 static const size_t right[LISTS] = {
     sizeof table_p, GV_BOARD, GV_BYTES, GV_LINKS, GV_KEYS, GV_CENTS, 4 * REPLAYED, 2 * REPLAYED, REPLAYED, REPLAYED,
-    GV_MATCH_NUMBERS, GV_TABLE_BYTES, MOST_CHANNELS, GV_TABLE_BYTES
+    GV_MATCH_NUMBERS, GV_TABLE_BYTES, MOST_CHANNELS, GV_TABLE_BYTES, GV_BACKOFF_ENTRIES
 };
 
 /* The parts of the lists that are edited. */
-enum { PARTS = 15 };
+enum { PARTS = 16 };
 static const struct part {
     enum list list;
     size_t from, count;
@@ -55,6 +60,7 @@ static const struct part {
     {BOARD, 0, GV_HAS_CLOSE},
     {BOARD, GV_HAS_CLOSE, 1},
     {BOARD, GV_TALLIES, GV_SENDERS},
+    {BOARD, GV_BACKOFFS, GV_BACKOFF_ENTRIES},
     {BYTES, 0, GV_MESSAGES},
     {BYTES, GV_STATUSES, GV_MESSAGES},
     {BYTES, GV_CHORDS, GV_MATCHES},
@@ -81,9 +87,10 @@ static uint8_t *room[LISTS]; /* the accessible pages of each list */
 static size_t room_bytes[LISTS];
 static uint8_t *at[LISTS]; /* where each list lies now */
 
-/* What libFuzzer takes for coverage: the answers of each call, the phases of the senders, and what is left of their
- * messages. */
-__attribute__((section("__libfuzzer_extra_counters"))) static uint8_t seen[CALLS * 64 + 1024 + 8];
+/* What libFuzzer takes for coverage: the answers of each call, the phases of the senders, what is left of their
+ * messages, and the entries read of backoff tables. */
+enum { LEFT = CALLS * 64 + 1024, READ = LEFT + 8 };
+__attribute__((section("__libfuzzer_extra_counters"))) static uint8_t seen[READ + GV_BACKOFF_ENTRIES];
 
 static const uint8_t *input;
 static size_t input_left;
@@ -148,6 +155,8 @@ static uint32_t make_call(const struct lent *lent, enum call call) {
         return gv_table_refusal(U8(TABLE));
     case OPEN:
         return gv_open(U8(TABLE), U16(BOARD));
+    case OPEN_RESTS:
+        return gv_open_with_rests(U8(TABLE), U8(RESTS), U16(BOARD));
     case ADD:
         return gv_add(LENT, lent->first, lent->channel, lent->property, lent->amount, lent->day, lent->unit);
     case STEP:
@@ -218,7 +227,7 @@ static int is_own_refusal(enum call call, uint32_t refusal) {
 
 /* Whether the lists of the board that the call is lent have the right lengths, and those of a replay as many rows. */
 static int has_lengths(const struct lent *lent, enum call call) {
-    int last = call == REFUSAL || call == MERGE ? TABLE : call == OPEN ? BOARD : CENTS;
+    int last = call == REFUSAL || call == MERGE ? TABLE : call < ADD ? BOARD : CENTS;
     size_t calls = lent->length[AMOUNTS];
     for (int list = BOARD; list <= last; list++)
         if (lent->length[list] != right[list])
@@ -226,8 +235,17 @@ static int has_lengths(const struct lent *lent, enum call call) {
     return call != REPLAY || (lent->length[ROWS] == 4 * calls && lent->length[NUMBERS] == 2 * calls);
 }
 
-/* What the header says of the number: the table first, for a merge the second too, then lengths and board, then the
- * call's own. */
+/* Whether the backoff table that is given passes. */
+static int is_passing(const struct lent *lent) {
+    const uint8_t *rests = lent->bytes[RESTS];
+    int passes = lent->length[RESTS] == GV_BACKOFF_ENTRIES;
+    for (size_t i = 0; passes && i < GV_BACKOFF_ENTRIES; i++)
+        passes = rests[i] <= GV_MOST_RESTS && (i == 0 || rests[i] >= rests[i - 1]);
+    return passes;
+}
+
+/* What the header says of the number: the table first, for a merge the second too, then a backoff table that is given,
+ * then lengths and board, then the call's own. */
 static void demand_documented(const struct lent *lent, enum call call, uint32_t answer) {
     uint32_t table = gv_table_refusal(U8(TABLE)), refusal = refusal_of(call, answer);
     if (table == 0 && call == MERGE)
@@ -235,12 +253,14 @@ static void demand_documented(const struct lent *lent, enum call call, uint32_t 
     demand(table <= 7, "no refusal of a table", call, table);
     if (table != 0)
         demand(refusal == table, "the table's refusal is another", call, answer);
+    else if (call == OPEN_RESTS && !is_passing(lent))
+        demand(refusal == 21, "a backoff table that does not pass is not refused 21", call, answer);
     else if (!has_lengths(lent, call))
         demand(refusal == 30, "a wrong length is not refused 30", call, answer);
     else if (refusal == 0)
         demand(!answers(call) || is_answer(call, answer), "no such answer", call, answer);
     else
-        demand((refusal == 30 && call > OPEN && call < MERGE) || is_own_refusal(call, refusal), "no such refusal", call,
+        demand((refusal == 30 && call >= ADD && call < MERGE) || is_own_refusal(call, refusal), "no such refusal", call,
                answer);
 }
 
@@ -334,12 +354,17 @@ static struct sums sums_of(const uint16_t *board) {
     return sums;
 }
 
+/* Whether the call has found a board accepted, whatever it answered. */
+static int is_accepted(enum call call, uint32_t refusal) {
+    return call >= ADD && call < MERGE && refusal != 30 && (refusal == 0 || refusal >= 8);
+}
+
 /* A board that is accepted has the counts of a sound one; they decide of an add last, and an add that is not refused
  * adds 1 to its sender's and to no other. */
 static void demand_counts(const struct lent *lent, enum call call, uint32_t answer) {
     const uint16_t *board = (const uint16_t *)(const void *)lent->bytes[BOARD];
     uint32_t refusal = refusal_of(call, answer);
-    if (call <= OPEN || call == MERGE || refusal == 30 || (refusal != 0 && refusal < 8))
+    if (!is_accepted(call, refusal))
         return;
     struct sums sums = sums_of(board);
     demand(sums.messages == board[0] && sums.common <= GV_COMMON, "counts of no sound board", call, answer);
@@ -354,6 +379,39 @@ static void demand_counts(const struct lent *lent, enum call call, uint32_t answ
            "another sender's count has changed", call, answer);
 }
 
+/* The entry, from 0, that the sender's next `again` reads. */
+static size_t entry_of(const uint16_t *sender) {
+    return sender[12] < GV_BACKOFF_ENTRIES ? sender[12] : GV_BACKOFF_ENTRIES - 1;
+}
+
+/* The phase after an `again` is that of so many rests as the board's table says. */
+static void demand_rests(const struct lent *lent, uint32_t answer) {
+    const uint16_t *board = (const uint16_t *)(const void *)lent->bytes[BOARD];
+    const uint16_t *before = board + 2 + 21 * lent->first;
+    const uint16_t *after = (const uint16_t *)(const void *)at[BOARD] + 2 + 21 * lent->first;
+    uint16_t rests = board[GV_BACKOFFS + entry_of(before)];
+    demand((after[8] == BACKOFF) == (rests > 0), "rests or none", STEP, answer);
+    demand(rests == 0 || after[9] == rests - 1, "another number of rests", STEP, answer);
+}
+
+/* An opened board has the backoff table that was given, or the built-in one. A board that is accepted has one that
+ * passes, and keeps it. */
+static void demand_backoffs(const struct lent *lent, enum call call, uint32_t answer) {
+    const uint16_t *board = (const uint16_t *)(const void *)at[BOARD] + GV_BACKOFFS;
+    uint32_t refusal = refusal_of(call, answer);
+    const uint8_t *given = call == OPEN ? built_in : lent->bytes[RESTS];
+    for (size_t i = 0; (call == OPEN || call == OPEN_RESTS) && refusal == 0 && i < GV_BACKOFF_ENTRIES; i++)
+        demand(board[i] == given[i], "the board has another backoff table", call, answer);
+    if (!is_accepted(call, refusal))
+        return;
+    for (size_t i = 0; i < GV_BACKOFF_ENTRIES; i++)
+        demand(board[i] <= GV_MOST_RESTS && (i == 0 || board[i] >= board[i - 1]), "a backoff table that does not pass",
+               call, answer);
+    demand(is_kept(lent, BOARD, GV_BACKOFFS, GV_BOARD), "the backoff table has changed", call, answer);
+    if (call == STEP && GV_WORD(answer) == GV_AGAIN)
+        demand_rests(lent, answer);
+}
+
 /* After a call that wrote the board it is accepted, if the other lists have their lengths. */
 static void demand_sound(const struct lent *lent, enum call call, uint32_t answer) {
     int64_t quiet = -1;
@@ -361,7 +419,7 @@ static void demand_sound(const struct lent *lent, enum call call, uint32_t answe
         return;
     demand(gv_quiet(LENT, &quiet, 1) == 0, "the board left is refused", call, answer);
     demand(quiet == 0 || quiet == 1, "quiet is not 0 or 1", call, answer);
-    demand(call != OPEN || quiet == 1, "an opened board is not quiet", call, answer);
+    demand(call >= ADD || quiet == 1, "an opened board is not quiet", call, answer);
 }
 
 static uint32_t checked_call(const struct lent *lent, enum call call, int at_end) {
@@ -373,6 +431,7 @@ static uint32_t checked_call(const struct lent *lent, enum call call, int at_end
         demand_unit(lent, answer);
     demand_closed(lent, call, answer);
     demand_counts(lent, call, answer);
+    demand_backoffs(lent, call, answer);
     if (call == REPLAY && answer == 0)
         demand_answers(lent);
     if (call == MERGE && answer == 0)
@@ -399,16 +458,19 @@ static uint32_t call_twice(const struct lent *lent, enum call call) {
     return answer;
 }
 
-/* Counts what libFuzzer shall see: the answer and, if the board was accepted, state and phase of eight senders, and
- * whether one has used its own messages, whether the common ones are used, and whether there are others. */
+/* Counts what libFuzzer shall see: the answer, the entry that an `again` read and, if the board was accepted, state and
+ * phase of eight senders, and whether one has used its own messages, whether the common ones are used, and whether
+ * there are others. */
 static void count(const struct lent *lent, enum call call, uint32_t answer) {
     uint32_t refusal = refusal_of(call, answer);
     const uint16_t *board = (const uint16_t *)(const void *)lent->bytes[BOARD];
     seen[call * 64 + (refusal ? 19 + refusal % 45 : GV_WORD(answer) % 19)]++;
-    for (int sender = 0; call > OPEN && call < MERGE && refusal == 0 && sender < 8; sender++) {
+    if (call == STEP && GV_WORD(answer) == GV_AGAIN)
+        seen[READ + entry_of(board + 2 + 21 * lent->first)]++;
+    for (int sender = 0; call >= ADD && call < MERGE && refusal == 0 && sender < 8; sender++) {
         const uint16_t *numbers = board + 2 + 21 * sender;
         seen[CALLS * 64 + numbers[0] % 4 * 256 + numbers[8] % 16 * 16 + numbers[9] % 8 * 2 + numbers[1] % 2]++;
-        seen[CALLS * 64 + 1024 + (board[GV_TALLIES + sender] >= GV_SHARE) + 2 * (sums_of(board).common == GV_COMMON) +
+        seen[LEFT + (board[GV_TALLIES + sender] >= GV_SHARE) + 2 * (sums_of(board).common == GV_COMMON) +
              4 * (board[0] == GV_MESSAGES)]++;
     }
 }
@@ -449,16 +511,32 @@ static void almost_fill(uint16_t *board, int alone) {
     board[0] = alone ? board[GV_TALLIES] : GV_MESSAGES - 2;
 }
 
-/* An empty board with lists of any one byte, or one that is almost full, or is to one sender; and a schedule played on
- * it. */
+/* A backoff table: the built-in one, or one number over and over; then some rests more from an entry on. */
+static void put_rests(struct lent *lent) {
+    uint8_t *rests = lent->bytes[RESTS], all = take();
+    memcpy(rests, built_in, sizeof built_in);
+    if (all != 0)
+        memset(rests, all - 1, sizeof built_in);
+    for (int rises = take() % 4; rises > 0; rises--) {
+        uint8_t more = take();
+        for (size_t i = take() % GV_BACKOFF_ENTRIES; i < GV_BACKOFF_ENTRIES; i++)
+            rests[i] += more;
+    }
+}
+
+/* An empty board with lists of any one byte and a backoff table of the input's, or one that is almost full, or is to
+ * one sender; and a schedule played on it. */
 static void reach(struct lent *lent) {
     uint8_t kind = take(), byte = take();
     for (int list = 0; list < LISTS; list++)
         memset(lent->bytes[list], kind & 8 ? 0 : byte, (right[list] + 1) * element[list]);
     put_table(lent, kind);
+    put_rests(lent);
     memcpy(lent->length, right, sizeof right);
     lay(lent, 1);
-    demand(gv_open(U8(TABLE), U16(BOARD)) == 0, "table P is refused", OPEN, 0);
+    uint32_t refusal = gv_open_with_rests(U8(TABLE), U8(RESTS), U16(BOARD));
+    demand(refusal == (is_passing(lent) ? 0 : 21), "table P is refused, or refuses", OPEN_RESTS, refusal);
+    demand(refusal == 0 || gv_open(U8(TABLE), U16(BOARD)) == 0, "table P is refused", OPEN, 0);
     if (kind & 8)
         almost_fill((uint16_t *)(void *)at[BOARD], kind & 4);
     for (int calls = take() % 64; calls > 0; calls--)
@@ -485,6 +563,20 @@ static void move_count(struct lent *lent) {
     uint16_t moved = some < *from ? (uint16_t)some : *from;
     *from -= moved;
     *to += moved;
+}
+
+/* From an entry on, the board's backoff table says so many rests at least; mostly it still passes. */
+static void raise_backoffs(struct lent *lent) {
+    uint16_t *rests = (uint16_t *)(void *)lent->bytes[BOARD] + GV_BACKOFFS, least = take() % 72;
+    for (size_t i = take() % GV_BACKOFF_ENTRIES; i < GV_BACKOFF_ENTRIES; i++)
+        rests[i] = rests[i] > least ? rests[i] : least;
+}
+
+/* The sender is at the end of a pass after so many retries, with its mark set. */
+static void end_pass(struct lent *lent) {
+    uint16_t *sender = (uint16_t *)(void *)lent->bytes[BOARD] + 2 + 21 * (take() % 8);
+    const uint16_t numbers[6] = {0, 8, 0, 0, 1, take() % 20};
+    memcpy(sender + 7, numbers, sizeof numbers);
 }
 
 /* A table of so many leaving channels and chords, each of the channel of its number as often as the input says. */
@@ -547,7 +639,7 @@ static void stretch(struct lent *lent) {
 }
 
 int LLVMFuzzerTestOneInput(const uint8_t *data, size_t size) {
-    static const size_t out_numbers[CALLS] = {1, 1, 1, 1, 1, 1, GV_MESSAGE_NUMBERS, GV_MATCH_NUMBERS, 1, 1, 1};
+    static const size_t out_numbers[CALLS] = {1, 1, 1, 1, 1, 1, 1, GV_MESSAGE_NUMBERS, GV_MATCH_NUMBERS, 1, 1, 1};
     static struct lent lent;
     if (room[0] == NULL)
         make_rooms();
@@ -559,6 +651,12 @@ int LLVMFuzzerTestOneInput(const uint8_t *data, size_t size) {
         edit(&lent, parts[take() % PARTS]);
     for (int moves = take() % 4; moves > 0; moves--)
         move_count(&lent);
+    for (int raises = take() % 3; raises > 0; raises--)
+        raise_backoffs(&lent);
+    if (take() % 4 == 0)
+        end_pass(&lent);
+    if (call == OPEN_RESTS)
+        put_rests(&lent);
     lent.first = (uint16_t)number();
     lent.channel = (uint16_t)number();
     lent.property = (uint32_t)number();
