@@ -2,11 +2,12 @@
 ghost use mathlib.Core.Path.{_≡_};
 ghost use mathlib.Core.Bool.{true};
 ghost use mathlib.Core.List.{List};
-ghost use Prim.Native.Nat.{ℕ, _<_, _≤_};
+ghost use Prim.Native.Nat.{ℕ, _-_, _<_, _≤_};
 ghost use lib.Dec.{eqb};
 ghost use lib.ListN.{length, getD};
-ghost use Rattle.model.specs.Boards.{backoffsPass};
+ghost use Rattle.model.specs.Boards.{Board, messageAt, channelOf, isOpen, isConsumed, backoffsPass};
 ghost use Rattle.model.specs.Effects.{does};
+ghost use Rattle.model.specs.Tables.{isSync};
 ghost use Rattle.model.specs.Layout.{tableRefusal, tableOf};
 ghost use Rattle.model.specs.Steps as MS;
 ghost use Rattle.columns.specs.Columns.{Others, boardBy, Passed};
@@ -55,6 +56,31 @@ fn is_pending(d: Sender, k: u8, statuses: &[u8]) -> bool
     let j = d.job;
     let m = j.chosen[k as usize];
     statuses[m as usize] == 0
+}
+
+// Ends a pass, by what was read and the rests of one retry more.
+fn pass_end(table: &[u8], d: Sender, channel: u8, opened: bool, v: Seen, backoffs: &[u16]) -> Effect
+    requires { ⌜ (tableRefusal (now table) ≡ 0) × (backoffsPass (now backoffs) ≡ true) ⌝ }
+    ensures { λ r. ⌜ ((b : Board) → b .backoffs ≡ now (backoffs .entry) → channelOf b (d .job .subject) ≡ channel
+        → isOpen (messageAt b (d .job .subject) .status) ≡ opened
+        → isSync (tableOf (now (table .entry))) (channelOf b (d .own - 1)) ≡ v .sync
+        → channelOf b (d .waker - 1) ≡ v .channel → isConsumed (messageAt b (d .waker - 1) .status) ≡ v .consumed
+        → effectIn (tableOf (now (table .entry))) r
+        ≡ MS.pass-end-step (tableOf (now (table .entry))) b (senderIn (tableOf (now (table .entry))) d)
+        (jobIn (tableOf (now (table .entry))) (d .job))) ⌝ }
+{
+    let j = d.job;
+    let rests = backoffs::rests_at(backoffs, state::more(j.retries));
+    ends::pass_end_step(
+        table,
+        d,
+        channel,
+        opened,
+        v.sync,
+        v.channel,
+        v.consumed,
+        rests,
+    )
 }
 
 // The effect of a step of a sender at work, by its job's phase.
@@ -107,17 +133,7 @@ fn job_step(
         }
         Phase::PassEnd => {
             let v = sees(table, d, n, channels, statuses);
-            let rests = backoffs::rests_at(backoffs, state::more(j.retries));
-            ends::pass_end_step(
-                table,
-                d,
-                channel,
-                opened,
-                v.sync,
-                v.channel,
-                v.consumed,
-                rests,
-            )
+            pass_end(table, d, channel, opened, v, backoffs)
         }
         Phase::Backoff(rests) => ends::backoff_step(table, d, rests, channel),
     }

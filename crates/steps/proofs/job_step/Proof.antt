@@ -1,14 +1,13 @@
 -- `steps::job_step` meets its contract: each phase has its step, and the facts of the sender are what that step asks.
 use mathlib.Core.Path.{_≡_, refl, ap, sym, _∙_}
-use mathlib.Core.List.{List}
 use Prim.Native.Nat.{ℕ, _<_, _≤_}
 use native.Mathlib.Omega.{arith}
 use lib.ListN.{length, getD}
 use Rattle.model.specs.Tables.{Table, size}
-use Rattle.model.specs.Boards.{Board, channelOf, backoffAt}
+use Rattle.model.specs.Boards.{Board, channelOf}
 use Rattle.model.specs.Layout.{tableRefusal, tableOf}
 use Rattle.model.specs.Effects.{Effect}
-use Rattle.model.specs.Steps.{more, job-step}
+use Rattle.model.specs.Steps.{job-step}
 use Rattle.model.proofs.AcceptedChords.{table-ok}
 use Rattle.model.proofs.Chords.{wakes-first}
 use Rattle.model.proofs.SoundFacts.{PlaceOk}
@@ -273,25 +272,18 @@ returns-8 c =
 sees-requires-4 : tie.Need-sees-requires-4
 sees-requires-4 c κs = sees-asks (start (c .before .before))
 
-rests-at-requires : tie.Need-rests-at-requires
-rests-at-requires c κs =
-    let s = start (c .before .before .before .before) in
-    let m = c .more .ensures in
-    (s .pre .0 .2, m .1, m .2)
+pass-end-requires : tie.Need-pass-end-requires
+pass-end-requires c κs = let s = start (c .before .before .before) in (s .pre .0 .0, s .pre .0 .2)
 
 returns-9 : tie.Need-returns-9
 returns-9 c =
-    let r = c .before in
-    let v = r .before .before in
+    let v = c .before in
     let q = v .before in
     let s = start (q .before .before) in
     let g = q .enum-told3 .given in
     let saw = v .sees4 .ensures (s .args .keys .now) in
     λ o em eb eu. step-is s o P.PassEnd (g .1)
-    (c .pass-end-step .ensures (board s o)
-    (ap (λ (ks : List ℕ). backoffAt ks (more (s .args .d .job .retries))) eb
-    ∙ ap (backoffAt (s .args .backoffs .now)) (sym (r .before .more .ensures .0)) ∙ sym (r .rests-at .ensures))
-    (channel-is s o)
+    (c .pass-end .ensures (board s o) eb (channel-is s o)
     (R.open-read _ _ _ o _ _ (subject-in s))
     (saw o .sync-is) (saw o .channel-is) (saw o .consumed-is))
 
@@ -332,9 +324,7 @@ job-step-spec =
     signal-step-requires
     (λ c. search needs)
     sees-requires-4
-    (λ c κs. search needs)
-    rests-at-requires
-    (λ c κs. search needs)
+    pass-end-requires
     (λ c. search needs)
     (λ c κs. search needs)
     returns
