@@ -80,7 +80,8 @@ def rust_names():
 
 def table():
     """Each name that changes, with its new spelling. Where a definition would meet another name, that one keeps or gets
-    a dash; a field that has the name of something in src/ keeps its dash, since proofs name steps of the code so."""
+    a dash; a field that has the name of something in src/ keeps its dash, since proofs name steps of the code so. After
+    a dot a dashed name is such a step, and stays."""
     sorts = collections.defaultdict(set)
     specs = set()
     for path in files():
@@ -92,9 +93,9 @@ def table():
     new = {n: respelled(n, s, n in specs) for n, s in sorts.items()}
     rust = rust_names()
     camels = {m for n, m in new.items() if n != m and "-" not in n and not re.match("[A-Z]", n)}
-    taken = camels | set(sorts) | rust
+    taken = camels | set(sorts)
     for n, m in new.items():
-        if "-" in n and "_" in m and "-" not in m and (m in taken or sum(k == m for k in new.values()) > 1):
+        if "-" in n and "_" in m and "-" not in m and (m in taken | (rust if sorts[n] & {"field"} else set()) or sum(k == m for k in new.values()) > 1):
             new[n] = "-".join(snake(p) for p in n.split("-"))
     for n in sorts:
         if new[n] == n and n in camels and "_" in n:
@@ -120,7 +121,13 @@ def main():
             names = {n: m for n, m in all_names.items() if not re.match("^[a-z0-9_]*$", n)}
         else:
             names = all_names
-        turned = TOKEN.sub(lambda m: names.get(m.group(0), m.group(0)), text)
+
+        def turn(m):
+            name = m.group(0)
+            of_code = "-" in name and not sorts[name] & {"field"} and text[m.start() - 1 : m.start()] == "."
+            return name if of_code else names.get(name, name)
+
+        turned = TOKEN.sub(turn, text)
         if turned != text:
             open(path, "w", encoding="utf-8").write(turned)
 

@@ -1,4 +1,6 @@
 // An add: its refusals, and its sender.
+#![tactic(auto)]
+
 ghost use Rattle.std.specs.Prelude.{◌≡◌, List, ◌<◌, get_or};
 ghost use Rattle.model.specs.Boards as MB;
 ghost use Rattle.model.specs.Layout.{table_refusal, table_of};

@@ -9,7 +9,7 @@ use Rattle.model.specs.Tables.{Table}
 use Rattle.model.specs.Boards.{Board, Job, Message, Status, sender_at, message_at, no_message, working, backoff}
 use Rattle.model.specs.Effects.{apply, messages_after}
 use Rattle.model.specs.Jobs.{pass_from}
-use Rattle.model.specs.Steps.{backoff-step, rests_then}
+use Rattle.model.specs.Steps.{backoff_step, rests_then}
 use Rattle.model.proofs.AtWork.{AtWork}
 use Rattle.alone.proofs.Calm.{Calm, Within, within_more, later, next, working-at, work_step}
 use Rattle.alone.proofs.Fresh.{Starts}
@@ -19,7 +19,7 @@ module _ (t : Table) (i h B : ℕ) (P : Status → Type 0)
   pub rests-to : (rests : ℕ) {b : Board} (b₀ : Board) (k : ℕ) → Calm t b i → P (message_at b h).status
       → b₀.messages ≡ b.messages → (sender_at b i).state ≡ working (rests_then t b₀ h k rests)
       → Within t b i (rests + B)
-  unfolding backoff-step apply messages_after
+  unfolding backoff_step apply messages_after
   rests-to zero {b} b₀ k c p e st =
       within_more (omega arith) (pass b k c
       (st ∙ ap (λ (is : List Message). working (pass_from t h (get_or is h no_message).sent.channel 0 false k)) e) p)
@@ -30,7 +30,7 @@ module _ (t : Table) (i h B : ℕ) (P : Status → Type 0)
 
   pub backing-off : {b : Board} {w : Job} {r : ℕ} → Calm t b i → P (message_at b h).status → AtWork t b i w (backoff r)
       → w.subject ≡ h → Within t b i (suc r + B)
-  unfolding backoff-step apply messages_after
+  unfolding backoff_step apply messages_after
   backing-off {b} {w} {r} c p a sub =
       let x = next c (work_step c a) in
       within_more (omega arith)

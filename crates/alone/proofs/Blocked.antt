@@ -9,7 +9,7 @@ use Rattle.model.specs.Basics.{pick}
 use Rattle.model.specs.Tables.{Table}
 use Rattle.model.specs.Boards.{Board, Sender, Status, sender_at, message_at, pending, claimed, woken, consumed, blocked}
 use Rattle.model.specs.Effects.{apply, does}
-use Rattle.model.specs.Steps.{step_by, resume-step, resume_by, stays_blocked}
+use Rattle.model.specs.Steps.{step_by, resume_step, resume_by, stays_blocked}
 use Rattle.model.proofs.Frame.{senders-at}
 use Rattle.alone.proofs.Calm.{Calm, Within, now-idle, now-blocked, later, next, blocked-step}
 
@@ -32,7 +32,7 @@ module _ {t : Table} {b : Board} {i : ℕ} (c : Calm t b i) (st : (sender_at b i
   by-status consumed e y = later y (now-idle (next c y).passage.own.state)
 
   pub when-blocked : Within t b i (suc X)
-  unfolding resume-step
+  unfolding resume_step
   when-blocked = go (sender_at b i).signalled refl
     where
       go : (u : Bool) → (sender_at b i).signalled ≡ u → Within t b i (suc X)

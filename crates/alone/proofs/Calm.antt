@@ -7,7 +7,7 @@ use native.Mathlib.Omega.{arith}
 use Rattle.model.specs.Tables.{Table}
 use Rattle.model.specs.Boards.{Board, Job, Phase, State, sender_at, working, idle, blocked}
 use Rattle.model.specs.Effects.{Effect, Outcome, does, apply}
-use Rattle.model.specs.Steps.{step_by, state_step, blocked_step, job-step, resume-step}
+use Rattle.model.specs.Steps.{step_by, state_step, blocked_step, job_step, resume_step}
 use Rattle.model.specs.Holdings.{Holds}
 use Rattle.model.specs.Pools.{steps, step_answer, can_step}
 use Rattle.model.proofs.Tests.{same?}
@@ -127,14 +127,14 @@ module _ {t : Table} {b : Board} {i : ℕ} (c : Calm t b i) where
   pub working-at : {w : Job} {p : Phase} → (sender_at b i).state ≡ working w → w.phase ≡ p → AtWork t b i w p
   working-at {w} {p} st ph = at-work t b i c.inv c.number w p st ph
 
-  pub work_step : {w : Job} {p : Phase} → AtWork t b i w p → step_by t b i ≡ does (job-step t b (sender_at b i) w p)
+  pub work_step : {w : Job} {p : Phase} → AtWork t b i w p → step_by t b i ≡ does (job_step t b (sender_at b i) w p)
   work_step {w} {p} a =
       under-32 t b i c.number
       ∙ ap (state_step t b (sender_at b i)) a.state
-      ∙ ap (λ (x : Phase). does (job-step t b (sender_at b i) w x)) a.phase
+      ∙ ap (λ (x : Phase). does (job_step t b (sender_at b i) w x)) a.phase
 
   pub blocked-step : (sender_at b i).state ≡ blocked → (sender_at b i).signalled ≡ true
-      → step_by t b i ≡ does (resume-step t b (sender_at b i))
+      → step_by t b i ≡ does (resume_step t b (sender_at b i))
   blocked-step e f =
       under-32 t b i c.number ∙ ap (state_step t b (sender_at b i)) e ∙ ap (blocked_step t b (sender_at b i)) f
 

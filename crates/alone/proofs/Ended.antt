@@ -6,7 +6,7 @@ use Prim.Native.Nat.{ℕ, suc}
 use Rattle.model.specs.Tables.{Table}
 use Rattle.model.specs.Boards.{Board, Job, Phase, Sender, sender_at, message_at, is_consumed, idle, blocked, working}
 use Rattle.model.specs.Effects.{Effect, apply}
-use Rattle.model.specs.Jobs.{job-end, new_pass}
+use Rattle.model.specs.Jobs.{job_end, new_pass}
 use Rattle.model.specs.Demands.{SameButSignal}
 use Rattle.model.proofs.Jobs.{job-end-by}
 use Rattle.model.proofs.AtWork.{AtWork}
@@ -26,11 +26,11 @@ pub record Ended (t : Table) (b : Board) (i h : ℕ) : Type 0 where
 -- d: the sender at the job's end, perhaps with a match remembered
 module _ {t : Table} {b : Board} {i : ℕ} {w : Job} {p : Phase} {e : Effect} (a : AtWork t b i w p) (x : Next t b i e)
     {h : ℕ} (sub : w.subject ≡ h) (d : Sender)
-    (is : e.sender ≡ job-end t (apply b i e).messages d w.subject) (waker : d.waker ≡ (sender_at b i).waker) where
+    (is : e.sender ≡ job_end t (apply b i e).messages d w.subject) (waker : d.waker ≡ (sender_at b i).waker) where
   abbrev b' : Board
   b' = apply b i e
 
-  left : SameButSignal (job-end t b'.messages d w.subject) (sender_at b' i)
+  left : SameButSignal (job_end t b'.messages d w.subject) (sender_at b' i)
   left = subst (λ (y : Sender). SameButSignal y (sender_at b' i)) is x.passage.own
 
   same-waker : (sender_at b' i).waker ≡ (sender_at b i).waker

@@ -14,8 +14,8 @@ use Rattle.model.specs.Boards.{Board, Job, Sender, sender_at, message_at, channe
 use Rattle.model.specs.Boards.{consumed, consume, tell, wake, free, signal}
 use Rattle.model.specs.Effects.{Effect, apply, messages_after, turn, consumes, does, status_after}
 use Rattle.model.specs.Jobs.{in_job, in_phase}
-use Rattle.model.specs.Steps.{step_by, consume-step, consumed_to, consumed_end, with_matched, to_tell, tell-step}
-use Rattle.model.specs.Steps.{told_to, wake-step, free_step, signal-step}
+use Rattle.model.specs.Steps.{step_by, consume_step, consumed_to, consumed_end, with_matched, to_tell, tell_step}
+use Rattle.model.specs.Steps.{told_to, wake_step, free_step, signal_step}
 use Rattle.model.proofs.Tests.{same?, tests}
 use Rattle.model.proofs.Lists.{is_in-nth}
 use Rattle.model.proofs.Chords.{wakes-first}
@@ -35,8 +35,8 @@ pub record Stage (t : Table) (i h X T : ℕ) : Type 1 where
   pub Kept : Board → Type 0
   pub keeps : {b : Board} {e : Effect} → Next t b i e → is_resume e.change ≡ false → turn-wakes e.change ≡ false
       → Kept b → Kept (apply b i e)
-  pub wakes : {b : Board} {w : Job} → AtWork t b i w wake → Next t b i (wake-step t b (sender_at b i) w) → Kept b
-      → Kept (apply b i (wake-step t b (sender_at b i) w))
+  pub wakes : {b : Board} {w : Job} → AtWork t b i w wake → Next t b i (wake_step t b (sender_at b i) w) → Kept b
+      → Kept (apply b i (wake_step t b (sender_at b i) w))
   pub tells : {b : Board} {x r : ℕ} {ns : List ℕ} → Kept b → x ≡ h → Full t b x r ns → length ns ≤ 8
       → Tables.wakes t r (channel_of b x) ≡ false → length (to_tell t b.messages x ns) ≤ T
   pub exit : {b : Board} → Calm t b i → Kept b → Ended t b i h
@@ -84,19 +84,19 @@ module _ (t : Table) (i h X T : ℕ) (S : Stage t i h X T) where
 
   module _ {b : Board} (n : ℕ) (c : Calm t b i) (q : S.Kept b) (w : Job) (sub : w.subject ≡ h) where
     consumes_on : {k m : ℕ} → AtWork t b i w (consume k m) → X + 8 + T ≤ n + k → Goes t b i KeptOn n
-    unfolding consume-step apply messages_after
+    unfolding consume_step apply messages_after
     consumes_on {k} {m} a le = go (eqb (suc k) (length w.chosen)) refl refl
       where
         s : Effect
-        s = consume-step t b (sender_at b i) w k m
+        s = consume_step t b (sender_at b i) w k m
 
         b' : Board
-        b' = apply b i (consume-step t b (sender_at b i) w k m)
+        b' = apply b i (consume_step t b (sender_at b i) w k m)
 
-        y : step_by t b i ≡ does (consume-step t b (sender_at b i) w k m)
+        y : step_by t b i ≡ does (consume_step t b (sender_at b i) w k m)
         y = work_step c a
 
-        x : Next t b i (consume-step t b (sender_at b i) w k m)
+        x : Next t b i (consume_step t b (sender_at b i) w k m)
         x = next c y
 
         q' : S.Kept b'
@@ -128,7 +128,7 @@ module _ (t : Table) (i h X T : ℕ) (S : Stage t i h X T) where
             (at_place z r.0 r.1 (same? r.0 k))
 
         tells : (ns : List ℕ) → suc k ≡ length w.chosen
-            → (consume-step t b (sender_at b i) w k m).sender ≡ consumed_end t b'.messages e w ns
+            → (consume_step t b (sender_at b i) w k m).sender ≡ consumed_end t b'.messages e w ns
             → Goes t b i KeptOn n
         tells [] z o =
             stops y (S.exit x.calm q'
@@ -143,7 +143,7 @@ module _ (t : Table) (i h X T : ℕ) (S : Stage t i h X T) where
             )
 
         go : (u : Bool) → eqb (suc k) (length w.chosen) ≡ u
-            → (consume-step t b (sender_at b i) w k m).sender ≡ consumed_to t b'.messages e w k m u
+            → (consume_step t b (sender_at b i) w k m).sender ≡ consumed_to t b'.messages e w k m u
             → Goes t b i KeptOn n
         go false z o =
             goes s y (omega (arith, le, (small c f).1, a.job.placed.at)) (
@@ -154,16 +154,16 @@ module _ (t : Table) (i h X T : ℕ) (S : Stage t i h X T) where
         go true z o = tells (to_tell t b'.messages w.subject w.chosen) (omega tests) o
 
     tells_on : {k : ℕ} → AtWork t b i w (tell k) → X + T ≤ n + k → Goes t b i KeptOn n
-    unfolding tell-step apply messages_after
+    unfolding tell_step apply messages_after
     tells_on {k} a le = go (eqb (suc k) (length (to_tell t b.messages w.subject w.chosen))) refl
       where
-        y : step_by t b i ≡ does (tell-step t b (sender_at b i) w k)
+        y : step_by t b i ≡ does (tell_step t b (sender_at b i) w k)
         y = work_step c a
 
-        x : Next t b i (tell-step t b (sender_at b i) w k)
+        x : Next t b i (tell_step t b (sender_at b i) w k)
         x = next c y
 
-        q' : S.Kept (apply b i (tell-step t b (sender_at b i) w k))
+        q' : S.Kept (apply b i (tell_step t b (sender_at b i) w k))
         q' = S.keeps x refl refl q
 
         f : Full t b w.subject w.chord w.chosen
@@ -179,10 +179,10 @@ module _ (t : Table) (i h X T : ℕ) (S : Stage t i h X T) where
             (a.job.placed.done r.0 (omega (arith, r.1, f.all)))
 
         go : (u : Bool)
-            → (tell-step t b (sender_at b i) w k).sender ≡ told_to t b.messages (sender_at b i) w k u
+            → (tell_step t b (sender_at b i) w k).sender ≡ told_to t b.messages (sender_at b i) w k u
             → Goes t b i KeptOn n
         go false o =
-            goes (tell-step t b (sender_at b i) w k) y (omega (arith, le, few, a.job.placed.at)) (
+            goes (tell_step t b (sender_at b i) w k) y (omega (arith, le, few, a.job.placed.at)) (
               q',
               telling _ (goes_on x (ap (λ (d : Sender). d.state) o) refl) sub
                   (omega (arith, le, few, a.job.placed.at)),
@@ -192,22 +192,22 @@ module _ (t : Table) (i h X T : ℕ) (S : Stage t i h X T) where
             (omega (arith, le, few, a.job.placed.at))
 
     wakes_on : AtWork t b i w wake → X + 9 ≤ n → Goes t b i KeptOn n
-    unfolding wake-step
+    unfolding wake_step
     wakes_on a le =
-        goes (wake-step t b (sender_at b i) w) y (omega (arith, le)) (q', go (leb 2 (length w.chosen)) refl)
+        goes (wake_step t b (sender_at b i) w) y (omega (arith, le)) (q', go (leb 2 (length w.chosen)) refl)
       where
-        y : step_by t b i ≡ does (wake-step t b (sender_at b i) w)
+        y : step_by t b i ≡ does (wake_step t b (sender_at b i) w)
         y = work_step c a
 
-        x : Next t b i (wake-step t b (sender_at b i) w)
+        x : Next t b i (wake_step t b (sender_at b i) w)
         x = next c y
 
-        q' : S.Kept (apply b i (wake-step t b (sender_at b i) w))
+        q' : S.Kept (apply b i (wake_step t b (sender_at b i) w))
         q' = S.wakes a x q
 
         go : (u : Bool)
-            → (wake-step t b (sender_at b i) w).sender ≡ in_job (sender_at b i) (in_phase w (pick u (free 0) signal))
-            → Finishing (apply b i (wake-step t b (sender_at b i) w)) (n - 1)
+            → (wake_step t b (sender_at b i) w).sender ≡ in_job (sender_at b i) (in_phase w (pick u (free 0) signal))
+            → Finishing (apply b i (wake_step t b (sender_at b i) w)) (n - 1)
         go true o = freeing _ (goes_on x (ap (λ (d : Sender). d.state) o) refl) sub (omega (arith, le))
         go false o = signalling _ (goes_on x (ap (λ (d : Sender). d.state) o) refl) sub (omega (arith, le))
 
@@ -234,7 +234,7 @@ module _ (t : Table) (i h X T : ℕ) (S : Stage t i h X T) where
             (omega (arith, le, (small c a.job.placed.0.full).1, a.job.placed.1))
 
     signals_on : AtWork t b i w signal → X + 1 ≤ n → Goes t b i KeptOn n
-    unfolding signal-step apply messages_after
+    unfolding signal_step apply messages_after
     signals_on a le =
         let x = next c (work_step c a) in
         stops (work_step c a)

@@ -12,11 +12,11 @@ use native.Mathlib.Omega.{arith}
 use Rattle.model.specs.Basics.{pick}
 use Rattle.model.specs.Tables.{Table, size, naming, wakes}
 use Rattle.model.specs.Boards.{Board, Job, sender_at, message_at, channel_of, is_open}
-use Rattle.model.specs.Boards.{pending, claimed, is_pending, look, claim, pass-end, working}
+use Rattle.model.specs.Boards.{pending, claimed, is_pending, look, claim, pass_end, working}
 use Rattle.model.specs.Effects.{Effect, apply, messages_after, does, none, turn, claims}
 use Rattle.model.specs.Jobs.{with_chosen, pass_from, next_chord}
 use Rattle.model.specs.Looks.{choice}
-use Rattle.model.specs.Steps.{step_by, look-step, looked_by, claim-step, claimed_by, pass-end-step}
+use Rattle.model.specs.Steps.{step_by, look_step, looked_by, claim_step, claimed_by, pass_end_step}
 use Rattle.model.specs.Steps.{pass_end_by}
 use Rattle.model.proofs.Tests.{never}
 use Rattle.model.proofs.Jobs.{pass-by}
@@ -57,7 +57,7 @@ module _ (t : Table) (i h X T : ℕ) (some : 1 ≤ T) (S : Stage t i h X T) (P :
         → X + 16 + T + 8 * length t.chords ≤ n + 8 * w.chord + k → Fresh b n
     claiming : (w : Job) {k : ℕ} → AtWork t b i w (claim k) → w.subject ≡ h → AllPending b w.chosen k
         → S.Kept b → X + 16 + T ≤ n + k → Fresh b n
-    at_end : (w : Job) {r : ℕ} → AtWork t b i w pass-end → w.subject ≡ h → w.retry ≡ false
+    at_end : (w : Job) {r : ℕ} → AtWork t b i w pass_end → w.subject ≡ h → w.retry ≡ false
         → length t.chords ≤ r → P.Come r b → X + 1 ≤ n → Fresh b n
 
   begins : {b : Board} (n from k : ℕ) → Calm t b i
@@ -74,7 +74,7 @@ module _ (t : Table) (i h X T : ℕ) (some : 1 ≤ T) (S : Stage t i h X T) (P :
     looks_on : {k : ℕ} (a : AtWork t b i w (look k)) → w.retry ≡ false → (message_at b h).status ≡ pending
         → AllPending b w.chosen 0 → P.Come w.chord b
         → X + 16 + T + 8 * length t.chords ≤ n + 8 * w.chord + k → Goes t b i Fresh n
-    unfolding look-step apply messages_after
+    unfolding look_step apply messages_after
     looks_on {k} a mark pend all come le = go (choice t b w k) refl (work_step c a)
       where
         p : Place t w k
@@ -132,7 +132,7 @@ module _ (t : Table) (i h X T : ℕ) (some : 1 ≤ T) (S : Stage t i h X T) (P :
 
     claims_on : {k : ℕ} (a : AtWork t b i w (claim k)) → AllPending b w.chosen k → S.Kept b
         → X + 16 + T ≤ n + k → Goes t b i Fresh n
-    unfolding claim-step
+    unfolding claim_step
     claims_on {k} a all q le =
         go (is_pending (message_at b (get_or w.chosen k 0)).status) (eqb (suc k) (size t w.chord))
         (wakes t w.chord (channel_of b w.subject)) (leb 1024 (length b.matches)) refl refl (work_step c a)
@@ -180,9 +180,9 @@ module _ (t : Table) (i h X T : ℕ) (some : 1 ≤ T) (S : Stage t i h X T) (P :
             (λ x. consuming _ (goes_on x refl refl) sub (omega (arith, le, p.small, p.place)))
             (omega (arith, le, p.small, p.place))
 
-    ends_on : {r : ℕ} → AtWork t b i w pass-end → w.retry ≡ false → length t.chords ≤ r → P.Come r b
+    ends_on : {r : ℕ} → AtWork t b i w pass_end → w.retry ≡ false → length t.chords ≤ r → P.Come r b
         → X + 1 ≤ n → Goes t b i Fresh n
-    unfolding pass-end-step apply messages_after
+    unfolding pass_end_step apply messages_after
     ends_on {r} a mark ge come le =
         go (w.retry && is_open (message_at b w.subject).status) (rw mark) (work_step c a)
       where

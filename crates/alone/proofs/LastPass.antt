@@ -9,7 +9,7 @@ use native.Mathlib.Omega.{arith}
 use Rattle.model.specs.Tables.{Table}
 use Rattle.model.specs.Boards.{Board, Job, sender_at, message_at, pending, woken, wake}
 use Rattle.model.specs.Effects.{Effect, apply, claims, frees, consumes, wakes_by, resumes, turn}
-use Rattle.model.specs.Steps.{wake-step, woken_of}
+use Rattle.model.specs.Steps.{wake_step, woken_of}
 use Rattle.model.proofs.Grows.{apart}
 use Rattle.model.proofs.Passage.{After, same, turned_by}
 use Rattle.model.proofs.Phases.{is_resume, turn-wakes}
@@ -49,13 +49,13 @@ module _ (t : Table) (i h o : ℕ) (ne : h ≢ o) where
         go (turned_by (wakes_by v) f on s y m w) z = not-waking e.change n f
         go (turned_by resumes f on s y m w) z = apart refl (sym y ∙ z)
 
-  wakes : {b : Board} {w : Job} → AtWork t b i w wake → Next t b i (wake-step t b (sender_at b i) w) → Hopeless b
-      → Hopeless (apply b i (wake-step t b (sender_at b i) w))
-  unfolding wake-step
+  wakes : {b : Board} {w : Job} → AtWork t b i w wake → Next t b i (wake_step t b (sender_at b i) w) → Hopeless b
+      → Hopeless (apply b i (wake_step t b (sender_at b i) w))
+  unfolding wake_step
   wakes {b} {w} a x q = hopeless_on x refl q (go (x.passage.after o))
     where
-      go : After b (apply b i (wake-step t b (sender_at b i) w)) (turn (woken_of t w) (wakes_by w.subject)) o
-          → (message_at (apply b i (wake-step t b (sender_at b i) w)) o).status ≢ woken
+      go : After b (apply b i (wake_step t b (sender_at b i) w)) (turn (woken_of t w) (wakes_by w.subject)) o
+          → (message_at (apply b i (wake_step t b (sender_at b i) w)) o).status ≢ woken
       go (same f s m v) z = q.unwoken (sym s ∙ z)
       go (turned_by τ f on s y m v) z = wakes-other a q.none f.1
 

@@ -7,9 +7,9 @@ use native.Mathlib.Omega.{arith}
 use Rattle.model.specs.Tables.{Table, is_sync}
 use Rattle.model.specs.Boards.{Board, Job, Phase, State, Status, sender_at, message_at, channel_of, backoff_at, is_open}
 use Rattle.model.specs.Boards.{pending, claimed, woken, consumed, idle, working, blocked, look, claim, revert, consume}
-use Rattle.model.specs.Boards.{tell, wake, free, signal, pass-end, backoff}
+use Rattle.model.specs.Boards.{tell, wake, free, signal, pass_end, backoff}
 use Rattle.model.specs.Effects.{Effect, apply, messages_after, does, claims, frees, consumes, wakes_by, resumes}
-use Rattle.model.specs.Steps.{step_by, pass-end-step, pass_end_by, rests_then, more}
+use Rattle.model.specs.Steps.{step_by, pass_end_step, pass_end_by, rests_then, more}
 use Rattle.model.proofs.Tests.{never, both}
 use Rattle.model.proofs.Passage.{After, same, turned_by}
 use Rattle.model.proofs.Phases.{is_resume}
@@ -51,7 +51,7 @@ module _ (t : Table) (i : ℕ) where
       go false e = async-pass t i h k c st pend (record { on = on; sync = e })
 
   -- the end of a pass: `again`, rests and a new pass; or the job ends
-  module _ {h : ℕ} {b : Board} {w : Job} (c : Calm t b i) (a : AtWork t b i w pass-end) (sub : w.subject ≡ h) where
+  module _ {h : ℕ} {b : Board} {w : Job} (c : Calm t b i) (a : AtWork t b i w pass_end) (sub : w.subject ≡ h) where
     over : step_by t b i ≡ does (pass_end_by t b (sender_at b i) w false) → Within t b i 828
     unfolding apply messages_after
     over y = let x = next c y in later y (exit h _ x.calm (ended a x sub (sender_at b i) refl refl))
@@ -74,7 +74,7 @@ module _ (t : Table) (i : ℕ) where
             (open-pending _ e (none_claimed c a (λ j z. z) w.subject))
 
     ends-any : Within t b i 892
-    unfolding pass-end-step
+    unfolding pass_end_step
     ends-any = go (w.retry && is_open (message_at b w.subject).status) refl (work_step c a)
       where
         go : (u : Bool) → (w.retry && is_open (message_at b w.subject).status) ≡ u
@@ -83,7 +83,7 @@ module _ (t : Table) (i : ℕ) where
         go false e y = within_more (omega arith) (over y)
 
     ends-gone : is_open (message_at b h).status ≡ false → Within t b i 828
-    unfolding pass-end-step
+    unfolding pass_end_step
     ends-gone e = over (work_step c a ∙ ap (λ (u : Bool). does (pass_end_by t b (sender_at b i) w u)) (shut w.retry))
       where
         shut : (u : Bool) → (u && is_open (message_at b w.subject).status) ≡ false
@@ -164,7 +164,7 @@ module _ (t : Table) (i : ℕ) where
     by-phase wake e = finishing (waking w (working-at c st e) refl (omega arith))
     by-phase (free k) e = finishing (freeing w (working-at c st e) refl (omega arith))
     by-phase signal e = finishing (signalling w (working-at c st e) refl (omega arith))
-    by-phase pass-end e = within_more (omega arith) (ends-any c (working-at c st e) refl)
+    by-phase pass_end e = within_more (omega arith) (ends-any c (working-at c st e) refl)
     by-phase (backoff r) e = resting few-left (working-at c st e) (message_at b w.subject).status refl
       where
         few-left : suc r ≤ 64

@@ -11,15 +11,15 @@ use native.Mathlib.Omega.{arith}
 use Rattle.model.specs.Basics.{pick}
 use Rattle.model.specs.Tables.{Table, size, wakes}
 use Rattle.model.specs.Boards.{Board, Job, Phase, State, Sender, Message, Status, Match, idle, working, blocked, look}
-use Rattle.model.specs.Boards.{claim, revert, consume, tell, wake, free, signal, pass-end, backoff, sender_at}
+use Rattle.model.specs.Boards.{claim, revert, consume, tell, wake, free, signal, pass_end, backoff, sender_at}
 use Rattle.model.specs.Boards.{message_at, match_at, backoff_at, channel_of, is_pending, is_open, empty_board}
 use Rattle.model.specs.Boards.{pending, claimed, woken, consumed}
 use Rattle.model.specs.Effects.{Change, Outcome, refused, does, records, messages_after, turn, consumes, apply}
-use Rattle.model.specs.Jobs.{pass_from, job-end}
+use Rattle.model.specs.Jobs.{pass_from, job_end}
 use Rattle.model.specs.Looks.{choice}
-use Rattle.model.specs.Steps.{rests_then, looked_by, look-step, claimed_by, claim-step, lost_at, revert-step, reverted_to}
-use Rattle.model.specs.Steps.{consume-step, consumed_to, consumed_end, tell-step, told_to, wake-step, free_step, to_tell}
-use Rattle.model.specs.Steps.{signal-step, pass-end-step, pass_end_by, backoff-step, job-step, resume-step, resume_by}
+use Rattle.model.specs.Steps.{rests_then, looked_by, look_step, claimed_by, claim_step, lost_at, revert_step, reverted_to}
+use Rattle.model.specs.Steps.{consume_step, consumed_to, consumed_end, tell_step, told_to, wake_step, free_step, to_tell}
+use Rattle.model.specs.Steps.{signal_step, pass_end_step, pass_end_by, backoff_step, job_step, resume_step, resume_by}
 use Rattle.model.specs.Steps.{blocked_step, state_step, sender_step, step_by, more, with_matched}
 use Rattle.model.specs.Adds.{added, add_refusal, new_sender}
 use Rattle.model.specs.Closes.{close_refusal}
@@ -44,7 +44,7 @@ rests_in (tell k) = 0
 rests_in wake = 0
 rests_in (free k) = 0
 rests_in signal = 0
-rests_in pass-end = 0
+rests_in pass_end = 0
 rests_in (backoff rests) = suc rests
 
 abbrev pub rests_of : State → ℕ
@@ -62,7 +62,7 @@ pass-none : (t : Table) (h channel from k : ℕ) (retry : Bool) → rests_in (pa
 pass-none t h channel from k retry =
     pass-by t h channel from retry k (λ w. rests_in w.phase ≡ 0) (λ l. refl) (λ l. refl)
 
-end_none : (t : Table) (is : List Message) (d : Sender) (h : ℕ) → rests_of (job-end t is d h).state ≡ 0
+end_none : (t : Table) (is : List Message) (d : Sender) (h : ℕ) → rests_of (job_end t is d h).state ≡ 0
 end_none t is d h =
     job-end-by t is d h (λ e. rests_of e.state ≡ 0) (λ s. refl) (λ s m e. refl) (λ s e. refl)
     (λ s v e f ne. pass-none t v _ 0 0 false)
@@ -115,9 +115,9 @@ module _ (t : Table) (b : Board) (d : Sender) (w : Job) where
       omega (arith, v.table k, rests-as t b w.subject k (backoff_at b.backoffs k))
   ended-few false v = omega (arith, end_none t b.messages d w.subject)
 
-  job-few : (p : Phase) → rests_in p ≤ 64 → Bounded b → rests_of (job-step t b d w p).sender.state ≤ 64
-  unfolding look-step claim-step revert-step consume-step tell-step wake-step free_step signal-step pass-end-step
-      backoff-step
+  job-few : (p : Phase) → rests_in p ≤ 64 → Bounded b → rests_of (job_step t b d w p).sender.state ≤ 64
+  unfolding look_step claim_step revert_step consume_step tell_step wake_step free_step signal_step pass_end_step
+      backoff_step
   job-few (look k) l v = omega (arith, looked-none k (choice t b w k))
   job-few (claim k) l v =
       omega (
@@ -139,7 +139,7 @@ module _ (t : Table) (b : Board) (d : Sender) (w : Job) where
   job-few (free k) l v =
       omega (arith, pick-none (eqb (suc (suc k)) (length w.chosen)) signal (free (suc k)) refl refl)
   job-few signal l v = omega (arith, end_none t b.messages d w.subject)
-  job-few pass-end l v = ended-few (w.retry && is_open (message_at b w.subject).status) v
+  job-few pass_end l v = ended-few (w.retry && is_open (message_at b w.subject).status) v
   job-few (backoff r) l v = omega (arith, rests-as t b w.subject w.retries r)
 
 resume-none : (t : Table) (b : Board) (d : Sender) (n : ℕ) (s : Status)
@@ -156,7 +156,7 @@ FewAfter (does e) = rests_of e.sender.state ≤ 64
 
 module _ (t : Table) (b : Board) (i : ℕ) (v : Bounded b) where
   by_state : (x : State) → (sender_at b i).state ≡ x → FewAfter (state_step t b (sender_at b i) x)
-  unfolding resume-step
+  unfolding resume_step
   by_state idle st = tt
   by_state (working w) st =
       job-few t b (sender_at b i) w w.phase (subst (λ (x : State). rests_of x ≤ 64) st (v.rests i)) v

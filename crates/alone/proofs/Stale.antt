@@ -11,11 +11,11 @@ use native.Mathlib.Omega.{arith}
 use Rattle.model.specs.Basics.{pick}
 use Rattle.model.specs.Tables.{Table, size, wakes}
 use Rattle.model.specs.Boards.{Board, Job, sender_at, message_at, channel_of, is_pending, is_open}
-use Rattle.model.specs.Boards.{look, claim, revert, pass-end, working}
+use Rattle.model.specs.Boards.{look, claim, revert, pass_end, working}
 use Rattle.model.specs.Effects.{Effect, apply, does}
 use Rattle.model.specs.Jobs.{with_chosen, pass_from}
 use Rattle.model.specs.Looks.{choice, missed_retry}
-use Rattle.model.specs.Steps.{step_by, look-step, looked_by, claim-step, claimed_by, loses, revert-step, reverted_to}
+use Rattle.model.specs.Steps.{step_by, look_step, looked_by, claim_step, claimed_by, loses, revert_step, reverted_to}
 use Rattle.model.proofs.Tests.{same?, tests}
 use Rattle.model.proofs.Jobs.{pass-by}
 use Rattle.model.proofs.Lists.{is_in-nth}
@@ -37,7 +37,7 @@ pub record Lossy (t : Table) (i h X Z : ℕ) : Type 1 where
   pub keeps : {b : Board} {e : Effect} → Next t b i e → is_resume e.change ≡ false → Kept b → Kept (apply b i e)
   pub more : {b : Board} → Kept b → is_open (message_at b h).status ≡ true → X + 8 ≤ Z
   pub exit : (b : Board) → Calm t b i → Ended t b i h → Within t b i X
-  pub ends : {b : Board} {w : Job} → Calm t b i → Kept b → AtWork t b i w pass-end → w.subject ≡ h → Within t b i Z
+  pub ends : {b : Board} {w : Job} → Calm t b i → Kept b → AtWork t b i w pass_end → w.subject ≡ h → Within t b i Z
 
 -- the last claim is won, so its job has claimed the subject too, or claims it now
 subject-open : {t : Table} {b : Board} {i : ℕ} {w : Job} {k : ℕ} → AtWork t b i w (claim k) → suc k ≡ size t w.chord
@@ -61,7 +61,7 @@ module _ (t : Table) (i h X Z : ℕ) (L : Lossy t i h X Z) where
         → Z + 23 * length t.chords ≤ n + 23 * w.chord + 8 + k → Stale b n
     reverting : (w : Job) {k m : ℕ} → AtWork t b i w (revert k m) → w.subject ≡ h
         → Z + 23 * length t.chords ≤ n + 23 * w.chord + 16 + k → Stale b n
-    at_end : (w : Job) → AtWork t b i w pass-end → w.subject ≡ h → Z ≤ n → Stale b n
+    at_end : (w : Job) → AtWork t b i w pass_end → w.subject ≡ h → Z ≤ n → Stale b n
 
   abbrev KeptOn : Board → ℕ → Type 0
   KeptOn b n = L.Kept b × Stale b n
@@ -91,7 +91,7 @@ module _ (t : Table) (i h X Z : ℕ) (L : Lossy t i h X Z) where
 
     looks_on : {k : ℕ} → AtWork t b i w (look k)
         → Z + 23 * length t.chords ≤ n + 23 * w.chord + k → Goes t b i KeptOn n
-    unfolding look-step
+    unfolding look_step
     looks_on {k} a le = go (choice t b w k) (work_step c a)
       where
         p : Place t w k
@@ -132,7 +132,7 @@ module _ (t : Table) (i h X Z : ℕ) (L : Lossy t i h X Z) where
 
     claims_on : {k : ℕ} → AtWork t b i w (claim k)
         → Z + 23 * length t.chords ≤ n + 23 * w.chord + 8 + k → Goes t b i KeptOn n
-    unfolding claim-step
+    unfolding claim_step
     claims_on {k} a le =
         go (is_pending (message_at b (get_or w.chosen k 0)).status) (eqb (suc k) (size t w.chord))
         (wakes t w.chord (channel_of b w.subject)) (leb 1024 (length b.matches)) refl refl (work_step c a)
@@ -175,20 +175,20 @@ module _ (t : Table) (i h X Z : ℕ) (L : Lossy t i h X Z) where
 
     reverts_on : {k m : ℕ} → AtWork t b i w (revert k m)
         → Z + 23 * length t.chords ≤ n + 23 * w.chord + 16 + k → Goes t b i KeptOn n
-    unfolding revert-step
+    unfolding revert_step
     reverts_on {k} {m} a le = go (eqb (suc k) m) refl
       where
         p : Place t w (suc k)
         p = revert-place c a
 
-        y : step_by t b i ≡ does (revert-step t b (sender_at b i) w k m)
+        y : step_by t b i ≡ does (revert_step t b (sender_at b i) w k m)
         y = work_step c a
 
-        x : Next t b i (revert-step t b (sender_at b i) w k m)
+        x : Next t b i (revert_step t b (sender_at b i) w k m)
         x = next c y
 
         go : (u : Bool)
-            → (revert-step t b (sender_at b i) w k m).sender.state ≡ working (reverted_to t b w k m u)
+            → (revert_step t b (sender_at b i) w k m).sender.state ≡ working (reverted_to t b w k m u)
             → Goes t b i KeptOn n
         go true st =
             goes_next w.retry y refl st (omega (arith, le, p.small, p.place, p.chord)) p.chord

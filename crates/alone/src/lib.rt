@@ -1,1 +1,2 @@
 // No code: a sender left in peace finishes.
+#![tactic(auto)]

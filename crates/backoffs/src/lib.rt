@@ -1,4 +1,6 @@
 // Backoff tables: the built-in one, whether one passes, and the rests by the count of retries.
+#![tactic(auto)]
+
 ghost use Rattle.std.specs.Prelude.{◌≡◌, true, ◌≤◌, length};
 ghost use Rattle.model.specs.Boards.{backoff_at, backoffs_pass, builtin_backoffs};
 

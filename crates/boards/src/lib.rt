@@ -1,4 +1,6 @@
 // The board as the lists that a host lends: where its columns stand in them; and the calls.
+#![tactic(auto)]
+
 ghost use Rattle.std.specs.Prelude.{◌≡◌, length};
 ghost use Rattle.boards.specs.Layout.{board_len, bytes_len, links_len, tallies_in, backoffs_in, channels_in};
 ghost use Rattle.boards.specs.Layout.{statuses_in, chords_in, matched_in, wakers_in, members_in, units_in};

@@ -1,4 +1,6 @@
 // The public calls: any bytes, any lists; each is refused with a plain number, or does what it says.
+#![tactic(auto)]
+
 ghost use Rattle.std.specs.Prelude.{◌≡◌, ◌<◌, ◌≤◌, length, get_or, drop, replicate};
 ghost use Rattle.model.specs.Tables.{Table};
 ghost use Rattle.model.specs.Boards.{no_message, builtin_backoffs};

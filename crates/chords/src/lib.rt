@@ -1,5 +1,7 @@
 // Channels and chords of accepted table bytes, as a step reads them: each by offsets, in one pass at most.
 // The bytes are judged once, by the caller; no function here tests them again.
+#![tactic(auto)]
+
 ghost use Rattle.std.specs.Prelude.{◌≡◌, ◌<◌, eqb, length};
 ghost use Rattle.model.specs.Basics.{is_in, first_by};
 ghost use Rattle.model.specs.Tables.{chord_at, size, channel_at, is_sync, first_sync, wakes};

@@ -9,7 +9,7 @@ use lib.Seq.{get_or-take}
 use Rattle.model.specs.Tables.{Table, size, wakes}
 use Rattle.model.specs.Boards.{Board, message_at, channel_of, is_pending}
 use Rattle.model.specs.Jobs.{next_chord}
-use Rattle.model.specs.Steps.{loses, claimed_by, claim-step}
+use Rattle.model.specs.Steps.{loses, claimed_by, claim_step}
 use Rattle.state.specs.declared.Phase.TheVariants as P
 use Rattle.state.specs.declared.Said.TheVariants as W
 use Rattle.state.specs.declared.Turn.TheVariants as U
@@ -54,7 +54,7 @@ pub claims-by : (t : Table) (b : Board) (d : DD.Sender) (k len channel count : �
     → is_pending (message_at b (get_or (job_in t d.job).chosen k 0)).status ≡ pending → length b.matches ≡ count
     → claimed_by t b (sender_in t d) (job_in t d.job) k (get_or d.job.chosen k 0) pending (eqb (k + 1) len) waking
     (leb 1024 count)
-    ≡ claim-step t b (sender_in t d) (job_in t d.job) k
-unfolding claim-step
+    ≡ claim_step t b (sender_in t d) (job_in t d.job) k
+unfolding claim_step
 claims-by t b d k len channel count pending waking p h el ew ec ep em =
     rw (ep, el, ew, ec, em, add-one k, p, get_or-take (size t d.job.chord) d.job.chosen k 0 h)

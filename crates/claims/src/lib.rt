@@ -1,4 +1,6 @@
 // The step of a sender that claims its chosen messages. What was read of the messages comes as parameters.
+#![tactic(auto)]
+
 ghost use Rattle.std.specs.Prelude.{◌≡◌, ◌<◌, ◌≤◌, length, get_or};
 ghost use Rattle.model.specs.Tables.{size};
 ghost use Rattle.model.specs.Boards.{Board, message_at, channel_of, is_pending};

@@ -1,4 +1,6 @@
 // A close: whether a day is closed, what refuses it, and the two numbers that it writes.
+#![tactic(auto)]
+
 ghost use Rattle.std.specs.Prelude.{◌≡◌, true, suc, eqb, leb, length, set};
 ghost use Rattle.model.specs.Basics.{unless};
 ghost use Rattle.boards.specs.Boards.{closed_by};

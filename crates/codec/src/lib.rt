@@ -1,5 +1,7 @@
 // The table as a value: read from bytes, and written to a lent buffer.
 // Bytes are read by the crate `table`, which refuses them first.
+#![tactic(auto)]
+
 ghost use Rattle.std.specs.Prelude.{◌≡◌, map, ◌+◌, ◌<◌, length, replicate};
 ghost use Rattle.std.proofs.lemmas.List.Edits.{sets};
 ghost use Rattle.model.specs.Tables.{chord_at};

@@ -1,4 +1,6 @@
 // What a look reads of the lent messages: a column for each field, the first n messages of them.
+#![tactic(auto)]
+
 mod clear;
 mod fit;
 mod gather;

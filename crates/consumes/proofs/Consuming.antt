@@ -14,7 +14,7 @@ use Rattle.model.specs.Tables.{Table, size}
 use Rattle.model.specs.Boards.{Board, Message, no_message, Sender, Job, is_consumed, tell}
 use Rattle.model.specs.Effects.{Turn, turn, turned, consumes, messages_after}
 use Rattle.model.specs.Jobs as MJ
-use Rattle.model.specs.Steps.{with_matched, consumed_end, consumed_to, consume-step}
+use Rattle.model.specs.Steps.{with_matched, consumed_end, consumed_to, consume_step}
 use Rattle.state.specs.declared.Phase as DP
 use Rattle.state.specs.declared.Phase.TheVariants as P
 use Rattle.state.specs.declared.Said.TheVariants as W
@@ -92,8 +92,8 @@ module _ (t : Table) (b : Board) (d : DD.Sender) (k m x : ℕ) where
       → sender_in t end ≡ consumed_to t (messages_after (turn x (consumes m)) b.messages) (sender_in t e)
       (job_in t e.job) k m (eqb (suc k) (length (job_in t e.job).chosen))
       → effect_in t (record { said = W.Consumed x; change = G.Turn x (U.Consumes m); sender = end })
-      ≡ consume-step t b (sender_in t d) (job_in t d.job) k m
-  unfolding consume-step
+      ≡ consume_step t b (sender_in t d) (job_in t d.job) k m
+  unfolding consume_step
   consumes-is e end p h ex ee q =
       let xs : get_or (job_in t d.job).chosen k 0 ≡ x =
       rw (p, ← ex) (get_or-take (size t d.job.chord) d.job.chosen k 0 h) in

@@ -9,7 +9,7 @@ use lib.ListN.{length, take, drop, get_or, set, drop_of_length-le}
 use lib.Seq.{get_or-take, length-take-le, take-suc-set, drop-cons}
 use Rattle.model.specs.Tables.{Table, size, is_sync}
 use Rattle.model.specs.Boards.{Board, Message, no_message}
-use Rattle.model.specs.Steps.{keep_if, to_tell, told_to, tell-step}
+use Rattle.model.specs.Steps.{keep_if, to_tell, told_to, tell_step}
 use Rattle.state.specs.declared.Phase.TheVariants as P
 use Rattle.state.specs.declared.Said.TheVariants as W
 use Rattle.state.specs.declared.Change.TheVariants as G
@@ -46,6 +46,6 @@ module _ (t : Table) (b : Board) (d : DD.Sender) (k n : ℕ) (xs : List ℕ) whe
       → take n xs ≡ to_tell t b.messages d.job.subject (take (size t d.job.chord) d.job.chosen)
       → sender_in t end ≡ told_to t b.messages (sender_in t d) (job_in t d.job) k (eqb (suc k) n)
       → effect_in t (record { said = W.Told (get_or xs k 0); change = G.Signal (get_or xs k 0); sender = end })
-      ≡ tell-step t b (sender_in t d) (job_in t d.job) k
-  unfolding tell-step
+      ≡ tell_step t b (sender_in t d) (job_in t d.job) k
+  unfolding tell_step
   tells_is end p room h e q = rw (q, p, ← e, get_or-take n xs k 0 h, length-take-le n xs room)

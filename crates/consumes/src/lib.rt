@@ -1,5 +1,7 @@
 // The steps of a recorded match: each message of the choice is consumed, then each sender of a synchronous one, other
 // than the subject, is told.
+#![tactic(auto)]
+
 ghost use Rattle.std.specs.Prelude.{◌≡◌, List, [], ◌++◌, ℕ, suc, ◌+◌, ◌-◌, ◌<◌, ◌≤◌, eqb, length, get_or, take};
 ghost use Rattle.model.specs.Basics.{pick};
 ghost use Rattle.model.specs.Tables.{size, is_sync};

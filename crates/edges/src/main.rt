@@ -1,4 +1,6 @@
 // The board's public calls at their edges. What is printed is held to `oracle.py`, which has the reasons.
+#![tactic(auto)]
+
 mod acts;
 mod closed;
 mod closing;

@@ -9,7 +9,7 @@ use lib.Seq.{get_or-take}
 use Rattle.model.specs.Tables.{Table, size}
 use Rattle.model.specs.Boards.{Board, revert}
 use Rattle.model.specs.Jobs as MJ
-use Rattle.model.specs.Steps.{reverted_to, revert-step}
+use Rattle.model.specs.Steps.{reverted_to, revert_step}
 use Rattle.state.specs.declared.Phase.TheVariants as P
 use Rattle.state.specs.declared.Said.TheVariants as W
 use Rattle.state.specs.declared.Turn.TheVariants as U
@@ -25,8 +25,8 @@ module _ (t : Table) (b : Board) (d : DD.Sender) (k m : ℕ) where
       → eqb (k + 1) m ≡ last → job_in t next ≡ reverted_to t b (job_in t d.job) k m last
       → effect_in t
       (works_by d next (W.Reverted (get_or d.job.chosen k 0)) (G.Turn (get_or d.job.chosen k 0) U.Frees))
-      ≡ revert-step t b (sender_in t d) (job_in t d.job) k m
-  unfolding revert-step
+      ≡ revert_step t b (sender_in t d) (job_in t d.job) k m
+  unfolding revert_step
   reverted last next p h e q =
       rw (q, ← add-one k, e, p, get_or-take (size t d.job.chord) d.job.chosen k 0 h)
 

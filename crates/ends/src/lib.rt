@@ -1,10 +1,12 @@
 // The steps that read no messages but the subject, the sender's own and its waker: a claim put back, a pass that ends,
 // a rest. What was read comes as parameters.
+#![tactic(auto)]
+
 ghost use Rattle.std.specs.Prelude.{◌≡◌, ◌-◌, ◌<◌, length};
 ghost use Rattle.model.specs.Tables.{size, is_sync};
 ghost use Rattle.model.specs.Boards.{Board, message_at, channel_of, is_open, is_consumed, backoff_at};
 ghost use Rattle.model.specs.Layout.{table_refusal, table_of};
-ghost use Rattle.model.specs.Steps.{more, revert-step, pass-end-step, backoff-step};
+ghost use Rattle.model.specs.Steps.{more, revert_step, pass_end_step, backoff_step};
 ghost use Rattle.state.specs.declared.Phase.TheVariants as P;
 ghost use Rattle.state.specs.Views.{job_in, sender_in, effect_in};
 
@@ -16,7 +18,7 @@ pub fn revert_step(table: &[u8], d: Sender, k: u8, m: u8, channel: u8) -> Effect
     requires phase_value { (d.job.phase ≡ P.Revert k m) × (k < size (table_of table.now) d.job.chord) }
     ensures { (b : Board) → channel_of b d.job.subject ≡ channel
         → effect_in (table_of table.now) result
-        ≡ revert-step (table_of table.now) b (sender_in (table_of table.now) d)
+        ≡ revert_step (table_of table.now) b (sender_in (table_of table.now) d)
         (job_in (table_of table.now) d.job) k m }
 {
     let j = d.job;
@@ -48,7 +50,7 @@ pub fn pass_end_step(
         → is_sync (table_of table.now) (channel_of b (d.own - 1)) ≡ sync
         → channel_of b (d.waker - 1) ≡ waker → is_consumed (message_at b (d.waker - 1)).status ≡ consumed
         → effect_in (table_of table.now) result
-        ≡ pass-end-step (table_of table.now) b (sender_in (table_of table.now) d)
+        ≡ pass_end_step (table_of table.now) b (sender_in (table_of table.now) d)
         (job_in (table_of table.now) d.job) }
 {
     let j = d.job;
@@ -70,7 +72,7 @@ pub fn backoff_step(table: &[u8], d: Sender, rests: u8, channel: u8) -> Effect
     requires { table_refusal table.now ≡ 0 }
     ensures { (b : Board) → channel_of b d.job.subject ≡ channel
         → effect_in (table_of table.now) result
-        ≡ backoff-step (table_of table.now) b (sender_in (table_of table.now) d)
+        ≡ backoff_step (table_of table.now) b (sender_in (table_of table.now) d)
         (job_in (table_of table.now) d.job) rests }
 {
     let j = d.job;

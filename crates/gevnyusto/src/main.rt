@@ -1,6 +1,8 @@
 // The matching board as a program: it reads `rules.bin`, opens a board and makes the turns of `printouts`. It reads its
 // standard input, has what was read served, and writes what is to be printed. What it cannot read or write it says on
 // standard error; without its input or its output it stops.
+#![tactic(auto)]
+
 ghost use Rattle.std.specs.Prelude.{◌≡◌, true, false, List, ℕ, ◌≤◌, length};
 ghost use Rattle.model.specs.Boards.{builtin_backoffs};
 ghost use Rattle.boards.specs.Layout.{lists};

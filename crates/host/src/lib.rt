@@ -1,4 +1,6 @@
 // The calls of a host in another language: the lists that it lends, any bytes and numbers, and plain numbers back.
+#![tactic(auto)]
+
 ghost use Rattle.std.specs.Prelude.{◌≡◌, [], ◌∷◌, map, ◌≤◌, pos, length, drop, replicate};
 ghost use Rattle.std.proofs.Math.Seq.{paste};
 ghost use Rattle.model.specs.Boards.{builtin_backoffs};

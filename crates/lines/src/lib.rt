@@ -1,4 +1,6 @@
 // A line of the program's input read as a call. Bytes are ASCII: 32 space, 45 minus, 48 to 57 digits, 97 `a`, 115 `s`.
+#![tactic(auto)]
+
 ghost use Rattle.std.specs.Prelude.{◌≡◌, ◌∷◌, ◌+◌, ◌-◌, ◌*◌, ◌≤◌, pos, neg_ℤ, length, drop};
 ghost use Rattle.model.specs.Basics.{pick};
 ghost use Rattle.model.specs.Lines.{fields_of, is_digit, digits_value, is_number, is_magnitude, is_minus, digits_of, is_cents};

@@ -12,7 +12,7 @@ use Rattle.model.specs.Tables.{Table, chord_at, channel_at, size}
 use Rattle.model.specs.Boards.{Board, Message, Job, Sender, no_message, message_at, claim, look}
 use Rattle.model.specs.Jobs.{next_chord, with_chosen}
 use Rattle.model.specs.Looks.{is_free, oldest, day_at, some_claimed, choice}
-use Rattle.model.specs.Steps.{looked_by, look-step}
+use Rattle.model.specs.Steps.{looked_by, look_step}
 use Rattle.columns.specs.Columns.{Columns, Others, columns_by, board_by, message_in, messages_from}
 use Rattle.columns.proofs.Messages.{nth-message, nth-channel}
 use Rattle.state.specs.declared.Phase.TheVariants as P
@@ -75,6 +75,6 @@ module _ (t : Table) (b : Board) (d : DD.Sender) (k : ℕ) (next : DJ.Job) where
 
 -- what was taken decides the look
 pub looks-by : (t : Table) (b : Board) (d : Sender) (w : Job) (k x : ℕ) → x ≡ choice t b w k
-    → looked_by t b d w k x ≡ look-step t b d w k
-unfolding look-step
+    → looked_by t b d w k x ≡ look_step t b d w k
+unfolding look_step
 looks-by t b d w k x e = ap (looked_by t b d w k) e

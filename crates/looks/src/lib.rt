@@ -1,4 +1,6 @@
 // The step of a sender that looks for a message for a member of its chord.
+#![tactic(auto)]
+
 ghost use Rattle.std.specs.Prelude.{◌≡◌, [], ◌∷◌, ◌++◌, suc, ◌+◌, ◌<◌, ◌≤◌, eqb, length, get_or, set};
 ghost use Rattle.model.specs.Basics.{pick};
 ghost use Rattle.model.specs.Tables as MT;

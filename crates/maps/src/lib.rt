@@ -1,5 +1,7 @@
 // The map of a merge as text, and a merge that is turned away in words. The text has a word for each tray of the second
 // table: the number of the first's tray that it becomes, or `new`. A comment goes from `#` to its line's end.
+#![tactic(auto)]
+
 ghost use Rattle.std.specs.Prelude.{◌≡◌, ◌<◌, length};
 ghost use Rattle.model.specs.Layout.{table_refusal, table_of};
 ghost use Rattle.io.specs.Counts.{IsPrefixLen};

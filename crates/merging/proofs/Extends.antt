@@ -12,7 +12,7 @@ use Rattle.model.specs.Basics.{is_in}
 use Rattle.model.specs.Tables.{Table, chord_at, is_sync, naming, naming_up_to, first_sync, size, channel_at}
 use Rattle.model.specs.Boards.{Message, no_message, Sender, is_consumed}
 use Rattle.model.specs.Effects.{Turn, turned}
-use Rattle.model.specs.Jobs.{pass_from, start_at, in_job, job-end, ends_by, sync_end, waker_end}
+use Rattle.model.specs.Jobs.{pass_from, start_at, in_job, job_end, ends_by, sync_end, waker_end}
 use Rattle.model.specs.Steps.{to_tell}
 use Rattle.model.proofs.Tests.{by-range}
 use Rattle.model.proofs.Lists.{first-same}
@@ -107,8 +107,8 @@ module _ (t v : Table) (e : Extends t v) where
 
   -- a job's end
   pub end_same : (is : List Message) → AllOwn t v is → (d : Sender) (h : ℕ) → d.waker ≤ length is
-      → job-end v is d h ≡ job-end t is d h
-  unfolding job-end
+      → job_end v is d h ≡ job_end t is d h
+  unfolding job_end
   end_same is f d h l = rw (sync_at is f (d.own - 1)) (by (is_sync t (get_or is (d.own - 1) no_message).sent.channel))
     where
       takes : (w : ℕ) → w < length is → (u : Bool) → waker_end v is d w u ≡ waker_end t is d w u

@@ -1,1 +1,2 @@
 // No code: two tables merged.
+#![tactic(auto)]

@@ -12,10 +12,10 @@ use native.Mathlib.Omega.{arith}
 use Rattle.model.specs.Basics.{is_in}
 use Rattle.model.specs.Tables.{Table, is_sync}
 use Rattle.model.specs.Boards.{Board, Job, Phase, look, claim, revert, consume, tell, wake, free, signal}
-use Rattle.model.specs.Boards.{pass-end, backoff, State, idle, working, blocked, is_idle, sender_at, message_at}
+use Rattle.model.specs.Boards.{pass_end, backoff, State, idle, working, blocked, is_idle, sender_at, message_at}
 use Rattle.model.specs.Boards.{consumed, channel_of, match_at, Sender, Match, Message, no_message}
 use Rattle.model.specs.Effects.{Change, signals, records}
-use Rattle.model.specs.Jobs.{job-end}
+use Rattle.model.specs.Jobs.{job_end}
 use Rattle.model.specs.Steps.{to_tell, keep_if}
 use Rattle.model.specs.Demands.{SameButSignal}
 use Rattle.model.proofs.Tests.{same?, never, either, and}
@@ -39,7 +39,7 @@ WillTellAt t b w n (tell k) =
 WillTellAt t b w n wake = ⊥
 WillTellAt t b w n (free k) = ⊥
 WillTellAt t b w n signal = ⊥
-WillTellAt t b w n pass-end = ⊥
+WillTellAt t b w n pass_end = ⊥
 WillTellAt t b w n (backoff rests) = ⊥
 
 abbrev pub WillTell : Table → Board → State → ℕ → Type 0
@@ -96,7 +96,7 @@ module _ {t : Table} {b b' : Board} {i : ℕ} {c : Change} {d : Sender} (p : Pas
       at-phase w wake jb x = x
       at-phase w (free k) jb x = x
       at-phase w signal jb x = x
-      at-phase w pass-end jb x = x
+      at-phase w pass_end jb x = x
       at-phase w (backoff rests) jb x = x
 
       go : (s : State) → StateOk t b (sender_at b j).own (sender_at b j).waker (sender_at b j).matched s
@@ -220,7 +220,7 @@ no-tell t b w n (tell k) e x = never e
 no-tell t b w n wake e x = x
 no-tell t b w n (free k) e x = x
 no-tell t b w n signal e x = x
-no-tell t b w n pass-end e x = x
+no-tell t b w n pass_end e x = x
 no-tell t b w n (backoff rests) e x = x
 
 -- what a job's end leaves: the message and its match, a reply where a matched sender goes idle, and the signal where
@@ -232,7 +232,7 @@ pub record JobEnded (t : Table) (is : List Message) (e d : Sender) : Type 0 wher
       → (1 ≤ d.reply) × (1 ≤ e.matched)
   pub signalled : is_idle d.state ≡ false → d.signalled ≡ e.signalled
 
-pub job-ended : (t : Table) (is : List Message) (e : Sender) (h : ℕ) → JobEnded t is e (job-end t is e h)
+pub job-ended : (t : Table) (is : List Message) (e : Sender) (h : ℕ) → JobEnded t is e (job_end t is e h)
 job-ended t is e h =
     job-end-by t is e h (JobEnded t is e)
     (λ z. record {

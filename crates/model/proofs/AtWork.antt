@@ -13,7 +13,7 @@ use Rattle.model.specs.Boards.{Board, Job, Phase, sender_at, working, signal, cl
 use Rattle.model.specs.Boards.{Sender, message_at, consumed, woken, Message}
 use Rattle.model.specs.Effects.{Change, none, turn, claims, frees, consumes, wakes_by, resumes, records}
 use Rattle.model.specs.Effects.{signals, Turn, Effect, apply}
-use Rattle.model.specs.Jobs.{pass_from, in_job, job-end}
+use Rattle.model.specs.Jobs.{pass_from, in_job, job_end}
 use Rattle.model.specs.Steps.{rests_then}
 use Rattle.model.specs.Holdings.{HeldPlace, Holds, HoldsAt}
 use Rattle.model.proofs.Tests.{never}
@@ -203,7 +203,7 @@ module _ {t : Table} {b : Board} {i : ℕ} {w : Job} {p : Phase} (c : AtWork t b
         }
 
     -- the job ends; e is its sender, with a match of its own message remembered if there is one
-    module _ (e : Sender) (d : s.sender ≡ job-end t b'.messages e w.subject) (own : e.own ≡ (sender_at b i).own)
+    module _ (e : Sender) (d : s.sender ≡ job_end t b'.messages e w.subject) (own : e.own ≡ (sender_at b i).own)
         (signal : e.signalled ≡ (sender_at b i).signalled) where
       ended : JobEnded t b'.messages e s.sender
       ended = subst⁻¹ (JobEnded t b'.messages e) d (job-ended t b'.messages e w.subject)
@@ -262,7 +262,7 @@ module _ {t : Table} {b : Board} {i : ℕ} {w : Job} {p : Phase} (c : AtWork t b
 
     -- a job that ends in a phase that consumes and tells nothing
     pub job-ends : is_tame s.change ≡ true → still p ≡ true
-        → s.sender ≡ job-end t b.messages (sender_at b i) w.subject
+        → s.sender ≡ job_end t b.messages (sender_at b i) w.subject
         → b'.messages ≡ b.messages
         → inert s.change ≡ true
         → ((j : ℕ) → HeldPlace t w.chord p (length w.chosen) j → ⊥)
@@ -272,7 +272,7 @@ module _ {t : Table} {b : Board} {i : ℕ} {w : Job} {p : Phase} (c : AtWork t b
         → StepOwes t b i s
     job-ends e st d unmoved idle-hands k sg f =
         let x = tame s.change e in
-        let d' = d ∙ ap (λ (is : List Message). job-end t is (sender_at b i) w.subject) (sym unmoved) in
+        let d' = d ∙ ap (λ (is : List Message). job_end t is (sender_at b i) w.subject) (sym unmoved) in
         record {
           lawful = l;
           local = local;

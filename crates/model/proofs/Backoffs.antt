@@ -10,7 +10,7 @@ use lib.ListN.{length, get_or, get_or-eq_default}
 use native.Mathlib.Omega.{arith}
 use Rattle.model.specs.Basics.{every, pick}
 use Rattle.model.specs.Boards.{backoff_at, backoffs_pass, builtin_backoffs}
-use Rattle.model.specs.Steps.{more, pass-end-step}
+use Rattle.model.specs.Steps.{more, pass_end_step}
 use Rattle.model.specs.Orders.{times, BackoffsInOrder}
 use Rattle.model.proofs.Tests.{both}
 use Rattle.model.proofs.Lists.{every-nth}
@@ -43,7 +43,7 @@ times_is zero = refl
 times_is (suc k) = ap more (times_is k) ∙ more-min k
 
 pub backoffs-in-order : BackoffsInOrder
-unfolding builtin_backoffs backoff_at more pass-end-step
+unfolding builtin_backoffs backoff_at more pass_end_step
 backoffs-in-order = record {
   times_is = times_is;
   rests = λ t b d w k e o. rw (o, e, sym (times_is (suc k)));

@@ -12,7 +12,7 @@ use Rattle.model.specs.Boards.{Board, Job, claim, sender_at, revert, is_pending,
 use Rattle.model.specs.Boards.{Match, consume}
 use Rattle.model.specs.Effects.{none, claims, Effect, apply, records, Change}
 use Rattle.model.specs.Jobs.{in_phase}
-use Rattle.model.specs.Steps.{loses, claims_to, fires, claimed_by, claim-step}
+use Rattle.model.specs.Steps.{loses, claims_to, fires, claimed_by, claim_step}
 use Rattle.model.proofs.Tests.{tests, never}
 use Rattle.model.proofs.Lists.{is_in-nth}
 use Rattle.model.proofs.Frame.{records-count, records-last}
@@ -176,6 +176,6 @@ module _ {t : Table} {b : Board} {i : ℕ} {w : Job} {k : ℕ} (c : AtWork t b i
   claimed true true false true p l x = lost _
   claimed true true false false p l x = fires-owes p l x
 
-  pub claim-owes : StepOwes t b i (claim-step t b (sender_at b i) w k)
-  unfolding claim-step
+  pub claim-owes : StepOwes t b i (claim_step t b (sender_at b i) w k)
+  unfolding claim_step
   claim-owes = claimed _ _ _ _ refl refl refl

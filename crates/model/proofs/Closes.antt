@@ -7,7 +7,7 @@ use lib.Dec.{leb}
 use native.Mathlib.Omega.{arith}
 use Rattle.model.specs.Tables.{Table}
 use Rattle.model.specs.Boards.{Board, sender_at, State, idle, working, blocked, Job, Phase, look, claim, revert}
-use Rattle.model.specs.Boards.{consume, tell, wake, free, signal, pass-end, backoff}
+use Rattle.model.specs.Boards.{consume, tell, wake, free, signal, pass_end, backoff}
 use Rattle.model.specs.Closes.{close_refusal, closed_to}
 use Rattle.model.specs.Pools.{Pool}
 use Rattle.model.proofs.Tests.{unless-none}
@@ -61,7 +61,7 @@ module _ (t : Table) (b : Board) (day : ℕ) (v : Inv t b) where
   tells_at w n wake x = x
   tells_at w n (free k) x = x
   tells_at w n signal x = x
-  tells_at w n pass-end x = x
+  tells_at w n pass_end x = x
   tells_at w n (backoff rests) x = x
 
   tells_on : (s : State) (n : ℕ) → WillTell t b s n → WillTell t b' s n

@@ -14,8 +14,8 @@ use Rattle.model.specs.Tables.{Table, is_sync}
 use Rattle.model.specs.Boards.{Board, Job, consume, Sender, message_at, consumed, sender_at, match_at, signal}
 use Rattle.model.specs.Boards.{State, Phase, working, tell, channel_of, idle, idle_sender}
 use Rattle.model.specs.Effects.{consumes, Effect, Consumed, turn, apply}
-use Rattle.model.specs.Jobs.{in_job, in_phase, job-end}
-use Rattle.model.specs.Steps.{with_matched, to_tell, consumed_to, consumed_end, consume-step}
+use Rattle.model.specs.Jobs.{in_job, in_phase, job_end}
+use Rattle.model.specs.Steps.{with_matched, to_tell, consumed_to, consumed_end, consume_step}
 use Rattle.model.specs.Holdings.{Holds, HoldsAt}
 use Rattle.model.proofs.Tests.{same?, tests, never}
 use Rattle.model.proofs.Lists.{nth-is_in, is_in-nth}
@@ -283,7 +283,7 @@ module _ {t : Table} {b : Board} {i : ℕ} {w : Job} {k m : ℕ} (c : AtWork t b
             (r.0, omega arith, r.1, r.2))
 
         -- nobody is to be told
-        ends : to_tell t b'.messages w.subject w.chosen ≡ [] → x ≡ job-end t b'.messages d w.subject
+        ends : to_tell t b'.messages w.subject w.chosen ≡ [] → x ≡ job_end t b'.messages d w.subject
             → StepOwes t b i s
         ends l e = record {
           lawful = takes;
@@ -340,7 +340,7 @@ module _ {t : Table} {b : Board} {i : ℕ} {w : Job} {k m : ℕ} (c : AtWork t b
           ∙ ap (consumed_end t
           (apply b i (record { said = Consumed n; change = turn n (consumes m); sender = x })).messages d w)
           l
-          ∙ ap (λ (y : Sender). job-end t
+          ∙ ap (λ (y : Sender). job_end t
           (apply b i (record { said = Consumed n; change = turn n (consumes m); sender = x })).messages y
           w.subject) dd)
       go (y ∷ ys) l = tells-next x u ue e y ys l
@@ -350,7 +350,7 @@ module _ {t : Table} {b : Board} {i : ℕ} {w : Job} {k m : ℕ} (c : AtWork t b
           l
           ∙ ap (λ (r : Sender). in_job r (in_phase w (tell 0))) dd)
 
-  pub consume-owes : StepOwes t b i (consume-step t b (sender_at b i) w k m)
-  unfolding consume-step apply
+  pub consume-owes : StepOwes t b i (consume_step t b (sender_at b i) w k m)
+  unfolding consume_step apply
   consume-owes =
       consumed-to _ _ (eqb (suc n) (sender_at b i).own) (eqb (suc k) (length w.chosen)) refl refl refl refl

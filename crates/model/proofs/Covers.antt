@@ -15,7 +15,7 @@ use Rattle.model.specs.Boards.{Board, channel_of, message_at, Status, is_pending
 use Rattle.model.specs.Boards.{pending, claimed, is_open, Job, Phase, is_consumed, Message, Sender, no_message}
 use Rattle.model.specs.Boards.{sender_at, working, blocked}
 use Rattle.model.specs.Effects.{Change, Turn, resumes, none, turn, records, signals}
-use Rattle.model.specs.Jobs.{pass_from, job-end, in_job, ends_by, sync_end, waker_end, new_pass}
+use Rattle.model.specs.Jobs.{pass_from, job_end, in_job, ends_by, sync_end, waker_end, new_pass}
 use Rattle.model.specs.Looks.{subject_place, choice, fits}
 use Rattle.model.specs.Steps.{rests_then, resumed}
 use Rattle.model.proofs.Tests.{never, and, no_true, other-false}
@@ -92,8 +92,8 @@ not-gone consumed n = absurd (n refl)
 pub ends-takes : (t : Table) (is : List Message) (e : Sender) (h v : ℕ)
     → is_sync t (get_or is (e.own - 1) no_message).sent.channel ≡ true → e.waker ≡ suc v
     → (get_or is v no_message).status ≢ consumed → v ≢ h
-    → job-end t is e h ≡ in_job e (pass_from t v (get_or is v no_message).sent.channel 0 false 0)
-unfolding job-end
+    → job_end t is e h ≡ in_job e (pass_from t v (get_or is v no_message).sent.channel 0 false 0)
+unfolding job_end
 ends-takes t is e h v a k n ne =
     ap (ends_by t is e h) a
     ∙ ap (sync_end t is e h) k
@@ -147,7 +147,7 @@ module _ {t : Table} {b b' : Board} {i : ℕ} {c : Change} {d : Sender} {q : ℕ
         go n (inr z) = z
 
     -- the job ends: a waker that is not consumed becomes the subject
-    pub end-it : (e : Sender) → d ≡ job-end t b'.messages e w.subject → e.own ≡ (sender_at b i).own
+    pub end-it : (e : Sender) → d ≡ job_end t b'.messages e w.subject → e.own ≡ (sender_at b i).own
         → e.waker ≡ (sender_at b i).waker
         → (is_in w.subject ns ≡ true → Covers w q → Obliged t b' q ns)
         → ObligationKept t b b' i c q ns

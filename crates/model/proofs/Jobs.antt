@@ -8,15 +8,15 @@ use borrow.Author.Tests.{ltb-true, ltb-false, eqb-false, not-true}
 use lib.Dec.{ltb, eqb}
 use lib.ListN.{length, get_or}
 use Rattle.model.specs.Tables.{Table, naming, is_sync}
-use Rattle.model.specs.Boards.{Job, Sender, Message, no_message, blocked, pass-end, is_consumed}
+use Rattle.model.specs.Boards.{Job, Sender, Message, no_message, blocked, pass_end, is_consumed}
 use Rattle.model.specs.Jobs.{in_state, in_job, start_at, at_no_chord, pass_from, new_pass, goes_idle, matched_end}
-use Rattle.model.specs.Jobs.{waker_end, sync_end, ends_by, job-end}
+use Rattle.model.specs.Jobs.{waker_end, sync_end, ends_by, job_end}
 use Rattle.model.proofs.Tests.{both}
 
 -- from a chord on, a pass is at its first look or at its end
 module _ (t : Table) (h channel from : ℕ) (retry : Bool) (k : ℕ) (P : Job → Type 0)
     (looks : naming t channel from < length t.chords → P (start_at true h (naming t channel from) retry k))
-    (ends : length t.chords ≤ naming t channel from → P (at_no_chord h pass-end retry k)) where
+    (ends : length t.chords ≤ naming t channel from → P (at_no_chord h pass_end retry k)) where
   start-by : (u : Bool) → ltb (naming t channel from) (length t.chords) ≡ u
       → P (start_at u h (naming t channel from) retry k)
   start-by true e = looks (ltb-true _ _ e)
@@ -56,6 +56,6 @@ module _ (t : Table) (is : List Message) (d : Sender) (h : ℕ) where
     end_by false s = leaves s
     end_by true s = sync-by s d.waker refl
 
-    pub job-end-by : P (job-end t is d h)
-    unfolding job-end
+    pub job-end-by : P (job_end t is d h)
+    unfolding job_end
     job-end-by = end_by (is_sync t (get_or is (d.own - 1) no_message).sent.channel) refl

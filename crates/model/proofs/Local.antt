@@ -9,10 +9,10 @@ use native.Mathlib.Omega.{arith}
 use Rattle.model.specs.Basics.{is_in}
 use Rattle.model.specs.Tables.{Table, chord_at, channel_at, size, wakes, is_sync, naming}
 use Rattle.model.specs.Boards.{Board, message_at, wake, match_at, consumed, consume, Phase, look, claim, revert}
-use Rattle.model.specs.Boards.{tell, free, signal, pass-end, backoff, Job, State, idle, working, blocked}
+use Rattle.model.specs.Boards.{tell, free, signal, pass_end, backoff, Job, State, idle, working, blocked}
 use Rattle.model.specs.Boards.{Sender, channel_of, sender_at}
 use Rattle.model.specs.Effects.{Change}
-use Rattle.model.specs.Jobs.{pass_from, goes_idle, job-end}
+use Rattle.model.specs.Jobs.{pass_from, goes_idle, job_end}
 use Rattle.model.specs.Looks.{alike, subject_place}
 use Rattle.model.specs.Steps.{to_tell, rests_then}
 use Rattle.model.specs.Demands.{SameButSignal}
@@ -66,7 +66,7 @@ PlacedAt t b h r c retry (tell k) = AtTell t b h r c k
 PlacedAt t b h r c retry wake = AtWake t b h r c
 PlacedAt t b h r c retry (free k) = AtWake t b h r c × (suc k < size t r)
 PlacedAt t b h r c retry signal = AtWake t b h r c
-PlacedAt t b h r c retry pass-end = length c ≡ 0
+PlacedAt t b h r c retry pass_end = length c ≡ 0
 PlacedAt t b h r c retry (backoff rests) = length c ≡ 0
 
 abbrev pub Placed : Table → Board → Job → Phase → Type 0
@@ -150,7 +150,7 @@ module _ (t : Table) (b b' : Board) (g : Grows b b') where
   placed_on h r c retry l wake q = waking-on h r c l q
   placed_on h r c retry l (free k) q = (waking-on h r c l q.0, q.1)
   placed_on h r c retry l signal q = waking-on h r c l q
-  placed_on h r c retry l pass-end q = q
+  placed_on h r c retry l pass_end q = q
   placed_on h r c retry l (backoff rests) q = q
 
   pub job-on : (o v : ℕ) (w : Job) (p : Phase) → JobAt t b o v w p → JobAt t b' o v w p
@@ -252,7 +252,7 @@ module _ (t : Table) (b : Board) (d : Sender) (h : ℕ) (q : SenderOk t b d) (so
     state_is = tt;
   }
 
-  pub ends-ok : SenderOk t b (job-end t b.messages d h)
+  pub ends-ok : SenderOk t b (job_end t b.messages d h)
   ends-ok =
       job-end-by t b.messages d h (SenderOk t b) (λ s. idle-ok 0 (λ k f. absurd (omega arith)))
       (λ s m e. idle-ok (suc m) (λ k f. let r = q.matched_is k (e ∙ f) in (r.0, s, r.2, r.3)))

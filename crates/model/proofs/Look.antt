@@ -15,7 +15,7 @@ use Rattle.model.specs.Boards.{Board, Job, look, claim, sender_at, message_at, w
 use Rattle.model.specs.Effects.{none, Effect, apply}
 use Rattle.model.specs.Jobs.{next_chord}
 use Rattle.model.specs.Looks.{choice, missed_retry}
-use Rattle.model.specs.Steps.{looked_by, look-step}
+use Rattle.model.specs.Steps.{looked_by, look_step}
 use Rattle.model.specs.Holdings.{HoldsAt}
 use Rattle.model.proofs.Tests.{tests, neither, same?, other-false}
 use Rattle.model.proofs.Frame.{messages-at}
@@ -103,8 +103,8 @@ module _ {t : Table} {b : Board} {i : ℕ} {w : Job} {k : ℕ} (c : AtWork t b i
         (subject-of t w.subject _ _ _ _)
         (λ q ns y a x. missed-covers q ns y a (covered w q (look k) c.phase x) (same? w.chord q))
 
-  pub look-owes : StepOwes t b i (look-step t b (sender_at b i) w k)
-  unfolding look-step
+  pub look-owes : StepOwes t b i (look_step t b (sender_at b i) w k)
+  unfolding look_step
   look-owes = go (choice t b w k) refl
     where
       go : (n : ℕ) → choice t b w k ≡ n → StepOwes t b i (looked_by t b (sender_at b i) w k n)

@@ -10,13 +10,13 @@ use native.Mathlib.Omega.{arith}
 use Rattle.model.specs.Basics.{every}
 use Rattle.model.specs.Tables.{Table}
 use Rattle.model.specs.Layout.{count_r, table_of, chords_from, chord_bytes, member_bytes}
-use Rattle.model.specs.Boards.{Phase, pass-end, backoff, State, idle, working, blocked, Board, Sender, Message}
+use Rattle.model.specs.Boards.{Phase, pass_end, backoff, State, idle, working, blocked, Board, Sender, Message}
 use Rattle.model.specs.Boards.{Job, backoff_at, is_open, message_at, Status, pending}
 use Rattle.model.specs.Boards.{claimed, woken, consumed, sender_at, idle_sender, empty_board}
 use Rattle.model.specs.Effects.{Effect, Outcome, refused, does, apply, word_of}
-use Rattle.model.specs.Jobs.{pass_from, job-end}
-use Rattle.model.specs.Steps.{rests_then, pass_end_by, more, job-step, pass-end-step, backoff-step, resume_by}
-use Rattle.model.specs.Steps.{step_by, resume-step, blocked_step, state_step, sender_step}
+use Rattle.model.specs.Jobs.{pass_from, job_end}
+use Rattle.model.specs.Steps.{rests_then, pass_end_by, more, job_step, pass_end_step, backoff_step, resume_by}
+use Rattle.model.specs.Steps.{step_by, resume_step, blocked_step, state_step, sender_step}
 use Rattle.model.specs.Adds.{added, add_refusal}
 use Rattle.model.specs.Closes.{close_refusal}
 use Rattle.model.specs.Pools.{Call, answer_to, adds, add_answer, steps, step_answer, closes, close_answer, after_all}
@@ -30,7 +30,7 @@ use Rattle.model.proofs.StepFrame.{but-signals}
 
 -- off the chords: the phases and states of a sender that has none to look at
 pub data OffPhase : Phase → Type 0 where
-  at_end : OffPhase pass-end
+  at_end : OffPhase pass_end
   at_rest : (rests : ℕ) → OffPhase (backoff rests)
 
 abbrev pub OffState : State → Type 0
@@ -56,7 +56,7 @@ module _ (t : Table) (chordless : t.chords ≡ []) where
   rests-none b h k zero = pass-none _ _ _ _ _
   rests-none b h k (suc rests) = at_rest rests
 
-  end_none : (is : List Message) (d : Sender) (h : ℕ) → OffState (job-end t is d h).state
+  end_none : (is : List Message) (d : Sender) (h : ℕ) → OffState (job_end t is d h).state
   end_none is d h =
       job-end-by t is d h (λ e. OffState e.state) (λ s. tt) (λ s m e. tt) (λ s e. tt)
       (λ s v e f ne. pass-none _ _ _ _ _)
@@ -68,8 +68,8 @@ module _ (t : Table) (chordless : t.chords ≡ []) where
       (refl, rests-none b w.subject k (backoff_at b.backoffs k))
   pass-end-none b d w false = (refl, end_none b.messages d w.subject)
 
-  job-none : (b : Board) (d : Sender) (w : Job) {p : Phase} → OffPhase p → Matchless (job-step t b d w p)
-  unfolding pass-end-step backoff-step
+  job-none : (b : Board) (d : Sender) (w : Job) {p : Phase} → OffPhase p → Matchless (job_step t b d w p)
+  unfolding pass_end_step backoff_step
   job-none b d w at_end = pass-end-none b d w (w.retry && is_open (message_at b w.subject).status)
   job-none b d w (at_rest rests) = (refl, rests-none b w.subject w.retries rests)
 
@@ -80,7 +80,7 @@ module _ (t : Table) (chordless : t.chords ≡ []) where
   resume-none b d n consumed = (refl, tt)
 
   step-none : (b : Board) (i : ℕ) → OffState (sender_at b i).state → MatchlessBy (step_by t b i)
-  unfolding step_by resume-step
+  unfolding step_by resume_step
   step-none b i n = at (leb 32 i)
     where
       d : Sender

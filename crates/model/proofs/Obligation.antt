@@ -11,7 +11,7 @@ use native.Mathlib.Omega.{arith}
 use Rattle.model.specs.Basics.{is_in}
 use Rattle.model.specs.Tables.{Table, size, channel_at, chord_at}
 use Rattle.model.specs.Boards.{Board, channel_of, message_at, Phase, look, claim, revert, consume, tell, wake}
-use Rattle.model.specs.Boards.{free, signal, pass-end, backoff, Job, sender_at, working, woken, Sender}
+use Rattle.model.specs.Boards.{free, signal, pass_end, backoff, Job, sender_at, working, woken, Sender}
 use Rattle.model.specs.Effects.{Change, Turn, resumes, claims, frees, consumes, wakes_by}
 use Rattle.model.specs.Looks.{alike}
 use Rattle.model.specs.Steps.{resumed}
@@ -44,7 +44,7 @@ CoversAt (tell k) retry r q = ⊥
 CoversAt wake retry r q = Unit {0}
 CoversAt (free k) retry r q = ⊥
 CoversAt signal retry r q = ⊥
-CoversAt pass-end retry r q = retry ≡ true
+CoversAt pass_end retry r q = retry ≡ true
 CoversAt (backoff rests) retry r q = Unit {0}
 
 abbrev pub Covers : Job → ℕ → Type 0

@@ -7,11 +7,11 @@ use Prim.Native.Nat.{ℕ}
 use lib.ListN.{length}
 use Rattle.model.specs.Basics.{is_in}
 use Rattle.model.specs.Tables.{Table}
-use Rattle.model.specs.Boards.{Board, Job, Phase, sender_at, pass-end, is_open, message_at, backoff_at, backoff}
+use Rattle.model.specs.Boards.{Board, Job, Phase, sender_at, pass_end, is_open, message_at, backoff_at, backoff}
 use Rattle.model.specs.Boards.{woken, consumed}
 use Rattle.model.specs.Effects.{Said, none, apply, messages_after, Again, Rested}
 use Rattle.model.specs.Jobs.{in_job}
-use Rattle.model.specs.Steps.{rests_then, pass_end_by, more, pass-end-step, backoff-step}
+use Rattle.model.specs.Steps.{rests_then, pass_end_by, more, pass_end_step, backoff_step}
 use Rattle.model.specs.Holdings.{HeldPlace}
 use Rattle.model.proofs.Phases.{still, signalling}
 use Rattle.model.proofs.Places.{none-held, rests-empty}
@@ -33,7 +33,7 @@ module _ {t : Table} {b : Board} {i : ℕ} {w : Job} {p : Phase} (c : AtWork t b
       (rests-subject t b w.subject k rests)
       (λ q ns y a x. inl (rests-cover t b w.subject k rests q y.meets.chord-in (names-it y w.subject a)))
 
-module _ {t : Table} {b : Board} {i : ℕ} {w : Job} (c : AtWork t b i w pass-end) where
+module _ {t : Table} {b : Board} {i : ℕ} {w : Job} (c : AtWork t b i w pass_end) where
   pass-ended : (again : Bool) → (w.retry && is_open (message_at b w.subject).status) ≡ again
       → StepOwes t b i (pass_end_by t b (sender_at b i) w again)
   unfolding apply messages_after
@@ -41,7 +41,7 @@ module _ {t : Table} {b : Board} {i : ℕ} {w : Job} (c : AtWork t b i w pass-en
       rests-owe c Again (more w.retries) (backoff_at b.backoffs (more w.retries)) refl refl (λ j x. x)
   pass-ended false e =
       job-ends c _ tt refl refl refl refl refl (λ j x. x) (λ n x. absurd (no-signal c refl n x))
-      (λ q ns y a x. over q ns y a (shut _ (other-false _ _ e (covered w q pass-end c.phase x))))
+      (λ q ns y a x. over q ns y a (shut _ (other-false _ _ e (covered w q pass_end c.phase x))))
     where
       over : (q : ℕ) (ns : List ℕ)
           → Case t b (apply b i (pass_end_by t b (sender_at b i) w false)) i none
@@ -52,11 +52,11 @@ module _ {t : Table} {b : Board} {i : ℕ} {w : Job} (c : AtWork t b i w pass-en
       over q ns y a (inl z) = by_woken w.subject a z
       over q ns y a (inr z) = absurd (live y w.subject a z)
 
-  pub pass-end-owes : StepOwes t b i (pass-end-step t b (sender_at b i) w)
-  unfolding pass-end-step
+  pub pass-end-owes : StepOwes t b i (pass_end_step t b (sender_at b i) w)
+  unfolding pass_end_step
   pass-end-owes = pass-ended (w.retry && is_open (message_at b w.subject).status) refl
 
 pub backoff-owes : {t : Table} {b : Board} {i : ℕ} {w : Job} {rests : ℕ} → AtWork t b i w (backoff rests)
-    → StepOwes t b i (backoff-step t b (sender_at b i) w rests)
-unfolding backoff-step
+    → StepOwes t b i (backoff_step t b (sender_at b i) w rests)
+unfolding backoff_step
 backoff-owes {rests = rests} c = rests-owe c Rested _ rests refl refl (λ j x. x)

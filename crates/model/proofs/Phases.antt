@@ -3,7 +3,7 @@ use mathlib.Core.Path.{◌≡◌, ap, sym, ◌∙◌, refl}
 use mathlib.Core.Bool.{Bool, true, false}
 use Prim.Native.Nat.{ℕ}
 use borrow.Author.Tests.{eqb-false}
-use Rattle.model.specs.Boards.{Phase, look, claim, revert, consume, tell, wake, free, signal, pass-end, backoff}
+use Rattle.model.specs.Boards.{Phase, look, claim, revert, consume, tell, wake, free, signal, pass_end, backoff}
 use Rattle.model.specs.Boards.{State, Job, idle, working, blocked, Match}
 use Rattle.model.specs.Effects.{Change, none, turn, claims, frees, consumes, wakes_by, resumes, records}
 use Rattle.model.specs.Effects.{signals}
@@ -19,7 +19,7 @@ still (tell k) = false
 still wake = true
 still (free k) = true
 still signal = true
-still pass-end = true
+still pass_end = true
 still (backoff rests) = true
 
 abbrev pub is_tell : Phase → Bool
@@ -31,7 +31,7 @@ is_tell (tell k) = true
 is_tell wake = false
 is_tell (free k) = false
 is_tell signal = false
-is_tell pass-end = false
+is_tell pass_end = false
 is_tell (backoff rests) = false
 
 -- between a wake and its signal
@@ -44,7 +44,7 @@ signalling (tell k) = false
 signalling wake = false
 signalling (free k) = true
 signalling signal = true
-signalling pass-end = false
+signalling pass_end = false
 signalling (backoff rests) = false
 
 -- the place of a consume
@@ -57,7 +57,7 @@ consume_at (tell k) = 0
 consume_at wake = 0
 consume_at (free k) = 0
 consume_at signal = 0
-consume_at pass-end = 0
+consume_at pass_end = 0
 consume_at (backoff rests) = 0
 
 abbrev job_of : State → Job → Job

@@ -9,7 +9,7 @@ use Rattle.model.specs.Tables.{Table}
 use Rattle.model.specs.Boards.{woken, Phase, working, Board, Sender, Message}
 use Rattle.model.specs.Effects.{Change, none, turn, claims, frees, consumes, wakes_by, resumes, records}
 use Rattle.model.specs.Effects.{signals, Turn}
-use Rattle.model.specs.Jobs.{pass_from, job-end}
+use Rattle.model.specs.Jobs.{pass_from, job_end}
 use Rattle.model.specs.Steps.{rests_then}
 use Rattle.model.specs.Holdings.{HeldPlace, HoldsAt, Holds}
 use Rattle.model.proofs.Tests.{never, same?}
@@ -143,7 +143,7 @@ module _ (t : Table) where
   rests-empty b h k zero n x = pass-empty h _ 0 k false n x
   rests-empty b h k (suc rests) n x = x.held
 
-  pub ends-empty : (is : List Message) (d : Sender) (h n : ℕ) → Holds t (job-end t is d h).state n → ⊥
+  pub ends-empty : (is : List Message) (d : Sender) (h n : ℕ) → Holds t (job_end t is d h).state n → ⊥
   ends-empty is d h n =
       job-end-by t is d h (λ e. Holds t e.state n → ⊥) (λ s x. x) (λ s m e x. x) (λ s e x. x)
       (λ s v e f ne x. pass-empty v _ 0 0 false n x)

@@ -13,7 +13,7 @@ use Rattle.model.specs.Boards.{Board, sender_at, blocked, State, message_at, wok
 use Rattle.model.specs.Boards.{Status, match_at, pending, claimed}
 use Rattle.model.specs.Effects.{Effect, apply, resumes}
 use Rattle.model.specs.Jobs.{new_pass}
-use Rattle.model.specs.Steps.{stays_blocked, resume_by, resumed, resume-step}
+use Rattle.model.specs.Steps.{stays_blocked, resume_by, resumed, resume_step}
 use Rattle.model.specs.Holdings.{Holds}
 use Rattle.model.proofs.Tests.{never}
 use Rattle.model.proofs.Words.{is_record}
@@ -174,8 +174,8 @@ module _ (t : Table) (b : Board) (i : ℕ) (v : Inv t b) (in_senders : i < lengt
         (λ z. apart refl (sym (rw (status-now r turns refl refl refl, eq-eqb n n refl) at z))) (λ z. never z)
         (λ z. absurd (apart refl (sym e ∙ z))) seen
 
-  pub resume-owes : StepOwes t b i (resume-step t b (sender_at b i))
-  unfolding resume-step
+  pub resume-owes : StepOwes t b i (resume_step t b (sender_at b i))
+  unfolding resume_step
   resume-owes = go (message_at b n).status refl
     where
       go : (x : Status) → (message_at b n).status ≡ x → StepOwes t b i (resume_by t b (sender_at b i) n x)

@@ -10,7 +10,7 @@ use Rattle.model.specs.Tables.{Table}
 use Rattle.model.specs.Boards.{Board, Job, revert, sender_at}
 use Rattle.model.specs.Effects.{frees, Reverted, turn}
 use Rattle.model.specs.Jobs.{in_job}
-use Rattle.model.specs.Steps.{reverted_to, revert-step}
+use Rattle.model.specs.Steps.{reverted_to, revert_step}
 use Rattle.model.proofs.Tests.{tests}
 use Rattle.model.proofs.Grows.{Turns}
 use Rattle.model.proofs.Local.{Placed}
@@ -47,6 +47,6 @@ module _ {t : Table} {b : Board} {i : ℕ} {w : Job} {k m : ℕ} (c : AtWork t b
       (λ j x z. p.0.selection.one j k (in-chosen j x.1) (in-chosen k p.1) z))
       refl (λ q ns y a x. inl (inl p.3))
 
-  pub revert-owes : StepOwes t b i (revert-step t b (sender_at b i) w k m)
-  unfolding revert-step
+  pub revert-owes : StepOwes t b i (revert_step t b (sender_at b i) w k m)
+  unfolding revert_step
   revert-owes = reverted (eqb (suc k) m) refl

@@ -7,10 +7,10 @@ use Rattle.model.specs.Tables.{is_sync, first_sync, wakes, naming}
 use Rattle.model.specs.Layout.{word, counts_ok, offsets_ok, kinds_ok, chord_ok, members_ok, table_refusal, table_of}
 use Rattle.model.specs.Boards.{builtin_backoffs, backoff_at, backoffs_pass, amount}
 use Rattle.model.specs.Effects.{messages_after, matches_after, senders_after, apply}
-use Rattle.model.specs.Jobs.{pass_from, job-end}
+use Rattle.model.specs.Jobs.{pass_from, job_end}
 use Rattle.model.specs.Looks.{alike, is_before, oldest, some_claimed, choice}
-use Rattle.model.specs.Steps.{look-step, claim-step, revert-step, consume-step, tell-step, woken_of, wake-step}
-use Rattle.model.specs.Steps.{skip, free_step, signal-step, more, pass-end-step, backoff-step, resume-step}
+use Rattle.model.specs.Steps.{look_step, claim_step, revert_step, consume_step, tell_step, woken_of, wake_step}
+use Rattle.model.specs.Steps.{skip, free_step, signal_step, more, pass_end_step, backoff_step, resume_step}
 use Rattle.model.specs.Steps.{step_by}
 use Rattle.model.specs.Shares.{has_room, shares_ok}
 use Rattle.model.specs.Adds.{add_refusal, added}
@@ -23,8 +23,8 @@ use Rattle.model.specs.Samples.{SharesOut}
 unfoldable pub opened : ℕ
 unfolding is_sync first_sync wakes naming word counts_ok offsets_ok kinds_ok chord_ok members_ok table_refusal table_of
     builtin_backoffs backoff_at amount messages_after matches_after senders_after apply pass_from alike is_before oldest
-    some_claimed choice look-step claim-step revert-step job-end consume-step tell-step woken_of wake-step skip free_step
-    signal-step more pass-end-step backoff-step resume-step step_by has_room add_refusal added close_refusal
+    some_claimed choice look_step claim_step revert_step job_end consume_step tell_step woken_of wake_step skip free_step
+    signal_step more pass_end_step backoff_step resume_step step_by has_room add_refusal added close_refusal
 opened = 0
 
 pub m-items : map outcome samples ≡ map expected samples

@@ -14,7 +14,7 @@ use native.Mathlib.Omega.{arith}
 use Rattle.model.specs.Basics.{is_in, every}
 use Rattle.model.specs.Tables.{Table, chord_at, size}
 use Rattle.model.specs.Boards.{Message, Board, wake, woken, consume, consumed, Match, channel_of, Job, Phase}
-use Rattle.model.specs.Boards.{look, claim, revert, tell, free, signal, pass-end, backoff, State, idle, working}
+use Rattle.model.specs.Boards.{look, claim, revert, tell, free, signal, pass_end, backoff, State, idle, working}
 use Rattle.model.specs.Boards.{blocked, Sender, is_idle, idle_sender, message_at, match_at, sender_at, Status}
 use Rattle.model.specs.Boards.{pending, claimed, no_message, no_match, backoffs_pass}
 use Rattle.model.specs.Steps.{to_tell}
@@ -62,7 +62,7 @@ PlaceOk t b w (tell k) =
 PlaceOk t b w wake = AllChosen t b w × (to_wake t b w ≡ true)
 PlaceOk t b w (free k) = AllChosen t b w × (to_wake t b w ≡ true) × (suc k < size t w.chord)
 PlaceOk t b w signal = AllChosen t b w × (to_wake t b w ≡ true)
-PlaceOk t b w pass-end = length w.chosen ≡ 0
+PlaceOk t b w pass_end = length w.chosen ≡ 0
 PlaceOk t b w (backoff rests) = length w.chosen ≡ 0
 
 -- a job of a sender with this own message and waker (numbers plus 1)
@@ -194,7 +194,7 @@ module _ (t : Table) (b : Board) where
   place w wake = record { to = λ e. search reads; from = λ f. search shows }
   place w (free k) = record { to = λ e. search reads; from = λ f. search shows }
   place w signal = record { to = λ e. search reads; from = λ f. search shows }
-  place w pass-end = record { to = λ e. search reads; from = λ f. search shows }
+  place w pass_end = record { to = λ e. search reads; from = λ f. search shows }
   place w (backoff rests) = record { to = λ e. search reads; from = λ f. search shows }
 
   state : (d : Sender) (x : State) → Reads (state_ok t b d x) (StateFacts t b d.own d.waker x)

@@ -11,7 +11,7 @@ use native.Mathlib.Omega.{arith}
 use Rattle.model.specs.Basics.{pick}
 use Rattle.model.specs.Tables.{Table, size}
 use Rattle.model.specs.Boards.{Board, claim, free, consume, wake, Match, signal, channel_of, Message, message_at}
-use Rattle.model.specs.Boards.{tell, Job, Phase, look, revert, pass-end, backoff, State, idle, working, blocked}
+use Rattle.model.specs.Boards.{tell, Job, Phase, look, revert, pass_end, backoff, State, idle, working, blocked}
 use Rattle.model.specs.Boards.{Sender, Status, woken, consumed, claimed, pending, no_match, sender_at, is_idle}
 use Rattle.model.specs.Effects.{Turn, claims, frees, consumes, wakes_by, resumes, Change, none, turn, records}
 use Rattle.model.specs.Effects.{signals, matches_after, Effect, apply, turned}
@@ -100,7 +100,7 @@ module _ (t : Table) {b b' : Board} (g : Wider b b') where
     place-wider c wake f = (chord-wider f.0, wake-wider f.1)
     place-wider c (free k) f = (chord-wider f.0, wake-wider f.1, f.2)
     place-wider c signal f = (chord-wider f.0, wake-wider f.1)
-    place-wider c pass-end f = f
+    place-wider c pass_end f = f
     place-wider c (backoff rests) f = f
 
   pub job-wider : {o v : ℕ} {w : Job} {p : Phase} → JobFacts t b o v w p → JobFacts t b' o v w p

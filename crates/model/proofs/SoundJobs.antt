@@ -13,15 +13,15 @@ use Rattle.model.specs.Basics.{pick}
 use Rattle.model.specs.Tables.{Table, chord_at, naming, size, wakes, first_sync}
 use Rattle.model.specs.Boards.{Board, channel_of, Job, Sender, State, wake, blocked, signal}
 use Rattle.model.specs.Boards.{message_at, Phase, working, sender_at, look, claim, consume, pending, revert, tell}
-use Rattle.model.specs.Boards.{free, pass-end, backoff_at, backoff, is_pending, is_open}
+use Rattle.model.specs.Boards.{free, pass_end, backoff_at, backoff, is_pending, is_open}
 use Rattle.model.specs.Effects.{apply}
 use Rattle.model.specs.Jobs.{pass_from, in_state, goes_idle}
-use Rattle.model.specs.Jobs.{job-end, in_job, in_phase, next_chord, with_chosen}
+use Rattle.model.specs.Jobs.{job_end, in_job, in_phase, next_chord, with_chosen}
 use Rattle.model.specs.Looks.{choice, Chosen, the_subject, another, missed_retry}
 use Rattle.model.specs.Steps.{rests_then, with_matched, skip, looked_by, loses, fires, claimed_by, reverted_to}
-use Rattle.model.specs.Steps.{consumed_to, to_tell, consumed_end, consume-step, told_to, woken_of, pass_end_by, more}
-use Rattle.model.specs.Steps.{job-step, look-step, claim-step, revert-step, tell-step, wake-step, free_step}
-use Rattle.model.specs.Steps.{signal-step, pass-end-step, backoff-step}
+use Rattle.model.specs.Steps.{consumed_to, to_tell, consumed_end, consume_step, told_to, woken_of, pass_end_by, more}
+use Rattle.model.specs.Steps.{job_step, look_step, claim_step, revert_step, tell_step, wake_step, free_step}
+use Rattle.model.specs.Steps.{signal_step, pass_end_step, backoff_step}
 use Rattle.model.specs.Sound.{to_wake}
 use Rattle.model.proofs.Tests.{tests}
 use Rattle.model.proofs.Lists.{is_in-nth, nth-is_in, snoc-all}
@@ -62,7 +62,7 @@ module _ {t : Table} {b : Board} {d : Sender} (f : SenderFacts t b d) where
   notes-match m l = search
 
   module _ (some : 1 ≤ d.own) (h : ℕ) where
-    job-ends : Becomes t b d (job-end t b.messages d h)
+    job-ends : Becomes t b d (job_end t b.messages d h)
     job-ends =
         job-end-by t b.messages d h (Becomes t b d) (λ s. goes-idle 0 (omega arith))
         (λ s m e. goes-idle (suc m) (omega (arith, e, f.matched-in))) (λ s e. in-state blocked d.signalled some)
@@ -93,7 +93,7 @@ module _ {t : Table} {b : Board} {d : Sender} {w : Job} {p : Phase} (a : Working
   next-chord retry =
       to-job _ (passes w.subject a.job.subject_in a.job.subject_is (suc w.chord) w.retries retry)
 
-  ends : Becomes t b d (job-end t b.messages d w.subject)
+  ends : Becomes t b d (job_end t b.messages d w.subject)
   ends = job-ends a.facts a.some w.subject
 
   -- the message chosen for a member
@@ -121,7 +121,7 @@ module _ (t : Table) (b : Board) (i : ℕ) (w : Job) where
       owes tt (goes_on a _ refl
       (snoc-all (λ j x. x < length b.messages) w.chosen n 0 a.job.chosen_in
       (on_board (choice-some t b w k n e)))
-      (by _ (eqb (suc k) (size t w.chord)) refl))
+      (by w.phase (eqb (suc k) (size t w.chord)) refl))
     where
       on_board : Chosen t b w k n → n < length b.messages
       on_board (the_subject p z) = omega (arith, a.job.subject_in, z)
@@ -192,11 +192,11 @@ module _ (t : Table) (b : Board) (i : ℕ) (w : Job) where
           let q = a.job.place in
           to-phase a (tell 0) (q.0, subst⁻¹ (λ (c : List ℕ). 0 < length c) y (omega arith), q.4)
 
-  consumes-one : (k m : ℕ) → Working t b d w (consume k m) → StepFacts t b i (consume-step t b d w k m)
-  unfolding consume-step apply
+  consumes-one : (k m : ℕ) → Working t b d w (consume k m) → StepFacts t b i (consume_step t b d w k m)
+  unfolding consume_step apply
   consumes-one k m a =
       let q = a.job.place in
-      let g = wider-after b i (consume-step t b d w k m) in
+      let g = wider-after b i (consume_step t b d w k m) in
       let r = go (still-working g a) (eqb (suc (get_or w.chosen k 0)) d.own) in
       record { in-range = (at-member a q.0 k q.1, (q.2, q.3)); sender-ok = r.0; own_kept = r.1 }
     where
@@ -241,12 +241,12 @@ module _ (t : Table) (b : Board) (i : ℕ) (w : Job) where
       → Becomes t b d (in_job d (rests_then t b w.subject k rests))
   rested a k rests = to-job a _ (rests-so w.subject a.job.subject_in a.job.subject_is k rests)
 
-  pass-ended : Working t b d w pass-end → (u : Bool) → StepFacts t b i (pass_end_by t b d w u)
+  pass-ended : Working t b d w pass_end → (u : Bool) → StepFacts t b i (pass_end_by t b d w u)
   pass-ended a true = owes tt (rested a _ (backoff_at b.backoffs (more w.retries)))
   pass-ended a false = owes tt (ends a)
 
-  pub job-facts : (p : Phase) → Working t b d w p → StepFacts t b i (job-step t b d w p)
-  unfolding look-step claim-step revert-step tell-step wake-step free_step signal-step pass-end-step backoff-step
+  pub job-facts : (p : Phase) → Working t b d w p → StepFacts t b i (job_step t b d w p)
+  unfolding look_step claim_step revert_step tell_step wake_step free_step signal_step pass_end_step backoff_step
   job-facts (look k) a = looked k a (choice t b w k) refl
   job-facts (claim k) a =
       claimed-by k a (is_pending (message_at b (get_or w.chosen k 0)).status) (eqb (suc k) (size t w.chord))
@@ -261,5 +261,5 @@ module _ (t : Table) (b : Board) (i : ℕ) (w : Job) where
       let q = a.job.place in
       owes (at-member a q.0 _ (omega (arith, skip-le (first_sync t w.chord) k, q.2)), tt) (freed k a _ refl)
   job-facts signal a = let q = a.job.place in owes (woken-in a q.0 q.1) (ends a)
-  job-facts pass-end a = pass-ended a (w.retry && is_open (message_at b w.subject).status)
+  job-facts pass_end a = pass-ended a (w.retry && is_open (message_at b w.subject).status)
   job-facts (backoff rests) a = owes tt (rested a w.retries rests)

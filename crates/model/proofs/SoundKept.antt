@@ -14,7 +14,7 @@ use Rattle.model.specs.Boards.{Board, is_idle, sender_at, Sender, Status, pendin
 use Rattle.model.specs.Boards.{consumed, idle, State, message_at, working, Sent, Message, no_message, empty_board}
 use Rattle.model.specs.Boards.{backoffs_pass}
 use Rattle.model.specs.Effects.{Outcome, refused, does, Effect}
-use Rattle.model.specs.Steps.{resumed, resume_by, blocked_step, resume-step, state_step, sender_step, step_by}
+use Rattle.model.specs.Steps.{resumed, resume_by, blocked_step, resume_step, state_step, sender_step, step_by}
 use Rattle.model.specs.Shares.{has_room}
 use Rattle.model.specs.Adds.{cents_ok, added, new_message, new_sender, add_refusal}
 use Rattle.model.specs.Closes.{close_refusal, closed_to}
@@ -66,7 +66,7 @@ module _ (t : Table) (b : Board) (i : ℕ) (s : SoundBoard t b) where
     resumes-so consumed = owes tt (goes-idle f _ (s.message-at n l).match-in)
 
   by-signal : i < 32 → d.state ≡ blocked → (g : Bool) → OutcomeFacts t b i (blocked_step t b d g)
-  unfolding resume-step
+  unfolding resume_step
   by-signal l e true =
       let o : 1 ≤ d.own = subst (StateFacts t b d.own d.waker) e f.state_is in
       (l, ap is_idle e, resumes-so (d.own - 1) (omega arith) (message_at b (d.own - 1)).status)

@@ -6,9 +6,9 @@ use lib.Dec.{leb}
 use native.Mathlib.Omega.{arith}
 use Rattle.model.specs.Tables.{Table}
 use Rattle.model.specs.Boards.{Board, Job, Phase, sender_at, look, claim, revert, consume, tell, wake, free}
-use Rattle.model.specs.Boards.{signal, pass-end, backoff, blocked, State, idle, working}
+use Rattle.model.specs.Boards.{signal, pass_end, backoff, blocked, State, idle, working}
 use Rattle.model.specs.Effects.{Outcome, refused, does}
-use Rattle.model.specs.Steps.{job-step, blocked_step, state_step, sender_step, step_by}
+use Rattle.model.specs.Steps.{job_step, blocked_step, state_step, sender_step, step_by}
 use Rattle.model.proofs.Tests.{tests}
 use Rattle.model.proofs.Local.{StateOk, JobAt}
 use Rattle.model.proofs.Invariant.{StepOwes, Inv}
@@ -41,7 +41,7 @@ module _ (t : Table) (b : Board) (i : ℕ) (v : Inv t b) where
         job = subst (JobAt t b (sender_at b i).own (sender_at b i).waker w) ph q.1;
       }
 
-  by-phase : (w : Job) (p : Phase) → AtWork t b i w p → StepOwes t b i (job-step t b (sender_at b i) w p)
+  by-phase : (w : Job) (p : Phase) → AtWork t b i w p → StepOwes t b i (job_step t b (sender_at b i) w p)
   by-phase w (look k) c = look-owes c
   by-phase w (claim k) c = claim-owes c
   by-phase w (revert k m) c = revert-owes c
@@ -50,7 +50,7 @@ module _ (t : Table) (b : Board) (i : ℕ) (v : Inv t b) where
   by-phase w wake c = wake-owes c
   by-phase w (free k) c = free-owes c
   by-phase w signal c = signal-owes c
-  by-phase w pass-end c = pass-end-owes c
+  by-phase w pass_end c = pass-end-owes c
   by-phase w (backoff rests) c = backoff-owes c
 
   by-signal : (g : Bool) → i < 32 → (sender_at b i).state ≡ blocked → OutcomeOwes t b i (blocked_step t b (sender_at b i) g)

@@ -12,8 +12,8 @@ use Rattle.model.specs.Tables.{Table}
 use Rattle.model.specs.Boards.{Board, Job, tell, sender_at, State, Sender, signal, consumed, message_at, Phase}
 use Rattle.model.specs.Boards.{Message}
 use Rattle.model.specs.Effects.{Effect, Told, signals, apply, messages_after}
-use Rattle.model.specs.Jobs.{in_job, in_phase, job-end}
-use Rattle.model.specs.Steps.{to_tell, told_to, tell-step}
+use Rattle.model.specs.Jobs.{in_job, in_phase, job_end}
+use Rattle.model.specs.Steps.{to_tell, told_to, tell_step}
 use Rattle.model.specs.Holdings.{Holds}
 use Rattle.model.proofs.Tests.{never, same?, tests}
 use Rattle.model.proofs.Lists.{is_in-nth, nth-is_in}
@@ -107,7 +107,7 @@ module _ {t : Table} {b : Board} {i : ℕ} {w : Job} {k : ℕ} (c : AtWork t b i
             (subst⁻¹ (λ (is : List Message). (p : ℕ) × (suc k ≤ p) × (p < length (to_tell t is w.subject w.chosen))
             × (get_or (to_tell t is w.subject w.chosen) p 0 ≡ n)) unmoved (q, lo, hi, z))
 
-    ends : eqb (suc k) (length ns) ≡ true → x ≡ job-end t (apply b i s).messages (sender_at b i) w.subject
+    ends : eqb (suc k) (length ns) ≡ true → x ≡ job_end t (apply b i s).messages (sender_at b i) w.subject
         → StepOwes t b i s
     ends z e = record {
       lawful = tt;
@@ -130,7 +130,7 @@ module _ {t : Table} {b : Board} {i : ℕ} {w : Job} {k : ℕ} (c : AtWork t b i
       where
         local : SenderOk t (apply b i s) x
         local = sender-on t b (apply b i s) (grown c s tt) x
-            (subst⁻¹ (SenderOk t b) (e ∙ ap (λ (is : List Message). job-end t is (sender_at b i) w.subject) unmoved)
+            (subst⁻¹ (SenderOk t b) (e ∙ ap (λ (is : List Message). job_end t is (sender_at b i) w.subject) unmoved)
             (ends-ok t b (sender_at b i) w.subject (c.inv.locals i) c.own_some))
 
   told : (x : Sender) (last : Bool) → eqb (suc k) (length ns) ≡ last → (apply b i (tells x)).messages ≡ b.messages
@@ -138,6 +138,6 @@ module _ {t : Table} {b : Board} {i : ℕ} {w : Job} {k : ℕ} (c : AtWork t b i
   told x false z unmoved e = next x unmoved z e
   told x true z unmoved e = ends x unmoved z e
 
-  pub tell-owes : StepOwes t b i (tell-step t b (sender_at b i) w k)
-  unfolding tell-step apply messages_after
+  pub tell-owes : StepOwes t b i (tell_step t b (sender_at b i) w k)
+  unfolding tell_step apply messages_after
   tell-owes = told _ (eqb (suc k) (length ns)) refl refl refl

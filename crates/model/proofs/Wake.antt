@@ -12,7 +12,7 @@ use Rattle.model.specs.Tables.{Table, first_sync}
 use Rattle.model.specs.Boards.{Board, Job, Phase, wake, sender_at, free, signal, message_at, woken, State}
 use Rattle.model.specs.Effects.{wakes_by, Effect, Woke, turn, apply, Freed, frees, messages_after, signals}
 use Rattle.model.specs.Jobs.{in_job, in_phase}
-use Rattle.model.specs.Steps.{skip, woken_of, wake-step, free_step, signal-step}
+use Rattle.model.specs.Steps.{skip, woken_of, wake_step, free_step, signal_step}
 use Rattle.model.specs.Holdings.{HoldsAt, HeldPlace}
 use Rattle.model.proofs.Tests.{tests}
 use Rattle.model.proofs.Chords.{wakes-first, skipped, first-waits}
@@ -119,8 +119,8 @@ module _ {t : Table} {b : Board} {i : ℕ} {w : Job} (c : AtWork t b i w wake) w
       recorded = no-record t b s refl;
     }
 
-  pub wake-owes : StepOwes t b i (wake-step t b (sender_at b i) w)
-  unfolding wake-step woken_of
+  pub wake-owes : StepOwes t b i (wake_step t b (sender_at b i) w)
+  unfolding wake_step woken_of
   wake-owes = woke (leb 2 (length w.chosen)) refl
 
 -- `freed N`
@@ -221,8 +221,8 @@ module _ {t : Table} {b : Board} {i : ℕ} {w : Job} {k : ℕ} (c : AtWork t b i
 
 -- `signalled N`
 pub signal-owes : {t : Table} {b : Board} {i : ℕ} {w : Job} → AtWork t b i w signal
-    → StepOwes t b i (signal-step t b (sender_at b i) w)
-unfolding signal-step apply messages_after
+    → StepOwes t b i (signal_step t b (sender_at b i) w)
+unfolding signal_step apply messages_after
 signal-owes {t} {b} {i} {w} c =
     job-ends c _ tt refl refl refl refl refl (λ j x. x)
     (λ n x. ap signals (subst (λ (z : State). WillSignal t z n) c.state x).1)

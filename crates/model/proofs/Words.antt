@@ -7,14 +7,14 @@ use lib.Dec.{eqb, leb}
 use lib.ListN.{get_or, length}
 use Rattle.model.specs.Tables.{Table, wakes, size}
 use Rattle.model.specs.Boards.{signal, Board, Sender, Job, look, claimed, claim, pending, wake, Phase, revert}
-use Rattle.model.specs.Boards.{consume, tell, free, pass-end, backoff, is_pending, message_at, channel_of, is_open}
+use Rattle.model.specs.Boards.{consume, tell, free, pass_end, backoff, is_pending, message_at, channel_of, is_open}
 use Rattle.model.specs.Boards.{Status, woken, consumed, blocked, sender_at, State, idle, working}
 use Rattle.model.specs.Effects.{Change, none, turn, records, signals, Effect, word_of, refused, Outcome, does}
 use Rattle.model.specs.Effects.{Answered, Said, value_of}
 use Rattle.model.specs.Looks.{choice}
-use Rattle.model.specs.Steps.{looked_by, claimed_by, pass_end_by, job-step, look-step, claim-step, revert-step}
-use Rattle.model.specs.Steps.{consume-step, tell-step, wake-step, free_step, signal-step, pass-end-step}
-use Rattle.model.specs.Steps.{backoff-step, resume_by, step_by, resume-step, blocked_step, state_step, sender_step}
+use Rattle.model.specs.Steps.{looked_by, claimed_by, pass_end_by, job_step, look_step, claim_step, revert_step}
+use Rattle.model.specs.Steps.{consume_step, tell_step, wake_step, free_step, signal_step, pass_end_step}
+use Rattle.model.specs.Steps.{backoff_step, resume_by, step_by, resume_step, blocked_step, state_step, sender_step}
 use Rattle.model.specs.Pools.{step_answer}
 use Rattle.model.proofs.Tests.{never}
 
@@ -57,9 +57,9 @@ module _ (t : Table) (b : Board) (d : Sender) (w : Job) where
   ended-speaks true = plain refl refl refl
   ended-speaks false = plain refl refl refl
 
-  job-speaks : (p : Phase) → SpeaksAtWork (job-step t b d w p)
-  unfolding look-step claim-step revert-step consume-step tell-step wake-step free_step signal-step
-      pass-end-step backoff-step
+  job-speaks : (p : Phase) → SpeaksAtWork (job_step t b d w p)
+  unfolding look_step claim_step revert_step consume_step tell_step wake_step free_step signal_step
+      pass_end_step backoff_step
   job-speaks (look k) = looked-speaks k (choice t b w k)
   job-speaks (claim k) = claimed-speaks k _ (is_pending (message_at b (get_or w.chosen k 0)).status)
       (eqb (suc k) (size t w.chord)) (wakes t w.chord (channel_of b w.subject)) (leb 1024 (length b.matches))
@@ -69,7 +69,7 @@ module _ (t : Table) (b : Board) (d : Sender) (w : Job) where
   job-speaks wake = plain refl refl refl
   job-speaks (free k) = plain refl refl refl
   job-speaks signal = plain refl refl refl
-  job-speaks pass-end = ended-speaks (w.retry && is_open (message_at b w.subject).status)
+  job-speaks pass_end = ended-speaks (w.retry && is_open (message_at b w.subject).status)
   job-speaks (backoff rests) = plain refl refl refl
 
 resume-speaks : (t : Table) (b : Board) (d : Sender) (n : ℕ) (x : Status) → Speaks (resume_by t b d n x)
@@ -83,7 +83,7 @@ OutcomeSpeaks (refused f) = Unit {0}
 OutcomeSpeaks (does e) = Speaks e
 
 pub step-speaks : (t : Table) (b : Board) (i : ℕ) → OutcomeSpeaks (step_by t b i)
-unfolding step_by resume-step
+unfolding step_by resume_step
 step-speaks t b i = at (leb 32 i)
   where
     by-signal : (g : Bool) → OutcomeSpeaks (blocked_step t b (sender_at b i) g)
@@ -107,7 +107,7 @@ pub record AnswersOwn (b : Board) (i k : ℕ) : Type 0 where
 
 pub answered-said : (t : Table) (b : Board) (i k : ℕ) → (step_answer b i (step_by t b i)).said ≡ Answered k
     → AnswersOwn b i k
-unfolding step_by resume-step
+unfolding step_by resume_step
 answered-said t b i k = at (leb 32 i)
   where
     not-15 : {a : Said} → eqb (word_of a) 15 ≡ false → a ≡ Answered k → ⊥

@@ -29,7 +29,7 @@ pub record Match : Type 0 where
   pub messages : List ℕ
 
 -- rule 1.8: where a job is. The first number of a phase is its place: the member that the next step is about, or for
--- backoff the rests after that one. revert has the number of claims made beside it, consume the match plus 1. pass-end:
+-- backoff the rests after that one. revert has the number of claims made beside it, consume the match plus 1. pass_end:
 -- there is no further chord (rule 4.9).
 pub data Phase : Type 0 where
   look : ℕ → Phase
@@ -40,7 +40,7 @@ pub data Phase : Type 0 where
   wake : Phase
   free : ℕ → Phase
   signal : Phase
-  pass-end : Phase
+  pass_end : Phase
   backoff : ℕ → Phase
 
 -- rule 1.8: a sender's work on its subject. chosen: in the order of the members; retry: the retry mark; retries: how

@@ -1,7 +1,7 @@
 -- The claimed messages that a sender holds, read off its state (rule 9.1).
 use Rattle.std.specs.Prelude.{◌≡◌, ◌≢◌, List, ℕ, ◌<◌, ◌≤◌, length, get_or}
 use Rattle.model.specs.Tables.{Table, first_sync}
-use Rattle.model.specs.Boards.{Phase, look, claim, revert, consume, tell, wake, free, signal, pass-end, backoff}
+use Rattle.model.specs.Boards.{Phase, look, claim, revert, consume, tell, wake, free, signal, pass_end, backoff}
 use Rattle.model.specs.Boards.{State, idle, working, blocked}
 use Rattle.model.specs.Steps.{skip}
 
@@ -18,7 +18,7 @@ HeldPlace t r (tell k) c j = ⊥
 HeldPlace t r wake c j = j < c
 HeldPlace t r (free k) c j = (j ≢ first_sync t r) × (skip (first_sync t r) k ≤ j) × (j < c)
 HeldPlace t r signal c j = ⊥
-HeldPlace t r pass-end c j = ⊥
+HeldPlace t r pass_end c j = ⊥
 HeldPlace t r (backoff rests) c j = ⊥
 
 -- rule 9.1: a job at chord r with these chosen holds message n

@@ -1,7 +1,7 @@
 -- A job: its passes over the chords (rule 4.1), and its end (rules 5.1 to 5.4).
 use Rattle.std.specs.Prelude.{Bool, true, false, not, ◌&&◌, List, [], ℕ, ◌-◌, suc, zero, ltb, eqb, length, get_or}
 use Rattle.model.specs.Tables.{Table, naming, is_sync}
-use Rattle.model.specs.Boards.{State, Sender, Job, working, Phase, look, pass-end, Board, channel_of, Message}
+use Rattle.model.specs.Boards.{State, Sender, Job, working, Phase, look, pass_end, Board, channel_of, Message}
 use Rattle.model.specs.Boards.{no_message, idle, blocked, is_consumed}
 
 -- records anew with one field, or two, altered
@@ -48,7 +48,7 @@ at_no_chord h p retry k = record { subject = h; chord = 0; phase = p; chosen = [
 -- rule 4.1: at chord r, or at the end of the pass where there is none
 abbrev pub start_at : Bool → ℕ → ℕ → Bool → ℕ → Job
 start_at true h r retry k = record { subject = h; chord = r; phase = look 0; chosen = []; retry = retry; retries = k }
-start_at false h r retry k = at_no_chord h pass-end retry k
+start_at false h r retry k = at_no_chord h pass_end retry k
 
 -- rule 4.1: a pass from a chord on, for subject h
 unfoldable pub pass_from : Table → ℕ → ℕ → ℕ → Bool → ℕ → Job
@@ -97,5 +97,5 @@ ends_by t is d h false = goes_idle d 0
 ends_by t is d h true = sync_end t is d h d.waker
 
 -- rules 5.1 to 5.4, for a job about subject h
-unfoldable pub job-end : Table → List Message → Sender → ℕ → Sender
-job-end t is d h = ends_by t is d h (is_sync t (get_or is (d.own - 1) no_message).sent.channel)
+unfoldable pub job_end : Table → List Message → Sender → ℕ → Sender
+job_end t is d h = ends_by t is d h (is_sync t (get_or is (d.own - 1) no_message).sent.channel)

@@ -6,7 +6,7 @@ use Rattle.model.specs.Boards.{Board, Sent, Sender, Job, sender_at, is_idle, bac
 use Rattle.model.specs.Boards.{is_open, message_at}
 use Rattle.model.specs.Effects.{Again, none}
 use Rattle.model.specs.Jobs.{in_job}
-use Rattle.model.specs.Steps.{more, pass-end-step, rests_then}
+use Rattle.model.specs.Steps.{more, pass_end_step, rests_then}
 use Rattle.model.specs.Shares.{tally, common_used}
 use Rattle.model.specs.Adds.{add_refusal}
 
@@ -57,7 +57,7 @@ pub record BackoffsInOrder : Type 0 where
   pub rests : (t : Table) (b : Board) (d : Sender) (w : Job) (k : ℕ)
       → w.retries ≡ times k
       → (w.retry && is_open (message_at b w.subject).status) ≡ true
-      → pass-end-step t b d w
+      → pass_end_step t b d w
       ≡ record {
         said = Again;
         change = none;

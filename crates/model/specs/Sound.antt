@@ -3,7 +3,7 @@ use Rattle.std.specs.Prelude.{not, Bool, true, ◌&&◌, ◌||◌, ◌∷◌, []
 use Rattle.model.specs.Basics.{all_of, every, is_in}
 use Rattle.model.specs.Tables.{Table, chord_at, wakes, size}
 use Rattle.model.specs.Boards.{Message, Status, pending, claimed, claim, woken, wake, consume, consumed, Board}
-use Rattle.model.specs.Boards.{Match, Job, channel_of, Phase, look, revert, tell, free, signal, pass-end}
+use Rattle.model.specs.Boards.{Match, Job, channel_of, Phase, look, revert, tell, free, signal, pass_end}
 use Rattle.model.specs.Boards.{backoff, Sender, State, idle, working, blocked, is_idle, backoffs_pass}
 use Rattle.model.specs.Steps.{to_tell}
 use Rattle.model.specs.Shares.{shares_ok}
@@ -69,7 +69,7 @@ place_ok t b w (free k) =
     to_wake t b w ∷
     ltb (suc k) (size t w.chord) ∷ [])
 place_ok t b w signal = at_chord t b w (size t w.chord) && to_wake t b w
-place_ok t b w pass-end = eqb (length w.chosen) 0
+place_ok t b w pass_end = eqb (length w.chosen) 0
 place_ok t b w (backoff rests) = eqb (length w.chosen) 0
 
 -- rules 3.5 and 3.6

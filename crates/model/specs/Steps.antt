@@ -5,13 +5,13 @@ use Rattle.model.specs.Basics.{pick}
 use Rattle.model.specs.Tables.{Table, size, wakes, is_sync, first_sync}
 use Rattle.model.specs.Boards.{look, Board, Sender, Job, claim, Phase, revert, consume, claimed, wake}
 use Rattle.model.specs.Boards.{is_pending, message_at, channel_of, free, signal, Message, no_message, consumed}
-use Rattle.model.specs.Boards.{tell, woken, backoff, backoff_at, pass-end, is_open, working, State, blocked}
+use Rattle.model.specs.Boards.{tell, woken, backoff, backoff_at, pass_end, is_open, working, State, blocked}
 use Rattle.model.specs.Boards.{Status, pending, idle, sender_at}
 use Rattle.model.specs.Effects.{Effect, Missed, none, Looked, Lost, claims, Claimed, turn, Matched, records}
 use Rattle.model.specs.Effects.{Reverted, frees, messages_after, consumes, Consumed, Told, signals, Woke}
 use Rattle.model.specs.Effects.{wakes_by, Freed, Signalled, Again, Ended, Rested, Resumed, resumes, Answered}
 use Rattle.model.specs.Effects.{Outcome, does, refused}
-use Rattle.model.specs.Jobs.{in_job, next_chord, with_chosen, in_phase, with_retry, job-end, new_pass, at_no_chord}
+use Rattle.model.specs.Jobs.{in_job, next_chord, with_chosen, in_phase, with_retry, job_end, new_pass, at_no_chord}
 use Rattle.model.specs.Jobs.{in_state, goes_idle}
 use Rattle.model.specs.Looks.{missed_retry, choice}
 
@@ -30,8 +30,8 @@ looked_by t b d w k (suc n) = record {
 }
 
 -- rules 4.2 and 4.3
-unfoldable pub look-step : Table → Board → Sender → Job → ℕ → Effect
-look-step t b d w k = looked_by t b d w k (choice t b w k)
+unfoldable pub look_step : Table → Board → Sender → Job → ℕ → Effect
+look_step t b d w k = looked_by t b d w k (choice t b w k)
 
 -- Claim
 
@@ -65,8 +65,8 @@ claimed_by t b d w k n true true false true = loses t b d w k n
 claimed_by t b d w k n true true false false = fires b d w n
 
 -- rules 4.4 to 4.7
-unfoldable pub claim-step : Table → Board → Sender → Job → ℕ → Effect
-claim-step t b d w k =
+unfoldable pub claim_step : Table → Board → Sender → Job → ℕ → Effect
+claim_step t b d w k =
     let n = get_or w.chosen k 0 in
     claimed_by t b d w k n (is_pending (message_at b n).status) (eqb (suc k) (size t w.chord))
     (wakes t w.chord (channel_of b w.subject)) (leb 1024 (length b.matches))
@@ -77,8 +77,8 @@ reverted_to t b w k m true = next_chord t b w w.retry
 reverted_to t b w k m false = in_phase w (revert (suc k) m)
 
 -- rule 4.5
-unfoldable pub revert-step : Table → Board → Sender → Job → ℕ → ℕ → Effect
-revert-step t b d w k m =
+unfoldable pub revert_step : Table → Board → Sender → Job → ℕ → ℕ → Effect
+revert_step t b d w k m =
     let n = get_or w.chosen k 0 in
     record { said = Reverted n; change = turn n frees; sender = in_job d (reverted_to t b w k m (eqb (suc k) m)) }
 
@@ -107,7 +107,7 @@ to_tell t is h (n ∷ ns) = keep_if (is_sync t (get_or is n no_message).sent.cha
 
 -- rule 4.6: some are to be told, or the job ends
 abbrev pub consumed_end : Table → List Message → Sender → Job → List ℕ → Sender
-consumed_end t is e w [] = job-end t is e w.subject
+consumed_end t is e w [] = job_end t is e w.subject
 consumed_end t is e w (x ∷ xs) = in_job e (in_phase w (tell 0))
 
 abbrev pub consumed_to : Table → List Message → Sender → Job → ℕ → ℕ → Bool → Sender
@@ -115,8 +115,8 @@ consumed_to t is e w k m false = in_job e (in_phase w (consume (suc k) m))
 consumed_to t is e w k m true = consumed_end t is e w (to_tell t is w.subject w.chosen)
 
 -- rule 4.6
-unfoldable pub consume-step : Table → Board → Sender → Job → ℕ → ℕ → Effect
-consume-step t b d w k m =
+unfoldable pub consume_step : Table → Board → Sender → Job → ℕ → ℕ → Effect
+consume_step t b d w k m =
     let n = get_or w.chosen k 0 in
     let is = messages_after (turn n (consumes m)) b.messages in
     let e = with_matched (eqb (suc n) d.own) d m in
@@ -128,11 +128,11 @@ consume-step t b d w k m =
 
 abbrev pub told_to : Table → List Message → Sender → Job → ℕ → Bool → Sender
 told_to t is d w k false = in_job d (in_phase w (tell (suc k)))
-told_to t is d w k true = job-end t is d w.subject
+told_to t is d w k true = job_end t is d w.subject
 
 -- rule 4.6
-unfoldable pub tell-step : Table → Board → Sender → Job → ℕ → Effect
-tell-step t b d w k =
+unfoldable pub tell_step : Table → Board → Sender → Job → ℕ → Effect
+tell_step t b d w k =
     let ns = to_tell t b.messages w.subject w.chosen in
     let n = get_or ns k 0 in
     record { said = Told n; change = signals n; sender = told_to t b.messages d w k (eqb (suc k) (length ns)) }
@@ -144,8 +144,8 @@ unfoldable pub woken_of : Table → Job → ℕ
 woken_of t w = get_or w.chosen (first_sync t w.chord) 0
 
 -- rule 4.7
-unfoldable pub wake-step : Table → Board → Sender → Job → Effect
-wake-step t b d w = record {
+unfoldable pub wake_step : Table → Board → Sender → Job → Effect
+wake_step t b d w = record {
   said = Woke (woken_of t w);
   change = turn (woken_of t w) (wakes_by w.subject);
   sender = in_job d (in_phase w (pick (leb 2 (length w.chosen)) (free 0) signal));
@@ -163,11 +163,11 @@ free_step t b d w k =
     record { said = Freed n; change = turn n frees; sender = in_job d (in_phase w p) }
 
 -- rule 4.7
-unfoldable pub signal-step : Table → Board → Sender → Job → Effect
-signal-step t b d w = record {
+unfoldable pub signal_step : Table → Board → Sender → Job → Effect
+signal_step t b d w = record {
   said = Signalled (woken_of t w);
   change = signals (woken_of t w);
-  sender = job-end t b.messages d w.subject;
+  sender = job_end t b.messages d w.subject;
 }
 
 -- The end of a pass
@@ -186,29 +186,29 @@ abbrev pub pass_end_by : Table → Board → Sender → Job → Bool → Effect
 pass_end_by t b d w true =
     let k = more w.retries in
     record { said = Again; change = none; sender = in_job d (rests_then t b w.subject k (backoff_at b.backoffs k)) }
-pass_end_by t b d w false = record { said = Ended; change = none; sender = job-end t b.messages d w.subject }
+pass_end_by t b d w false = record { said = Ended; change = none; sender = job_end t b.messages d w.subject }
 
 -- rule 4.9
-unfoldable pub pass-end-step : Table → Board → Sender → Job → Effect
-pass-end-step t b d w = pass_end_by t b d w (w.retry && is_open (message_at b w.subject).status)
+unfoldable pub pass_end_step : Table → Board → Sender → Job → Effect
+pass_end_step t b d w = pass_end_by t b d w (w.retry && is_open (message_at b w.subject).status)
 
 -- rule 4.10
-unfoldable pub backoff-step : Table → Board → Sender → Job → ℕ → Effect
-backoff-step t b d w rests =
+unfoldable pub backoff_step : Table → Board → Sender → Job → ℕ → Effect
+backoff_step t b d w rests =
     record { said = Rested; change = none; sender = in_job d (rests_then t b w.subject w.retries rests) }
 
 -- rules 4.2 to 4.10, by the phase
-abbrev pub job-step : Table → Board → Sender → Job → Phase → Effect
-job-step t b d w (look k) = look-step t b d w k
-job-step t b d w (claim k) = claim-step t b d w k
-job-step t b d w (revert k m) = revert-step t b d w k m
-job-step t b d w (consume k m) = consume-step t b d w k m
-job-step t b d w (tell k) = tell-step t b d w k
-job-step t b d w wake = wake-step t b d w
-job-step t b d w (free k) = free_step t b d w k
-job-step t b d w signal = signal-step t b d w
-job-step t b d w pass-end = pass-end-step t b d w
-job-step t b d w (backoff rests) = backoff-step t b d w rests
+abbrev pub job_step : Table → Board → Sender → Job → Phase → Effect
+job_step t b d w (look k) = look_step t b d w k
+job_step t b d w (claim k) = claim_step t b d w k
+job_step t b d w (revert k m) = revert_step t b d w k m
+job_step t b d w (consume k m) = consume_step t b d w k m
+job_step t b d w (tell k) = tell_step t b d w k
+job_step t b d w wake = wake_step t b d w
+job_step t b d w (free k) = free_step t b d w k
+job_step t b d w signal = signal_step t b d w
+job_step t b d w pass_end = pass_end_step t b d w
+job_step t b d w (backoff rests) = backoff_step t b d w rests
 
 -- A blocked sender with a signal
 
@@ -236,20 +236,20 @@ resume_by t b d n consumed =
     record { said = Answered ((message_at b n).match - 1); change = none; sender = goes_idle d (message_at b n).match }
 
 -- rule 5.5
-unfoldable pub resume-step : Table → Board → Sender → Effect
-resume-step t b d = resume_by t b d (d.own - 1) (message_at b (d.own - 1)).status
+unfoldable pub resume_step : Table → Board → Sender → Effect
+resume_step t b d = resume_by t b d (d.own - 1) (message_at b (d.own - 1)).status
 
 -- A step of sender i
 
 -- rules 5.5 and 5.6: with a signal, or refusal 13
 abbrev pub blocked_step : Table → Board → Sender → Bool → Outcome
-blocked_step t b d true = does (resume-step t b d)
+blocked_step t b d true = does (resume_step t b d)
 blocked_step t b d false = refused 13
 
 -- rule 5.6: refusal 13 for an idle sender
 abbrev pub state_step : Table → Board → Sender → State → Outcome
 state_step t b d idle = refused 13
-state_step t b d (working w) = does (job-step t b d w w.phase)
+state_step t b d (working w) = does (job_step t b d w w.phase)
 state_step t b d blocked = blocked_step t b d d.signalled
 
 -- rule 6.5: refusal 8

@@ -1,4 +1,6 @@
 // What a call does: refused by itself, or a move, computed from its sender and the lists.
+#![tactic(auto)]
+
 ghost use Rattle.std.specs.Prelude.{◌≡◌, true, List, ℕ, ◌<◌, length, get_or};
 ghost use Rattle.model.specs.Tables.{Table};
 ghost use Rattle.model.specs.Layout.{table_refusal, table_of};

@@ -1,4 +1,6 @@
 // One call, and a list of calls, in place on lists that the first tests accept.
+#![tactic(auto)]
+
 ghost use Rattle.std.specs.Prelude.{◌≡◌, true, List, ℕ, ◌+◌, ◌*◌, ◌<◌, ◌≤◌, eqb, ℤ, length, get_or};
 ghost use Rattle.model.specs.Basics.{pick};
 ghost use Rattle.model.specs.Pools.{closes};

@@ -1,5 +1,7 @@
 // The program's turns: what it has read is served, then the report is printed in parts, each turn into a lent buffer. A
 // program opens a board, begins, and while it is not done reads, has its stage advanced and writes.
+#![tactic(auto)]
+
 ghost use Rattle.std.specs.Prelude.{◌≡◌, true, false, List, [], ℕ, ◌*◌, ◌<◌, ◌≤◌, length};
 ghost use Rattle.boards.specs.Layout.{board_len, lists};
 ghost use Rattle.reports.specs.Parts.{line_count};

@@ -1,4 +1,6 @@
 // The program's printing, into a lent buffer at a place; each function answers the place after what it wrote.
+#![tactic(auto)]
+
 ghost use Rattle.std.specs.Prelude.{◌≡◌, ◌∷◌, [], ◌++◌, ◌+◌, ◌*◌, ◌<◌, ◌≤◌, nat_abs, length};
 ghost use Rattle.model.specs.Printing.{decimal, signed, spaced, spaced_all, feed, answer_line, match_line};
 ghost use Rattle.model.specs.Printing.{word_at, number_beside};

@@ -1,4 +1,6 @@
 // What the reads answer of a board that was judged before: a message, a match, and whether the board is quiet.
+#![tactic(auto)]
+
 ghost use Rattle.std.specs.Prelude.{◌≡◌, not, map, ℕ, ◌+◌, ◌<◌, ◌≤◌, pos, length, get_or, drop, replicate};
 ghost use Rattle.std.proofs.Math.Seq.{paste};
 ghost use Rattle.model.specs.Basics.{every};

@@ -1,4 +1,6 @@
 // A claim on a lent list of message records.
+#![tactic(auto)]
+
 ghost use Rattle.std.specs.Prelude.{◌≡◌};
 ghost use Rattle.records.specs.Claims.{claimable, claimed_at};
 

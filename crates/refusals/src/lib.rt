@@ -1,4 +1,6 @@
 // What every board call tests first, on any lists: the table, the lists' lengths, and the board.
+#![tactic(auto)]
+
 ghost use Rattle.std.specs.Prelude.{◌≡◌, true, ◌&&◌, List, map, ℕ, ◌+◌, ◌≤◌, length, get_or, drop};
 ghost use Rattle.model.specs.Boards as MB;
 ghost use Rattle.model.specs.Layout.{table_refusal, table_of};

@@ -1,5 +1,7 @@
 // The report at the end of the program's run, into a lent buffer that may be too small for all of it: in parts, each
 // from the start of the buffer.
+#![tactic(auto)]
+
 ghost use Rattle.std.specs.Prelude.{◌≡◌, [], ℕ, ◌+◌, ◌<◌, ◌≤◌, pos, length, get_or, take};
 ghost use Rattle.model.specs.Boards as MB;
 ghost use Rattle.model.specs.Pools.{read_match};

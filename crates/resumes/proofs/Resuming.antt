@@ -5,7 +5,7 @@ use Prim.Native.Nat.{ℕ, zero, suc, ◌-◌, ◌<◌, ◌≤◌}
 use native.Mathlib.Omega.{arith}
 use Rattle.model.specs.Tables.{Table}
 use Rattle.model.specs.Boards.{Board, Sender, consumed, message_at}
-use Rattle.model.specs.Steps.{resumed, stays_blocked, resume_by, resume-step}
+use Rattle.model.specs.Steps.{resumed, stays_blocked, resume_by, resume_step}
 use Rattle.columns.specs.Columns.{status_of}
 use Rattle.state.specs.declared.Said.TheVariants as W
 use Rattle.state.specs.declared.Turn.TheVariants as U
@@ -29,19 +29,19 @@ module _ (t : Table) (b : Board) (d : Sender) (n : ℕ) where
 module _ (t : Table) (b : Board) (d : DD.Sender) (s : ℕ)
     (es : (message_at b (d.own - 1)).status ≡ status_of s) where
   pub stays-is : s < 2 → effect_in t (record { said = W.Ended; change = G.None; sender = B.sender_blocked d false })
-      ≡ resume-step t b (sender_in t d)
-  unfolding resume-step
+      ≡ resume_step t b (sender_in t d)
+  unfolding resume_step
   stays-is h = rw (es, low t b (sender_in t d) (d.own - 1) s h)
 
   pub resumes-is : (n : ℕ) (next : DD.Sender) → s ≡ 2 → n ≡ d.own - 1
       → sender_in t next ≡ resumed t b (sender_in t d) n
       → effect_in t (record { said = W.Resumed; change = G.Turn n U.Resumes; sender = next })
-      ≡ resume-step t b (sender_in t d)
-  unfolding resume-step
+      ≡ resume_step t b (sender_in t d)
+  unfolding resume_step
   resumes-is n next h e q = rw (q, e, es, h)
 
   pub answers-is : (k m : ℕ) → 3 ≤ s → k ≡ m - 1 → (message_at b (d.own - 1)).match ≡ m
       → effect_in t (record { said = W.Answered k; change = G.None; sender = B.sender_idle d m })
-      ≡ resume-step t b (sender_in t d)
-  unfolding resume-step
+      ≡ resume_step t b (sender_in t d)
+  unfolding resume_step
   answers-is k m h e q = rw (es, high t b (sender_in t d) (d.own - 1) s h, e, q)

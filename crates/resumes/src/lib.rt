@@ -1,4 +1,6 @@
 // The step of a blocked sender that is signalled, by what was read of its own message.
+#![tactic(auto)]
+
 ghost use Rattle.std.specs.Prelude.{◌≡◌, ◌-◌};
 ghost use Rattle.model.specs.Boards.{Board, message_at, channel_of};
 ghost use Rattle.model.specs.Layout.{table_refusal, table_of};

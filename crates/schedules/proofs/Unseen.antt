@@ -6,7 +6,7 @@ use Prim.Native.Nat.{ℕ, zero, suc, ◌+◌, ◌<◌, ◌≤◌}
 use native.Mathlib.Omega.{arith}
 use lib.ListN.{length, get_or, take, drop, take-append-drop}
 use Rattle.model.specs.Tables.{Table}
-use Rattle.model.specs.Boards.{Phase, look, claim, revert, consume, tell, wake, free, signal, pass-end, backoff}
+use Rattle.model.specs.Boards.{Phase, look, claim, revert, consume, tell, wake, free, signal, pass_end, backoff}
 use Rattle.model.specs.Boards.{Job, State, idle, working, blocked, Sender}
 use Rattle.model.proofs.Grows.{code}
 use Rattle.columns.specs.Columns.{status_of}
@@ -54,7 +54,7 @@ phase_back (tell k) = P.Tell k
 phase_back wake = P.Wake
 phase_back (free k) = P.Free k
 phase_back signal = P.Signal
-phase_back pass-end = P.PassEnd
+phase_back pass_end = P.PassEnd
 phase_back (backoff k) = P.Backoff k
 
 phase-back : (p : DP.Phase) → phase_back (phase_in p) ≡ p

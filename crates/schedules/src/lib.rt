@@ -1,1 +1,2 @@
 // No code: what a list of public calls comes to.
+#![tactic(auto)]

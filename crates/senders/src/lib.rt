@@ -1,4 +1,6 @@
 // The part of the soundness test that is about senders, on any numbers that they may hold.
+#![tactic(auto)]
+
 ghost use Rattle.std.specs.Prelude.{◌≡◌, true, ◌&&◌, not, ℕ, ◌+◌, ◌<◌, ◌≤◌, ltb, length, take, drop};
 ghost use Rattle.model.specs.Tables as MT;
 ghost use Rattle.model.specs.Boards as MB;

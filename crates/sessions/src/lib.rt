@@ -1,5 +1,7 @@
 // What the program does with the bytes of its input: lines are cut at line feeds, read, played and answered. The
 // messages below `start` are consumed, so that no look reads them.
+#![tactic(auto)]
+
 ghost use Rattle.std.specs.Prelude.{◌≡◌, ◌++◌, ◌+◌, ◌*◌, ◌≤◌, length, get_or, take};
 ghost use Rattle.columns.specs.Columns.{Passed};
 ghost use Rattle.boards.specs.Layout.{lists, statuses_in};

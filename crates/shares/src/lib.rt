@@ -1,5 +1,7 @@
 // Fair shares of the board, by how many messages each sender has added: whether a sender has room, and whether the
 // shares are kept.
+#![tactic(auto)]
+
 ghost use Rattle.std.specs.Prelude.{◌≡◌, ◌-◌, ◌<◌, length};
 ghost use Rattle.model.specs.Shares.{common_used, has_room, shares_ok};
 

@@ -1,4 +1,6 @@
 // The parts of the soundness test that are about lent columns: messages and matches, on any bytes.
+#![tactic(auto)]
+
 ghost use Rattle.std.specs.Prelude.{◌≡◌, true, ◌&&◌, List, ℕ, ◌+◌, ◌*◌, ◌<◌, ◌≤◌, length, drop};
 ghost use Rattle.model.specs.Basics.{every};
 ghost use Rattle.model.specs.Tables.{size};

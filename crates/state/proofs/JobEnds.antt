@@ -8,7 +8,7 @@ use lib.Dec.{eqb}
 use lib.ListN.{get_or}
 use Rattle.model.specs.Tables.{Table, is_sync}
 use Rattle.model.specs.Boards.{Message, no_message, Sender, blocked, is_consumed}
-use Rattle.model.specs.Jobs.{in_state, goes_idle, matched_end, waker_end, sync_end, ends_by, job-end}
+use Rattle.model.specs.Jobs.{in_state, goes_idle, matched_end, waker_end, sync_end, ends_by, job_end}
 
 pub matched-none : (d : Sender) (m : ℕ) → m ≡ 0 → in_state d blocked d.signalled ≡ matched_end d m
 matched-none d m e = rw e
@@ -30,6 +30,6 @@ module _ (t : Table) (is : List Message) (d : Sender) (h : ℕ) where
       rw (← q, ← e, p)
 
   pub end_by : (b : Bool) → is_sync t (get_or is (d.own - 1) no_message).sent.channel ≡ b
-      → ends_by t is d h b ≡ job-end t is d h
-  unfolding job-end
+      → ends_by t is d h b ≡ job_end t is d h
+  unfolding job_end
   end_by b e = rw e

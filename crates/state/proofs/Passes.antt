@@ -8,7 +8,7 @@ use lib.Dec.{ltb}
 use lib.ListN.{length}
 use Rattle.model.specs.Basics.{pick}
 use Rattle.model.specs.Tables.{Table, naming}
-use Rattle.model.specs.Boards.{Board, pass-end, backoff}
+use Rattle.model.specs.Boards.{Board, pass_end, backoff}
 use Rattle.model.specs.Jobs.{start_at, at_no_chord, pass_from, new_pass}
 use Rattle.model.specs.Steps.{rests_then}
 use Rattle.chords.specs.Naming.{next_naming}
@@ -19,7 +19,7 @@ module _ (h : ℕ) (retry : Bool) (k x n r : ℕ) where
   start-yes false e l = absurd (omega arith)
 
   start-no : (b : Bool) → ltb x n ≡ b → r ≡ pick b x n → n ≤ r
-      → at_no_chord h pass-end retry k ≡ start_at b h x retry k
+      → at_no_chord h pass_end retry k ≡ start_at b h x retry k
   start-no true q e l = let less = ltb-true x n q in absurd (omega arith)
   start-no false q e l = refl
 
@@ -31,7 +31,7 @@ module _ (t : Table) (h channel from : ℕ) (retry : Bool) (k r : ℕ) (e : r �
       let n = length t.chords in
       start-yes h retry k x n r (ltb x n) e l
 
-  pub pass-no : length t.chords ≤ r → at_no_chord h pass-end retry k ≡ pass_from t h channel from retry k
+  pub pass-no : length t.chords ≤ r → at_no_chord h pass_end retry k ≡ pass_from t h channel from retry k
   unfolding pass_from next_naming
   pass-no l =
       let x = naming t channel from in

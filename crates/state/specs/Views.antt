@@ -15,7 +15,7 @@ use Rattle.state.specs.declared.Change as DG
 use Rattle.state.specs.declared.Change.TheVariants as G
 use Rattle.state.specs.declared.Effect as DE
 use Rattle.model.specs.Tables.{Table, size}
-use Rattle.model.specs.Boards.{Phase, look, claim, revert, consume, tell, wake, free, signal, pass-end, backoff, Job}
+use Rattle.model.specs.Boards.{Phase, look, claim, revert, consume, tell, wake, free, signal, pass_end, backoff, Job}
 use Rattle.model.specs.Boards.{State, idle, working, blocked, Sender, Match}
 use Rattle.model.specs.Effects.{Said, Item, Looked, Claimed, Lost, Reverted, Matched, Consumed, Told, Woke, Freed}
 use Rattle.model.specs.Effects.{Signalled, Answered, Refused, Missed, Again, Ended, Rested, Resumed, Closed}
@@ -31,7 +31,7 @@ phase_in (P.Tell k) = tell k
 phase_in P.Wake = wake
 phase_in (P.Free k) = free k
 phase_in P.Signal = signal
-phase_in P.PassEnd = pass-end
+phase_in P.PassEnd = pass_end
 phase_in (P.Backoff rests) = backoff rests
 
 -- rule 3.6: how many messages a job at a chord of n channels has chosen

@@ -1,4 +1,6 @@
 // Senders, their jobs, and what a step answers.
+#![tactic(auto)]
+
 ghost use Rattle.std.specs.Prelude.{◌≡◌, List, ◌-◌, ◌<◌, ◌≤◌, length, get_or};
 ghost use Rattle.model.specs.Tables as MT;
 ghost use Rattle.model.specs.Boards.{Board, Message, no_message, channel_of, is_consumed};

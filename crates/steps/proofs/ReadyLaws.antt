@@ -9,7 +9,7 @@ use lib.Seq.{get_or-take}
 use Rattle.model.specs.Tables.{Table, size}
 use Rattle.model.specs.Boards.{Board, message_at, is_pending, tell}
 use Rattle.model.specs.Effects.{Effect}
-use Rattle.model.specs.Steps.{to_tell, job-step}
+use Rattle.model.specs.Steps.{to_tell, job_step}
 use Rattle.model.proofs.SoundFacts.{StateFacts, JobFacts, PlaceOk, AllChosen}
 use Rattle.columns.specs.Columns.{Others, columns_by, board_by}
 use Rattle.columns.proofs.Messages.{length-messages, nth-channel}
@@ -24,10 +24,10 @@ use Rattle.steps.proofs.MessageReads.{pending-read}
 
 -- the step of the phase that the job is in
 pub step_is : (t : Table) (b : Board) (d : DD.Sender) (p : DP.Phase) (x : Effect) → d.job.phase ≡ p
-    → x ≡ job-step t b (sender_in t d) (job_in t d.job) (phase_in p)
-    → x ≡ job-step t b (sender_in t d) (job_in t d.job) (phase_in d.job.phase)
+    → x ≡ job_step t b (sender_in t d) (job_in t d.job) (phase_in p)
+    → x ≡ job_step t b (sender_in t d) (job_in t d.job) (phase_in d.job.phase)
 step_is t b d p x e q =
-    q ∙ ap (λ (y : DP.Phase). job-step t b (sender_in t d) (job_in t d.job) (phase_in y)) (sym e)
+    q ∙ ap (λ (y : DP.Phase). job_step t b (sender_in t d) (job_in t d.job) (phase_in y)) (sym e)
 
 module _ (t : Table) (channels keys units statuses : List ℕ) (n count : ℕ) (d : DD.Sender)
     (r : Ready t channels keys units statuses n count d) where

@@ -4,7 +4,7 @@ use mathlib.Core.Bool.{true, false}
 use Rattle.model.specs.Tables.{Table}
 use Rattle.model.specs.Boards.{Board, Job, Sender}
 use Rattle.model.specs.Effects.{Effect, does, refused}
-use Rattle.model.specs.Steps.{job-step, resume-step, blocked_step, state_step}
+use Rattle.model.specs.Steps.{job_step, resume_step, blocked_step, state_step}
 use Rattle.model.proofs.Tests.{never}
 use Rattle.state.specs.declared.State as DS
 use Rattle.state.specs.declared.State.TheVariants as S
@@ -27,11 +27,11 @@ module _ (t : Table) (b : Board) (d : DD.Sender) where
   in-state e = ap (λ (y : DS.State). state_step t b (sender_in t d) (state_in y (job_in t d.job))) e
 
   pub work-is : {x : Effect} → d.state ≡ S.Working
-      → x ≡ job-step t b (sender_in t d) (job_in t d.job) (phase_in d.job.phase)
+      → x ≡ job_step t b (sender_in t d) (job_in t d.job) (phase_in d.job.phase)
       → state_step t b (sender_in t d) (sender_in t d).state ≡ does x
   work-is e q = in-state e ∙ ap does (sym q)
 
-  pub blocked-is : {x : Effect} → d.state ≡ S.Blocked → sender_steps d ≡ true → x ≡ resume-step t b (sender_in t d)
+  pub blocked-is : {x : Effect} → d.state ≡ S.Blocked → sender_steps d ≡ true → x ≡ resume_step t b (sender_in t d)
       → state_step t b (sender_in t d) (sender_in t d).state ≡ does x
   blocked-is e k q =
       in-state e

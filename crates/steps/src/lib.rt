@@ -1,4 +1,6 @@
 // One step of a sender that is at work, or blocked with a signal, as an effect.
+#![tactic(auto)]
+
 ghost use Rattle.std.specs.Prelude.{◌≡◌, true, List, ℕ, ◌-◌, ◌<◌, ◌≤◌, eqb, length, get_or};
 ghost use Rattle.model.specs.Boards.{Board, message_at, channel_of, is_open, is_consumed, backoffs_pass};
 ghost use Rattle.model.specs.Effects.{does};

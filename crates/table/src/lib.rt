@@ -1,5 +1,7 @@
 // Table bytes read where they are lent: the refusals in their order, counts and chords by their places,
 // and a chord's channels as a part of the bytes.
+#![tactic(auto)]
+
 ghost use Rattle.std.specs.Prelude.{◌≡◌, true, ◌+◌, ◌*◌, ◌<◌, ◌≤◌, ltb, length, drop, get_or};
 ghost use Rattle.model.specs.Basics.{every};
 ghost use Rattle.model.specs.Tables.{size, chord_at};

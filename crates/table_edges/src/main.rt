@@ -1,5 +1,7 @@
 // Table bytes cut short, and with one byte damaged: how many of a byte's 255 other values give each number.
 // Tables go through the reader and the writer first: table P, and one of 16 channels and 32 chords of 8.
+#![tactic(auto)]
+
 ghost use Rattle.std.specs.Prelude.{◌<◌, ◌≤◌};
 
 use libc::STDOUT_FILENO;

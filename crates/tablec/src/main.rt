@@ -1,6 +1,8 @@
 // A table written as text, compiled to table bytes: `tablec < table.txt > rules.bin`; with `-r` the way back.
 // A line is `tray NAME leave|waiting` or `rule NAME = A + B [same property|unit]`; a comment goes from `#` to its end.
 // Standard output gets nothing unless the whole text is right; what is wrong goes to standard error as one line.
+#![tactic(auto)]
+
 ghost use Rattle.std.specs.Prelude.{◌≡◌, ◌<◌, ◌≤◌, length, take};
 ghost use Rattle.io.specs.Counts.{IsPrefixLen};
 ghost use Rattle.tablec.specs.Encoded.{Encoded};

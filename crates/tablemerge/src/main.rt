@@ -1,6 +1,8 @@
 // Two tables merged into one: `tablemerge FIRST SECOND MAP > rules.bin`, where MAP is a text with a word for each tray
 // of the second table: the number of the first's tray that it becomes, or `new`. A comment goes from `#` to its line's
 // end. Standard output gets the merged table or nothing; what is wrong goes to standard error as one line.
+#![tactic(auto)]
+
 ghost use Rattle.std.specs.Prelude.{◌≡◌, take};
 ghost use Rattle.merging.specs.Merges.{merge_refusal};
 ghost use Rattle.io.specs.Counts.{IsPrefixLen};

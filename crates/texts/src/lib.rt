@@ -1,5 +1,7 @@
 // What the programs on tables share: the words of a line, how long a written table is, and the one line on standard
 // error for a table that is refused.
+#![tactic(auto)]
+
 ghost use Rattle.std.specs.Prelude.{◌≡◌, List, ◌++◌, ℕ, ◌+◌, ◌*◌, ◌≤◌, length};
 ghost use Rattle.model.specs.Tables.{Table};
 ghost use Rattle.model.specs.Layout.{table_bytes};

@@ -11,8 +11,8 @@ use borrow.Author.Tests.{eqb-true, eqb-false, lt-ltb, le-ltb, lt-leb, le-leb}
 use Rattle.model.specs.Basics.{pick}
 use Rattle.model.specs.Tables.{Table, size, first_sync}
 use Rattle.model.specs.Boards.{Board, free, signal}
-use Rattle.model.specs.Jobs.{job-end}
-use Rattle.model.specs.Steps.{woken_of, skip, wake-step, free_step, signal-step}
+use Rattle.model.specs.Jobs.{job_end}
+use Rattle.model.specs.Steps.{woken_of, skip, wake_step, free_step, signal_step}
 use Rattle.state.specs.declared.Phase as DP
 use Rattle.state.specs.declared.Phase.TheVariants as P
 use Rattle.state.specs.declared.Said.TheVariants as W
@@ -72,8 +72,8 @@ module _ (t : Table) (b : Board) (d : DD.Sender) (few : size t d.job.chord ≤ 8
   pub wakes-is : (x : ℕ) → d.job.phase ≡ P.Wake → x ≡ woken_of t (job_in t d.job)
       → phase_in r ≡ pick (leb 2 n) (free 0) signal
       → effect_in t (works_by d (job_in_phase d.job r) (W.Woke x) (G.Turn x (U.WakesBy d.job.subject)))
-      ≡ wake-step t b (sender_in t d) (job_in t d.job)
-  unfolding wake-step
+      ≡ wake_step t b (sender_in t d) (job_in t d.job)
+  unfolding wake_step
   wakes-is x p e q = rw (all (size t d.job.chord), q, e, count-is t d.job (rw p) n len few eight, p)
 
   pub frees-is : (k f x : ℕ) → d.job.phase ≡ P.Free k → f ≡ first_sync t d.job.chord → x ≡ skip f k
@@ -94,8 +94,8 @@ module _ (t : Table) (b : Board) (d : DD.Sender) (few : size t d.job.chord ≤ 8
       )
 
 pub signals-is : (t : Table) (b : Board) (d end : DD.Sender) (x : ℕ) → x ≡ woken_of t (job_in t d.job)
-    → sender_in t end ≡ job-end t b.messages (sender_in t d) d.job.subject
+    → sender_in t end ≡ job_end t b.messages (sender_in t d) d.job.subject
     → effect_in t (record { said = W.Signalled x; change = G.Signal x; sender = end })
-    ≡ signal-step t b (sender_in t d) (job_in t d.job)
-unfolding signal-step
+    ≡ signal_step t b (sender_in t d) (job_in t d.job)
+unfolding signal_step
 signals-is t b d end x e q = rw (q, e)

@@ -1,5 +1,7 @@
 // The steps of a wake: the first synchronous message of the choice is woken, each other one is freed, and the woken
 // message's sender is signalled. What was read comes as parameters.
+#![tactic(auto)]
+
 ghost use Rattle.std.specs.Prelude.{◌≡◌, ℕ, ◌+◌, ◌-◌, ◌<◌, leb, length};
 ghost use Rattle.model.specs.Basics.{pick};
 ghost use Rattle.model.specs.Tables.{size, is_sync, first_sync};

@@ -3,7 +3,7 @@ use mathlib.Core.Path.{◌≡◌, sym, ◌∙◌}
 use Prim.Native.Nat.{ℕ, suc, ◌-◌}
 use native.Mathlib.Omega.{arith}
 use Rattle.model.specs.Layout.{table_of}
-use Rattle.model.specs.Steps.{looked_by, look-step}
+use Rattle.model.specs.Steps.{looked_by, look_step}
 use Rattle.model.proofs.AcceptedChords.{table-ok}
 use Rattle.columns.specs.Columns.{Others, board_by}
 use Rattle.state.specs.Views.{job_in, sender_in}
@@ -21,7 +21,7 @@ looked : (c : tie.After-choice) (o : Others) → o.units ≡ (start c).args.unit
     let t = table_of a.table.now in
     let b = board_by a.channels.now a.keys.now a.statuses.now a.n o in
     looked_by t b (sender_in t a.d) (job_in t a.d.job) a.k x
-    ≡ look-step t b (sender_in t a.d) (job_in t a.d.job) a.k
+    ≡ look_step t b (sender_in t a.d) (job_in t a.d.job) a.k
 looked c o u x e =
     let a = (start c).args in
     let t = table_of a.table.now in

@@ -7,7 +7,7 @@ use Rattle.model.specs.Tables.{Table, size}
 use Rattle.model.specs.Boards.{Board, channel_of}
 use Rattle.model.specs.Layout.{table_refusal, table_of}
 use Rattle.model.specs.Effects.{Effect}
-use Rattle.model.specs.Steps.{job-step}
+use Rattle.model.specs.Steps.{job_step}
 use Rattle.model.proofs.AcceptedChords.{table-ok}
 use Rattle.model.proofs.Chords.{wakes-first}
 use Rattle.model.proofs.SoundFacts.{PlaceOk}
@@ -71,8 +71,8 @@ sees-asks s =
 
 -- the step of the phase is the step of the job
 step_is : (s : tie.Start) (o : Others) (p : DP.Phase) {x : Effect} → s.args.d.job.phase ≡ p
-    → x ≡ job-step (tab s) (board s o) (sender_in (tab s) s.args.d) (job_in (tab s) s.args.d.job) (phase_in p)
-    → x ≡ job-step (tab s) (board s o) (sender_in (tab s) s.args.d) (job_in (tab s) s.args.d.job)
+    → x ≡ job_step (tab s) (board s o) (sender_in (tab s) s.args.d) (job_in (tab s) s.args.d.job) (phase_in p)
+    → x ≡ job_step (tab s) (board s o) (sender_in (tab s) s.args.d) (job_in (tab s) s.args.d.job)
     (phase_in s.args.d.job.phase)
 step_is s o p e q = L.step_is (tab s) (board s o) s.args.d p _ e q
 
