@@ -8,40 +8,37 @@ use borrow.Author.Rules.{rules}
 use Rattle.table.proofs.members.Statement.{statement}
 use Rattle.table.proofs.members.Tie as tie
 
-within : (c : tie.After-chord-len)
-    → c.before.chord-start.result + c.chord-len.result ≤ length c.before.before.before.args.table.now
+within : (c : tie.After-chord_len-len)
+    → c.chord_start-start.result + c.chord_len-len.result ≤ length c.args.table.now
 within c =
-    let s = c.before.before.before in
-    let t = s.args.table.now in
-    let q = s.args.chord in
-    rw (c.before.chord-start.ensures, c.chord-len.ensures, size_is t q s.requires.0 s.requires.1)
-    (part_in t q s.requires.0 s.requires.1)
+    let t = c.args.table.now in
+    let q = c.args.chord in
+    rw (c.chord_start-start.ensures, c.chord_len-len.ensures, size_is t q c.requires.0 c.requires.1)
+    (part_in t q c.requires.0 c.requires.1)
 
-add-end : tie.Need-overflow-add-end
+add-end : tie.Need-overflow_add-end
 add-end c = omega (arith, within c)
 
-part-result-end : tie.Need-slice-bounds-result-end
+part-result-end : tie.Need-slice_bounds-result-end
 part-result-end c = omega (arith, within c)
 
 returns : tie.Need-returns
 returns c =
-    let n = c.before in
-    let s = n.before.before.before in
-    let t = s.args.table.now in
-    let q = s.args.chord in
-    let a = n.before.chord-start.result in
-    let b = n.chord-len.result in
+    let t = c.args.table.now in
+    let q = c.args.chord in
+    let a = c.chord_start-start.result in
+    let b = c.chord_len-len.result in
     let e : a + b - a ≡ b = omega arith in
     rw (
-      part-is t q s.requires.0 s.requires.1,
+      part-is t q c.requires.0 c.requires.1,
       e,
-      n.before.chord-start.ensures,
-      n.chord-len.ensures,
-      size_is t q s.requires.0 s.requires.1,
+      c.chord_start-start.ensures,
+      c.chord_len-len.ensures,
+      size_is t q c.requires.0 c.requires.1,
     )
 
-pub members-spec : {M : Type 1} → statement M
-members-spec =
+pub members_spec : {M : Type 1} → statement M
+members_spec =
     tie.close
     (tie.spec
     (λ c κs. search rules)

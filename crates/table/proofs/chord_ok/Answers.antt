@@ -8,30 +8,14 @@ use lib.ListN.{get_or, drop}
 use Rattle.model.specs.Layout.{chord_ok}
 use Rattle.table.proofs.Walks.{chord-from}
 use borrow.Author.Rules.{rules}
-use Rattle.table.proofs.chord_ok.Statement.{statement}
-use Rattle.table.proofs.chord_ok.Tie as tie
+use Rattle.table.proofs.chord_ok.Goals as goal
 
 by_bytes : (s : List ℕ) (at next first : ℕ) → first ≡ get_or s at 0 + 256 * get_or s (at + 1) 0
     → (eqb first next && (leb 1 (get_or s (at + 2) 0) && (leb (get_or s (at + 2) 0) 8 && leb (get_or s (at + 3) 0) 2)))
     ≡ chord_ok next (drop at s)
 by_bytes s at next first e = rw e (sym (chord-from s at next))
 
-returns : tie.Need-returns
+pub returns : goal.returns
 returns c =
-    let j = c.before.before in
-    let a = j.before.before.before.before.args in
-    by_bytes a.s.now a.at a.next j.joined.result j.joined.ensures
-
-pub chord-ok-spec : {M : Type 1} → statement M
-chord-ok-spec =
-    tie.close
-    (tie.spec
-    (λ c. search rules)
-    (λ c. search rules)
-    (λ c. search rules)
-    (λ c κs. search rules)
-    (λ c. search rules)
-    (λ c. search rules)
-    (λ c. search rules)
-    (λ c. search rules)
-    returns)
+    let a = c.args in
+    by_bytes a.s.now a.at a.next c.joined-first.result c.joined-first.ensures
