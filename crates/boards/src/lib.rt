@@ -35,7 +35,7 @@ pub const BACKOFFS: usize = 707;
 pub const CLOSE_DAY: usize = 2048;
 
 // A message as it is added.
-#[derive(Drop)]
+#[derive(Clone, Copy)]
 pub struct Sent {
     pub channel: u16,
     pub property: u32,
@@ -45,7 +45,7 @@ pub struct Sent {
 }
 
 // A sender's call: an add, or a step. A close is no sender's.
-#[derive(Drop)]
+#[derive(Clone, Copy)]
 pub enum Call {
     Add(u16, Sent),
     Step(u16),

@@ -26,26 +26,26 @@ use boards::Sent;
 use reads::{MatchRead, MessageRead};
 use state::Said;
 
-#[derive(Drop)]
+#[derive(Clone, Copy)]
 pub struct QuietRead {
     pub number: u8,
     pub quiet: bool,
 }
 
 // A reply is the match plus 1, 0 for none.
-#[derive(Drop)]
+#[derive(Clone, Copy)]
 pub struct ReplyRead {
     pub number: u8,
     pub reply: u16,
 }
 
-#[derive(Drop)]
+#[derive(Clone, Copy)]
 pub struct MessageAnswer {
     pub number: u8,
     pub message: MessageRead,
 }
 
-#[derive(Drop)]
+#[derive(Clone, Copy)]
 pub struct MatchAnswer {
     pub number: u8,
     pub read: MatchRead,

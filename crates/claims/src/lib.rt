@@ -89,7 +89,7 @@ pub fn claim_step(table: &[u8], d: Sender, k: u8, channel: u8, count: u16, pendi
     ensures { (b : Board) → channel_of b d.job.subject ≡ channel
         → is_pending (message_at b (get_or (job_in (table_of table.now) d.job).chosen k 0)).status ≡ pending
         → length b.matches ≡ count → effect_in (table_of table.now) result
-        ≡ MS.claim-step (table_of table.now) b (sender_in (table_of table.now) d)
+        ≡ MS.claim_step (table_of table.now) b (sender_in (table_of table.now) d)
         (job_in (table_of table.now) d.job) k }
 {
     let j = d.job;

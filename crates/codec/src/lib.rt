@@ -8,14 +8,14 @@ ghost use Rattle.model.specs.Tables.{chord_at};
 ghost use Rattle.model.specs.Layout.{table_refusal, table_of};
 ghost use Rattle.codec.specs.Views.{table_in, empty_table, empty_chord, chord_for, table_for, table_read};
 
-#[derive(Drop)]
+#[derive(Clone, Copy)]
 pub struct Chord {
     pub channels: [u8; 8],
     pub len: u8,
     pub equal: table::Equality,
 }
 
-#[derive(Drop)]
+#[derive(Clone, Copy)]
 pub struct Table {
     pub kinds: [u8; 16],
     pub kinds_len: u8,
@@ -23,7 +23,7 @@ pub struct Table {
     pub chords_len: u8,
 }
 
-#[derive(Drop)]
+#[derive(Clone, Copy)]
 pub struct Read {
     pub number: u8,
     pub table: Table,

@@ -19,7 +19,7 @@ use table::Equality;
 
 // What is sought for a member of a chord: a message of the channel and of the status, and of the property and the unit
 // where they are to be equal.
-#[derive(Drop)]
+#[derive(Clone, Copy)]
 pub struct Want {
     pub channel: u8,
     pub status: u8,

@@ -76,7 +76,7 @@ module _ (t : Table) (is : List Message) (e : Sender) (w : Job) where
   end-some [] z = absurd (z refl)
   end-some (x ∷ xs) z = refl
 
-  pub end_none : (xs : List ℕ) → length xs ≡ 0 → MJ.job-end t is e w.subject ≡ consumed_end t is e w xs
+  pub end_none : (xs : List ℕ) → length xs ≡ 0 → MJ.job_end t is e w.subject ≡ consumed_end t is e w xs
   end_none [] z = refl
   end_none (x ∷ xs) z = absurd (omega arith)
 

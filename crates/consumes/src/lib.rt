@@ -16,7 +16,7 @@ ghost use Rattle.consumes.specs.Holds.{Channels, ChoiceLent, Left, with_match};
 use state::{Change, Effect, Phase, Said, Sender, Turn};
 
 // Messages whose senders are to be told.
-#[derive(Drop)]
+#[derive(Clone, Copy)]
 struct Told {
     messages: [u16; 8],
     len: u8,
@@ -150,7 +150,7 @@ pub fn consume_step(
         ≡ sync → channel_of (board_by channels.now pr st n o) (d.waker - 1) ≡ waker
         → is_consumed (message_at (board_by channels.now pr st n o) (d.waker - 1)).status ≡ consumed
         → effect_in (table_of table.now) result
-        ≡ MS.consume-step (table_of table.now) (board_by channels.now pr st n o)
+        ≡ MS.consume_step (table_of table.now) (board_by channels.now pr st n o)
         (sender_in (table_of table.now) d) (job_in (table_of table.now) d.job) k m }
 {
     let j = d.job;
@@ -215,7 +215,7 @@ pub fn tell_step(
         ≡ sync → channel_of (board_by channels.now pr st n o) (d.waker - 1) ≡ waker
         → is_consumed (message_at (board_by channels.now pr st n o) (d.waker - 1)).status ≡ consumed
         → effect_in (table_of table.now) result
-        ≡ MS.tell-step (table_of table.now) (board_by channels.now pr st n o)
+        ≡ MS.tell_step (table_of table.now) (board_by channels.now pr st n o)
         (sender_in (table_of table.now) d) (job_in (table_of table.now) d.job) k }
 {
     let j = d.job;

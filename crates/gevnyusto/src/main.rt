@@ -17,7 +17,7 @@ use printouts::Stage;
 use state::Said;
 
 // The stage after a turn, and whether what it reads and writes could be.
-#[derive(Drop)]
+#[derive(Clone, Copy)]
 struct Went {
     stage: Stage,
     more: bool,

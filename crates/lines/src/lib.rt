@@ -9,7 +9,7 @@ ghost use Rattle.lines.specs.Views.{line_in, plus_one, byte_at};
 
 use boards::{Call, Sent};
 
-#[derive(Drop)]
+#[derive(Clone, Copy)]
 pub enum Line {
     Reads(Call),
     Unreadable,

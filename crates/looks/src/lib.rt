@@ -193,7 +193,7 @@ pub fn look_step(
     requires subject_lt_n { (d.job.subject < n) × Lent n channels.now keys.now units.now statuses.now }
     requires passed { Passed start n statuses.now }
     ensures { (o : Others) → o.units ≡ units.now → effect_in (table_of table.now) result
-        ≡ MS.look-step (table_of table.now)
+        ≡ MS.look_step (table_of table.now)
         (board_by channels.now keys.now statuses.now n o)
         (sender_in (table_of table.now) d) (job_in (table_of table.now) d.job) k }
 {

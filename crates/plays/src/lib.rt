@@ -18,7 +18,7 @@ use boards::{Call, Sent};
 use state::Said;
 
 // What is said to a call, also as one number, and where the messages start that are not all consumed.
-#[derive(Drop)]
+#[derive(Clone, Copy)]
 pub struct Answer {
     pub said: Said,
     pub number: u32,
@@ -105,7 +105,7 @@ fn day_of(call: Call) -> u32
 }
 
 // A row of the lent calls: a sender's call, or a close of its day.
-#[derive(Drop)]
+#[derive(Clone, Copy)]
 struct Row {
     closes: bool,
     call: Call,

@@ -11,7 +11,7 @@ use sessions::Carry;
 
 // The bytes since the last line feed, where the messages start that are not all consumed, the report's next line, and
 // whether the input has ended.
-#[derive(Drop)]
+#[derive(Clone, Copy)]
 pub struct Stage {
     carry: Carry,
     start: u16,
@@ -20,7 +20,7 @@ pub struct Stage {
 }
 
 // The stage after a turn, which has the first `at` bytes of its buffer printed.
-#[derive(Drop)]
+#[derive(Clone, Copy)]
 pub struct Turn {
     pub stage: Stage,
     pub at: usize,

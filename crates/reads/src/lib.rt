@@ -15,7 +15,7 @@ ghost use Rattle.reads.specs.Reads.{message_of, read_of, MatchLent, InRange, Rea
 
 use state::Sender;
 
-#[derive(Drop)]
+#[derive(Clone, Copy)]
 pub struct MessageRead {
     pub channel: u8,
     pub property: u32,
@@ -28,7 +28,7 @@ pub struct MessageRead {
 }
 
 // The numbers past len are 0.
-#[derive(Drop)]
+#[derive(Clone, Copy)]
 pub struct MatchRead {
     pub chord: u8,
     pub len: u8,

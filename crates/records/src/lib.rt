@@ -4,7 +4,7 @@
 ghost use Rattle.std.specs.Prelude.{◌≡◌};
 ghost use Rattle.records.specs.Claims.{claimable, claimed_at};
 
-#[derive(Drop)]
+#[derive(Clone, Copy)]
 pub struct Message {
     pub channel: u8,
     pub property: u32,

@@ -16,7 +16,7 @@ ghost use Rattle.prints.specs.Printed.{Printed};
 ghost use Rattle.reports.specs.Parts.{item_line, lines_on, line_count, all_lines, between};
 
 // The line to go on with, and the end of what was written.
-#[derive(Drop)]
+#[derive(Clone, Copy)]
 pub struct Part {
     pub next: u16,
     pub at: usize,

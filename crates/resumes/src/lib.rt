@@ -43,7 +43,7 @@ pub fn resume_step(
         → (message_at b (d.own - 1)).match ≡ matched → (message_at b (d.own - 1)).waker ≡ waker
         → channel_of b (d.own - 1) ≡ channel
         → effect_in (table_of table.now) result
-        ≡ MS.resume-step (table_of table.now) b (sender_in (table_of table.now) d) }
+        ≡ MS.resume_step (table_of table.now) b (sender_in (table_of table.now) d) }
 {
     if status < 2 {
         return Effect {

@@ -3,7 +3,7 @@ use crate::script::Part;
 use crate::{say, script};
 
 // The lists of twenty calls.
-#[derive(Drop)]
+#[derive(Clone, Copy)]
 struct Rows {
     calls: [u16; 80],
     numbers: [u32; 40],

@@ -6,7 +6,7 @@ use crate::{replays, script, shown};
 use state::Said;
 
 // Each list has a number past it, and is lent at a length.
-#[derive(Drop)]
+#[derive(Clone, Copy)]
 pub struct World {
     pub board: [u16; 724],
     pub bytes: [u8; 3073],
@@ -17,7 +17,7 @@ pub struct World {
 }
 
 // What was said, and the lists after it.
-#[derive(Drop)]
+#[derive(Clone, Copy)]
 pub struct After {
     pub said: Said,
     pub world: World,

@@ -12,21 +12,21 @@ use lines::Line;
 use state::Said;
 
 // The place after what was printed, and where the messages start that are not all consumed.
-#[derive(Drop)]
+#[derive(Clone, Copy)]
 pub struct Served {
     pub at: usize,
     pub start: u16,
 }
 
 // The bytes since the last line feed; of a line over 80 bytes only the first 81.
-#[derive(Drop)]
+#[derive(Clone, Copy)]
 pub struct Carry {
     pub bytes: [u8; 81],
     pub len: usize,
 }
 
 // After a chunk of input: the bytes since the last line feed, and as in `Served`.
-#[derive(Drop)]
+#[derive(Clone, Copy)]
 pub struct Chunk {
     pub carry: Carry,
     pub at: usize,

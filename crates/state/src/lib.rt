@@ -14,7 +14,7 @@ ghost use Rattle.state.specs.Builders.{sender_blocked, job_at};
 
 // Where a job is. The first number is the place: the member that the next step is about, or the rests after the next
 // one. Revert has the number of claims made beside it, Consume the match plus 1.
-#[derive(Drop)]
+#[derive(Clone, Copy)]
 pub enum Phase {
     Look(u8),
     Claim(u8),
@@ -28,7 +28,7 @@ pub enum Phase {
     Backoff(u8),
 }
 
-#[derive(Drop)]
+#[derive(Clone, Copy)]
 pub enum State {
     Idle,
     Working,
@@ -36,7 +36,7 @@ pub enum State {
 }
 
 // A sender's work on its subject, which is read only while the sender is at work.
-#[derive(Drop)]
+#[derive(Clone, Copy)]
 pub struct Job {
     pub subject: u16,
     pub chord: u8,
@@ -47,7 +47,7 @@ pub struct Job {
 }
 
 // Own message, waker, reply and the match made of the own message are numbers plus 1, 0 for none.
-#[derive(Drop)]
+#[derive(Clone, Copy)]
 pub struct Sender {
     pub state: State,
     pub signalled: bool,
@@ -58,7 +58,7 @@ pub struct Sender {
     pub job: Job,
 }
 
-#[derive(Drop)]
+#[derive(Clone, Copy)]
 pub enum Said {
     Item(u16),
     Looked(u16),
@@ -82,7 +82,7 @@ pub enum Said {
 }
 
 // How one message turns. Consumes has the match plus 1, WakesBy the waker.
-#[derive(Drop)]
+#[derive(Clone, Copy)]
 pub enum Turn {
     Claims,
     Frees,
@@ -93,7 +93,7 @@ pub enum Turn {
 
 // What a step does beside altering its sender: one message turns; a match of the sender's choice is recorded with its
 // last claim; a message's sender is signalled.
-#[derive(Drop)]
+#[derive(Clone, Copy)]
 pub enum Change {
     None,
     Turn(u16, Turn),
@@ -101,7 +101,7 @@ pub enum Change {
     Signal(u16),
 }
 
-#[derive(Drop)]
+#[derive(Clone, Copy)]
 pub struct Effect {
     pub said: Said,
     pub change: Change,
@@ -413,7 +413,7 @@ pub fn job_end(
         → MT.is_sync (table_of table.now) (get_or is (d.own - 1) no_message).sent.channel ≡ sync
         → (get_or is (d.waker - 1) no_message).sent.channel ≡ channel
         → is_consumed (get_or is (d.waker - 1) no_message).status ≡ consumed
-        → sender_in (table_of table.now) result ≡ MJ.job-end (table_of table.now) is
+        → sender_in (table_of table.now) result ≡ MJ.job_end (table_of table.now) is
         (sender_in (table_of table.now) d) subject }
 {
     if sync {

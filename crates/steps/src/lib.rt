@@ -17,7 +17,7 @@ use state::{Change, Effect, Phase, Said, Sender, State};
 
 // What the end of a job reads: whether the own message's channel is synchronous, the waker's channel, and whether the
 // waker is consumed.
-#[derive(Drop)]
+#[derive(Clone, Copy)]
 struct Seen {
     sync: bool,
     channel: u8,
@@ -60,7 +60,7 @@ fn pass_end(table: &[u8], d: Sender, channel: u8, opened: bool, v: Seen, backoff
         → is_sync (table_of table.now) (channel_of b (d.own - 1)) ≡ v.sync
         → channel_of b (d.waker - 1) ≡ v.channel → is_consumed (message_at b (d.waker - 1)).status ≡ v.consumed
         → effect_in (table_of table.now) result
-        ≡ MS.pass-end-step (table_of table.now) b (sender_in (table_of table.now) d)
+        ≡ MS.pass_end_step (table_of table.now) b (sender_in (table_of table.now) d)
         (job_in (table_of table.now) d.job) }
 {
     let j = d.job;
@@ -88,7 +88,7 @@ fn job_step(
     requires passed { Passed start n statuses.now }
     ensures { (o : Others) → length o.matches ≡ count → o.backoffs ≡ backoffs.now
         → o.units ≡ units.now → effect_in (table_of table.now) result
-        ≡ MS.job-step (table_of table.now)
+        ≡ MS.job_step (table_of table.now)
         (board_by channels.now keys.now statuses.now n o)
         (sender_in (table_of table.now) d) (job_in (table_of table.now) d.job)
         (phase_in d.job.phase) }
@@ -141,7 +141,7 @@ fn blocked_step(
         × (n ≤ length matched.now) × (n ≤ length wakers.now) }
     ensures { (keys : List ℕ) (o : Others) → o.matched ≡ matched.now
         → o.wakers ≡ wakers.now → effect_in (table_of table.now) result
-        ≡ MS.resume-step (table_of table.now)
+        ≡ MS.resume_step (table_of table.now)
         (board_by channels.now keys statuses.now n o)
         (sender_in (table_of table.now) d) }
 {

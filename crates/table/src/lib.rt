@@ -13,7 +13,7 @@ ghost use Rattle.table.specs.Equalities.{equality_in};
 ghost use Rattle.table.specs.Headers.{Counts, Header, entries_sum};
 
 // What a chord wants to be equal of all its messages: nothing, the property, or the property and the unit.
-#[derive(Drop)]
+#[derive(Clone, Copy)]
 pub enum Equality {
     Any,
     Property,
@@ -68,7 +68,7 @@ pub fn more(next: u16, count: u8) -> u16
     next + (count as u16)
 }
 
-#[derive(Drop)]
+#[derive(Clone, Copy)]
 struct Chords {
     ok: bool,
     sum: u16,

@@ -11,7 +11,7 @@ const P: [u8; 20] = [
     2, 0, 1, 0, 2, 0, 12, 0, 14, 0, 18, 0, 0, 1, 0, 0, 2, 1, 0, 1,
 ];
 
-#[derive(Drop)]
+#[derive(Clone, Copy)]
 struct Tally {
     counts: [u16; 8],
 }

@@ -12,21 +12,21 @@ use table::Equality;
 use texts::{complain, complain_number, is_same, least, past, table_refused, word_at};
 
 // A name, with zeros past it; one of no bytes is no name.
-#[derive(Drop)]
+#[derive(Clone, Copy)]
 struct Name {
     bytes: [u8; 24],
     len: u8,
 }
 
 // The names of trays or of rules, in the order of their lines.
-#[derive(Drop)]
+#[derive(Clone, Copy)]
 struct Names {
     list: [Name; 32],
     count: u8,
 }
 
 // What the lines so far declare; `failed` where one of them was wrong, which was said then.
-#[derive(Drop)]
+#[derive(Clone, Copy)]
 struct Text {
     trays: Names,
     rules: Names,
@@ -35,7 +35,7 @@ struct Text {
 }
 
 // A rule's trays as they are read: where the text goes on, and whether a word was wrong.
-#[derive(Drop)]
+#[derive(Clone, Copy)]
 struct Reading {
     chord: codec::Chord,
     at: usize,
@@ -43,7 +43,7 @@ struct Reading {
 }
 
 // The line that is being read, its number, and the text before it; `more` until the input ends or a line is wrong.
-#[derive(Drop)]
+#[derive(Clone, Copy)]
 struct Input {
     bytes: [u8; 1024],
     len: usize,

@@ -12,7 +12,7 @@ use libc::STDOUT_FILENO;
 use texts::{Loaded, complain, complain_number, none_loaded};
 
 // The number of a merge, and how many bytes of a buffer hold the merged table.
-#[derive(Drop)]
+#[derive(Clone, Copy)]
 struct Outcome {
     number: u8,
     len: usize,

@@ -9,7 +9,7 @@ ghost use Rattle.model.specs.Layout.{table_bytes};
 use libc::STDERR_FILENO;
 
 // How many bytes of a buffer hold what was read; not `ok` where that failed, which was said then.
-#[derive(Drop)]
+#[derive(Clone, Copy)]
 pub struct Loaded {
     pub len: usize,
     pub ok: bool,

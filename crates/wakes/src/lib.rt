@@ -54,7 +54,7 @@ pub fn wake_step(table: &[u8], d: Sender) -> Effect
     requires phase_value { (d.job.phase ≡ P.Wake)
         × (first_sync (table_of table.now) d.job.chord < size (table_of table.now) d.job.chord) }
     ensures { (b : Board) → effect_in (table_of table.now) result
-        ≡ MS.wake-step (table_of table.now) b (sender_in (table_of table.now) d)
+        ≡ MS.wake_step (table_of table.now) b (sender_in (table_of table.now) d)
         (job_in (table_of table.now) d.job) }
 {
     let j = d.job;
@@ -94,7 +94,7 @@ pub fn signal_step(table: &[u8], d: Sender, sync: bool, waker: u8, consumed: boo
     ensures { (b : Board) → is_sync (table_of table.now) (channel_of b (d.own - 1)) ≡ sync
         → channel_of b (d.waker - 1) ≡ waker → is_consumed (message_at b (d.waker - 1)).status ≡ consumed
         → effect_in (table_of table.now) result
-        ≡ MS.signal-step (table_of table.now) b (sender_in (table_of table.now) d)
+        ≡ MS.signal_step (table_of table.now) b (sender_in (table_of table.now) d)
         (job_in (table_of table.now) d.job) }
 {
     let j = d.job;

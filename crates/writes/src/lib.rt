@@ -21,7 +21,7 @@ use state::{Change, Job, Said, Sender, Turn};
 
 // What a call that is not refused says and does: the caller after it, the message that it adds, if `adds`, and what
 // changes by a step.
-#[derive(Drop)]
+#[derive(Clone, Copy)]
 pub struct Move {
     pub said: Said,
     pub sender: Sender,

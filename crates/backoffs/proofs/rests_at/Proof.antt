@@ -13,19 +13,19 @@ use Rattle.backoffs.proofs.rests_at.Tie as tie
 long : (s : tie.Start) → length s.args.rests.now ≡ 16
 long s = (own-rests.there s.args.rests.now s.requires.0).sixteen
 
-shared-slice-read-result : tie.Need-shared-slice-read-result
+shared-slice-read-result : tie.Need-bounds-rests-k
 shared-slice-read-result c = omega (arith, long c.before)
 
-cast-result-2 : tie.Need-overflow-cast-result-2
+cast-result-2 : tie.Need-overflow_cast-result-2
 unfolding backoff_at
-cast-result-2 c = let s = c.before in omega (arith, few-rests s.args.rests.now s.requires.0 s.args.k)
+cast-result-2 c = omega (arith, few-rests c.args.rests.now c.requires.0 c.args.k)
 
 returns : tie.Need-returns
 unfolding backoff_at
 returns c = search rules
 
-pub rests-at-spec : {M : Type 1} → statement M
-rests-at-spec =
+pub rests_at_spec : {M : Type 1} → statement M
+rests_at_spec =
     tie.close
     (tie.spec (λ c. search rules) (λ c. search rules) (λ c. search rules) shared-slice-read-result cast-result-2
     returns)

@@ -13,53 +13,49 @@ use borrow.Author.Rules.{rules}
 use Rattle.chords.proofs.first_of.Statement.{statement}
 use Rattle.chords.proofs.first_of.Tie as tie
 
-abbrev invariant-loop : tie.invariant-loop
+abbrev invariant-loop : tie.invariant-loop-i
 invariant-loop table chord channel part n i₀ i =
     (i ≤ n) × (n ≡ length part) × (first_by (eqb channel) part ≡ i + first_by (eqb channel) (drop i part))
 
-abbrev decreases-loop : tie.decreases-loop
+abbrev decreases-loop : tie.decreases-loop-i
 decreases-loop table chord channel part n i₀ i = n - i
 
-few : (c : tie.After-members invariant-loop decreases-loop) → length c.members.result.now ≤ 8
+few : (c : tie.After-members-part invariant-loop decreases-loop) → length c.members-part.result.now ≤ 8
 few c =
-    let s = c.before.before in
-    rw c.members.ensures ((table-ok _ s.requires.0).chord_few s.args.chord s.requires.1)
+    rw c.members-part.ensures ((table-ok _ c.requires.0).chord_few c.args.chord c.requires.1)
 
-cast-n : tie.Need-overflow-cast-n invariant-loop decreases-loop
+cast-n : tie.Need-overflow_cast-n invariant-loop decreases-loop
 cast-n c = omega (arith, few c)
 
-loop-holds : tie.Need-loop-init invariant-loop decreases-loop
+loop-holds : tie.Need-loop-i-init invariant-loop decreases-loop
 loop-holds c = (search rules, search rules, omega arith)
 
-returns : tie.Need-returns invariant-loop decreases-loop
+returns : tie.Need-returns-then-channel-part invariant-loop decreases-loop
 returns c =
-    let p = c.before.before.before in
-    let a = p.before.before.before.args in
-    let s = p.before.members.result.now in
-    let e = first-here (eqb a.channel) s p.loop.i (omega arith) (eq-eqb _ _ c.if1.true) in
-    rw (← p.before.members.ensures) (sym (p.loop.invariant.2 ∙ e))
+    let a = c.args in
+    let s = c.members-part.result.now in
+    let e = first-here (eqb a.channel) s c.loop-i.i (omega arith) (eq-eqb _ _ c.if-channel-part.true) in
+    rw (← c.members-part.ensures) (sym (c.loop-i.invariant.2 ∙ e))
 
-add-i : tie.Need-overflow-add-i invariant-loop decreases-loop
+add-i : tie.Need-overflow_add-i invariant-loop decreases-loop
 add-i c = omega (arith, few c.before.before.before.before)
 
-loop-again : tie.Need-loop-preserved invariant-loop decreases-loop
+loop-again : tie.Need-loop-i-preserved invariant-loop decreases-loop
 loop-again c =
-    let p = c.before.before.before in
-    let a = p.before.before.before.args in
-    let s = p.before.members.result.now in
-    let e = first_next (eqb a.channel) s p.loop.i (omega arith) (ne_eqb _ _ c.if1.false) in
-    (search rules, search rules, p.loop.invariant.2 ∙ e)
+    let a = c.args in
+    let s = c.members-part.result.now in
+    let e = first_next (eqb a.channel) s c.loop-i.i (omega arith) (ne_eqb _ _ c.if-channel-part.false) in
+    (search rules, search rules, c.loop-i.invariant.2 ∙ e)
 
-returns-2 : tie.Need-returns-2 invariant-loop decreases-loop
+returns-2 : tie.Need-returns invariant-loop decreases-loop
 returns-2 c =
-    let p = c.before in
-    let a = p.before.before.before.args in
-    let s = p.before.members.result.now in
-    let e = first-end (eqb a.channel) s p.loop.i (omega arith) in
-    rw (← p.before.members.ensures) (sym (p.loop.invariant.2 ∙ e))
+    let a = c.args in
+    let s = c.members-part.result.now in
+    let e = first-end (eqb a.channel) s c.loop-i.i (omega arith) in
+    rw (← c.members-part.ensures) (sym (c.loop-i.invariant.2 ∙ e))
 
-pub first-of-spec : {M : Type 1} → statement M
-first-of-spec =
+pub first_of_spec : {M : Type 1} → statement M
+first_of_spec =
     tie.close
     (tie.spec
     invariant-loop

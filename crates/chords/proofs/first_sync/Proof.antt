@@ -13,66 +13,59 @@ use borrow.Author.Rules.{rules}
 use Rattle.chords.proofs.first_sync.Statement.{statement}
 use Rattle.chords.proofs.first_sync.Tie as tie
 
-abbrev invariant-loop : tie.invariant-loop
+abbrev invariant-loop : tie.invariant-loop-i
 invariant-loop table chord part n i₀ i =
     (i ≤ n) × (n ≡ length part)
     × (first_by (is_sync (table_of table)) part ≡ i + first_by (is_sync (table_of table)) (drop i part))
 
-abbrev decreases-loop : tie.decreases-loop
+abbrev decreases-loop : tie.decreases-loop-i
 decreases-loop table chord part n i₀ i = n - i
 
-few : (c : tie.After-members invariant-loop decreases-loop) → length c.members.result.now ≤ 8
+few : (c : tie.After-members-part invariant-loop decreases-loop) → length c.members-part.result.now ≤ 8
 few c =
-    let s = c.before.before in
-    rw c.members.ensures ((table-ok _ s.requires.0).chord_few s.args.chord s.requires.1)
+    rw c.members-part.ensures ((table-ok _ c.requires.0).chord_few c.args.chord c.requires.1)
 
-cast-n : tie.Need-overflow-cast-n invariant-loop decreases-loop
+cast-n : tie.Need-overflow_cast-n invariant-loop decreases-loop
 cast-n c = omega (arith, few c)
 
-loop-holds : tie.Need-loop-init invariant-loop decreases-loop
+loop-holds : tie.Need-loop-i-init invariant-loop decreases-loop
 loop-holds c = (search rules, search rules, omega arith)
 
-is-sync-requires : tie.Need-is-sync-requires invariant-loop decreases-loop
+is-sync-requires : tie.Need-is_sync-requires invariant-loop decreases-loop
 is-sync-requires c κs =
-    let p = c.before.before in
-    let m = p.before in
-    let s = m.before.before in
-    let q = (table-ok _ s.requires.0).channel-in s.args.chord p.loop.i s.requires.1 in
-    (s.requires.0, rw m.members.ensures (q (omega (arith, ap length m.members.ensures))))
+    let q = (table-ok _ c.requires.0).channel-in c.args.chord c.loop-i.i c.requires.1 in
+    (c.requires.0, rw c.members-part.ensures (q (omega (arith, ap length c.members-part.ensures))))
 
-returns : tie.Need-returns invariant-loop decreases-loop
+returns : tie.Need-returns-then-is_sync invariant-loop decreases-loop
 unfolding first_sync
 returns c =
-    let p = c.before.before.before.before in
-    let a = p.before.before.before.args in
-    let s = p.before.members.result.now in
-    let y = sym c.before.is-sync.ensures ∙ c.if1.true in
-    let e = first-here (is_sync (table_of a.table.now)) s p.loop.i (omega arith) y in
-    rw (← p.before.members.ensures) (sym (p.loop.invariant.2 ∙ e))
+    let a = c.args in
+    let s = c.members-part.result.now in
+    let y = sym c.is_sync.ensures ∙ c.if-is_sync.true in
+    let e = first-here (is_sync (table_of a.table.now)) s c.loop-i.i (omega arith) y in
+    rw (← c.members-part.ensures) (sym (c.loop-i.invariant.2 ∙ e))
 
-add-i : tie.Need-overflow-add-i invariant-loop decreases-loop
+add-i : tie.Need-overflow_add-i invariant-loop decreases-loop
 add-i c = omega (arith, few c.before.before.before.before.before)
 
-loop-again : tie.Need-loop-preserved invariant-loop decreases-loop
+loop-again : tie.Need-loop-i-preserved invariant-loop decreases-loop
 loop-again c =
-    let p = c.before.before.before.before in
-    let a = p.before.before.before.args in
-    let s = p.before.members.result.now in
-    let n = sym c.before.is-sync.ensures ∙ c.if1.false in
-    let e = first_next (is_sync (table_of a.table.now)) s p.loop.i (omega arith) n in
-    (search rules, search rules, p.loop.invariant.2 ∙ e)
+    let a = c.args in
+    let s = c.members-part.result.now in
+    let n = sym c.is_sync.ensures ∙ c.if-is_sync.false in
+    let e = first_next (is_sync (table_of a.table.now)) s c.loop-i.i (omega arith) n in
+    (search rules, search rules, c.loop-i.invariant.2 ∙ e)
 
-returns-2 : tie.Need-returns-2 invariant-loop decreases-loop
+returns-2 : tie.Need-returns invariant-loop decreases-loop
 unfolding first_sync
 returns-2 c =
-    let p = c.before in
-    let a = p.before.before.before.args in
-    let s = p.before.members.result.now in
-    let e = first-end (is_sync (table_of a.table.now)) s p.loop.i (omega arith) in
-    rw (← p.before.members.ensures) (sym (p.loop.invariant.2 ∙ e))
+    let a = c.args in
+    let s = c.members-part.result.now in
+    let e = first-end (is_sync (table_of a.table.now)) s c.loop-i.i (omega arith) in
+    rw (← c.members-part.ensures) (sym (c.loop-i.invariant.2 ∙ e))
 
-pub first-sync-spec : {M : Type 1} → statement M
-first-sync-spec =
+pub first_sync_spec : {M : Type 1} → statement M
+first_sync_spec =
     tie.close
     (tie.spec
     invariant-loop

@@ -13,7 +13,7 @@ use Rattle.chords.proofs.is_sync.Tie as tie
 below : (s : tie.Start) → s.args.channel < count_t s.args.table.now
 below s = let n = length-kinds _ (accepted _ s.requires.0) in omega (arith, s.requires.1)
 
-shared-slice-read-result : tie.Need-shared-slice-read-result
+shared-slice-read-result : tie.Need-bounds-table-k
 shared-slice-read-result c =
     let s = c.before in
     let a = accepted _ s.requires.0 in
@@ -25,5 +25,5 @@ returns c =
     let s = c.before in
     rw (kind_at s.args.table.now s.args.channel (below s))
 
-pub is-sync-spec : {M : Type 1} → statement M
-is-sync-spec = tie.close (tie.spec (λ c. search rules) shared-slice-read-result returns)
+pub is_sync_spec : {M : Type 1} → statement M
+is_sync_spec = tie.close (tie.spec (λ c. search rules) shared-slice-read-result returns)

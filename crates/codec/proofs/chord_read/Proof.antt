@@ -13,39 +13,36 @@ use borrow.Author.Rules.{rules}
 use Rattle.codec.proofs.chord_read.Statement.{statement}
 use Rattle.codec.proofs.chord_read.Tie as tie
 
-abbrev invariant-loop : tie.invariant-loop
+abbrev invariant-loop : tie.invariant-loop-k
 invariant-loop table chord part channels₀ k₀ channels k =
     (k ≤ length part) × (sets channels k (drop k part) ≡ sets (replicate 8 0) 0 part)
 
-abbrev decreases-loop : tie.decreases-loop
+abbrev decreases-loop : tie.decreases-loop-k
 decreases-loop table chord part channels₀ k₀ channels k = length part - k
 
-few : (c : tie.After-members invariant-loop decreases-loop) → length c.members.result.now ≤ 8
+few : (c : tie.After-members-part invariant-loop decreases-loop) → length c.members-part.result.now ≤ 8
 few c =
-    let s = c.before.before in
-    rw c.members.ensures ((table-ok _ s.requires.0).chord_few s.args.chord s.requires.1)
+    rw c.members-part.ensures ((table-ok _ c.requires.0).chord_few c.args.chord c.requires.1)
 
-array-write-channels : tie.Need-array-write-channels invariant-loop decreases-loop
+array-write-channels : tie.Need-bounds-channels-k invariant-loop decreases-loop
 array-write-channels c = omega (arith, few c.before.before.before)
 
-loop-again : tie.Need-loop-preserved invariant-loop decreases-loop
+loop-again : tie.Need-loop-k-preserved invariant-loop decreases-loop
 loop-again c =
-    let p = c.before.before in
-    let k = p.loop.k in
-    let f = fill-next p.loop.channels p.before.members.result.now k k 0 (omega arith) in
-    (search rules, sym f ∙ p.loop.invariant.1)
+    let k = c.loop-k.k in
+    let f = fill-next c.loop-k.channels c.members-part.result.now k k 0 (omega arith) in
+    (search rules, sym f ∙ c.loop-k.invariant.1)
 
 returns : tie.Need-returns invariant-loop decreases-loop
 unfolding chord_for
 returns c =
-    let p = c.before.before.before in
-    let k = p.loop.k in
-    let z = fill_end p.loop.channels p.before.members.result.now k k (omega arith) in
-    let e = rw p.before.members.ensures at (sym z ∙ p.loop.invariant.1) in
-    cc (e, c.before.chord-len.ensures, equality-for c.chord-equal.result c.chord-equal.ensures)
+    let k = c.loop-k.k in
+    let z = fill_end c.loop-k.channels c.members-part.result.now k k (omega arith) in
+    let e = rw c.members-part.ensures at (sym z ∙ c.loop-k.invariant.1) in
+    cc (e, c.chord_len.ensures, equality-for c.chord_equal.result c.chord_equal.ensures)
 
-pub chord-read-spec : {M : Type 1} → statement M
-chord-read-spec =
+pub chord_read_spec : {M : Type 1} → statement M
+chord_read_spec =
     tie.close
     (tie.spec
     invariant-loop

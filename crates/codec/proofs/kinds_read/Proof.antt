@@ -15,28 +15,27 @@ use borrow.Author.Rules.{rules}
 use Rattle.codec.proofs.kinds_read.Statement.{statement}
 use Rattle.codec.proofs.kinds_read.Tie as tie
 
-abbrev invariant-loop : tie.invariant-loop
+abbrev invariant-loop : tie.invariant-loop-i
 invariant-loop table t kinds₀ i₀ kinds i =
     (i ≤ t) × (sets kinds i (drop i (table_of table).kinds) ≡ sets (replicate 16 0) 0 (table_of table).kinds)
 
-abbrev decreases-loop : tie.decreases-loop
+abbrev decreases-loop : tie.decreases-loop-i
 decreases-loop table t kinds₀ i₀ kinds i = t - i
 
-below : (c : tie.In-loop invariant-loop decreases-loop)
-    → c.before.loop.i < count_t c.before.before.before.before.args.table.now
+below : (c : tie.In-loop-i invariant-loop decreases-loop)
+    → c.loop-i.i < count_t c.args.table.now
 below c =
-    let l = c.before.before in
-    let n = length-kinds _ (accepted _ l.before.before.requires) in
-    omega (arith, l.channels-len.ensures)
+    let n = length-kinds _ (accepted _ c.requires) in
+    omega (arith, c.channels_len-t.ensures)
 
-shared-slice-read-kinds : tie.Need-shared-slice-read-kinds invariant-loop decreases-loop
+shared-slice-read-kinds : tie.Need-bounds-table-i invariant-loop decreases-loop
 shared-slice-read-kinds c =
-    let a = accepted _ c.before.before.before.before.before.requires in
+    let a = accepted _ c.requires in
     omega (arith, below c.before)
 
-array-write-kinds : tie.Need-array-write-kinds invariant-loop decreases-loop
+array-write-kinds : tie.Need-bounds-kinds-i invariant-loop decreases-loop
 array-write-kinds c =
-    let a = accepted _ c.before.before.before.before.before.requires in
+    let a = accepted _ c.requires in
     omega (arith, below c.before)
 
 -- byte 12 + i is the next kind
@@ -47,24 +46,21 @@ next table kinds i a l =
     rw (← kind_at table i l)
     (sym (fill-next kinds (table_of table).kinds i i 0 (omega (arith, l, length-kinds table (accepted table a)))))
 
-loop-again : tie.Need-loop-preserved invariant-loop decreases-loop
-loop-again c =
-    let p = c.before.before in
-    let s = p.before.before.before in (
-      search rules,
-      next s.args.table.now p.loop.kinds p.loop.i s.requires (below c.before) ∙ p.loop.invariant.1,
-    )
+loop-again : tie.Need-loop-i-preserved invariant-loop decreases-loop
+loop-again c = (
+  search rules,
+  next c.args.table.now c.loop-i.kinds c.loop-i.i c.requires (below c.before) ∙ c.loop-i.invariant.1,
+)
 
 returns : tie.Need-returns invariant-loop decreases-loop
 returns c =
-    let p = c.before in
-    let t = p.before.before.before.args.table.now in
-    let i = p.loop.i in
-    let z = fill_end p.loop.kinds (table_of t).kinds i i (omega (arith, p.before.channels-len.ensures)) in
-    sym z ∙ p.loop.invariant.1
+    let t = c.args.table.now in
+    let i = c.loop-i.i in
+    let z = fill_end c.loop-i.kinds (table_of t).kinds i i (omega (arith, c.channels_len-t.ensures)) in
+    sym z ∙ c.loop-i.invariant.1
 
-pub kinds-read-spec : {M : Type 1} → statement M
-kinds-read-spec =
+pub kinds_read_spec : {M : Type 1} → statement M
+kinds_read_spec =
     tie.close
     (tie.spec
     invariant-loop

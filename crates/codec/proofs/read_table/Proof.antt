@@ -13,8 +13,8 @@ use borrow.Author.Rules.{rules}
 use Rattle.codec.proofs.read_table.Statement.{statement}
 use Rattle.codec.proofs.read_table.Tie as tie
 
-none : (c : tie.Else1) → table_refusal c.before.before.before.args.bytes.now ≡ 0
-none c = sym c.before.table-refusal.ensures ∙ c.if1.false
+none : (c : tie.Else-number-ne0) → table_refusal c.args.bytes.now ≡ 0
+none c = sym c.table_refusal-number.ensures ∙ c.if-number-ne0.false
 
 -- what was read, seen as a table
 seen : (s : List ℕ) (r : DR.Read) → r ≡ table_read s
@@ -26,24 +26,22 @@ refused : (s : List ℕ) (n : ℕ) (t : DT.Table) → n ≡ table_refusal s → 
 unfolding table_read
 refused s n t r z e = rw (ne_eqb (table_refusal s) 0 (λ x. z (r ∙ x)), r, e)
 
-returns : tie.Need-returns
+returns : tie.Need-returns-then-number-ne0
 returns c =
-    let t = c.before.before in
-    let s = t.before.before.args.bytes.now in
+    let s = c.args.bytes.now in
     seen s _
-    (refused s t.table-refusal.result c.empty-table.result t.table-refusal.ensures c.before.if1.true
-    c.empty-table.ensures)
+    (refused s c.table_refusal-number.result c.empty_table-none.result c.table_refusal-number.ensures c.if-number-ne0.true
+    c.empty_table-none.ensures)
 
-table-read-requires : tie.Need-table-read-requires
+table-read-requires : tie.Need-table_read-table-requires
 table-read-requires c κs = none c
 
-returns-2 : tie.Need-returns-2
+returns-2 : tie.Need-returns
 unfolding table_read
 returns-2 c =
-    let s = c.before.before.before.before in
-    seen s.args.bytes.now _ (rw (none c.before, c.table-read.ensures))
+    seen c.args.bytes.now _ (rw (none c.before, c.table_read-table.ensures))
 
-pub read-table-spec : {M : Type 1} → statement M
-read-table-spec =
+pub read_table_spec : {M : Type 1} → statement M
+read_table_spec =
     tie.close
     (tie.spec (λ c κs. search rules) (λ c κs. search rules) returns table-read-requires returns-2)

@@ -8,25 +8,25 @@ use Rattle.columns.proofs.Walks.{oldest-is}
 use Rattle.columns.proofs.oldest.Statement.{statement}
 use Rattle.columns.proofs.oldest.Tie as tie
 
-abbrev keys-known : tie.After-least → tie.After-shared-slice-known2
+abbrev keys-known : tie.After-least-b → tie.After-shared_slice_known-2-1
 keys-known c = c.before.before.before.before
 
-abbrev start : tie.After-shared-slice-known2 → tie.Start
+abbrev start : tie.After-shared_slice_known-2-1 → tie.Start
 start c = c.before.before
 
-days : (c : tie.After-shared-slice-known2) (k : ℕ) → day_in (start c).args.keys.now k < 2 ^ 32
-days c k = omega (arith, c.shared-slice-known2.given (1024 + k))
+days : (c : tie.After-shared_slice_known-2-1) (k : ℕ) → day_in (start c).args.keys.now k < 2 ^ 32
+days c k = omega (arith, c.shared_slice_known-2-1.given (1024 + k))
 
 returns : tie.Need-returns
 returns c =
     let q = keys-known c in
     let s = start q in
     let a = s.args in
-    let r = c.least in (
-      rw r.ensures (least-number (day_in a.keys.now) _ a.n (omega (arith, s.pre.0.few)) (days q)),
+    let r = c.least-b in (
+      rw r.ensures (least-number (day_in a.keys.now) _ a.n (omega (arith, s.requires.0.few)) (days q)),
       λ o k x e f. oldest-is a.channels.now a.keys.now a.statuses.now o a.n a.want k x
-          a.units.now e f s.pre.0.few (days q) s.pre.1.1 a.chosen.now r.result r.ensures,
+          a.units.now e f s.requires.0.few (days q) s.requires.1.1 a.chosen.now r.result r.ensures,
     )
 
-pub oldest-spec : {M : Type 1} → statement M
-oldest-spec = tie.close (tie.spec (λ c κs. search rules) (λ c. search rules) returns)
+pub oldest_spec : {M : Type 1} → statement M
+oldest_spec = tie.close (tie.spec (λ c κs. search rules) (λ c. search rules) returns)

@@ -9,68 +9,65 @@ use borrow.Author.Rules.{rules}
 use Rattle.shares.proofs.shares_ok.Statement.{statement}
 use Rattle.shares.proofs.shares_ok.Tie as tie
 
-abbrev invariant-loop : tie.invariant-loop
+abbrev invariant-loop : tie.invariant-loop-i
 invariant-loop tallies n total₀ common₀ i₀ total common i =
     (i ≤ 32) × (total ≤ 65535 * i) × (common ≤ 65535 * i) × (total + added_total (drop i tallies) ≡ added_total tallies)
     × (common + common_used (drop i tallies) ≡ common_used tallies)
 
-abbrev decreases-loop : tie.decreases-loop
+abbrev decreases-loop : tie.decreases-loop-i
 decreases-loop tallies n total₀ common₀ i₀ total common i = 32 - i
 
-loop-holds : tie.Need-loop-init invariant-loop decreases-loop
+loop-holds : tie.Need-loop-i-init invariant-loop decreases-loop
 loop-holds c = (omega arith, omega arith, omega arith, omega arith, omega arith)
 
 -- the loop, and the tally that is read
-abbrev loop : tie.After-shared-slice-known2 invariant-loop decreases-loop → tie.At-loop invariant-loop decreases-loop
+abbrev loop : tie.After-shared_slice_known-in-loop-i-1 invariant-loop decreases-loop → tie.At-loop-i invariant-loop decreases-loop
 loop c = c.before.before
 
-abbrev here : tie.After-shared-slice-known2 invariant-loop decreases-loop → ℕ
-here c = tally (loop c).before.before.args.tallies.now (loop c).loop.i
+abbrev here : tie.After-shared_slice_known-in-loop-i-1 invariant-loop decreases-loop → ℕ
+here c = tally (loop c).before.before.args.tallies.now (loop c).loop-i.i
 
-small : (c : tie.After-shared-slice-known2 invariant-loop decreases-loop) → here c ≤ 65535
-small c = omega (arith, c.shared-slice-known2.given (loop c).loop.i)
+small : (c : tie.After-shared_slice_known-in-loop-i-1 invariant-loop decreases-loop) → here c ≤ 65535
+small c = omega (arith, c.shared_slice_known-in-loop-i-1.given (loop c).loop-i.i)
 
-cast-total : tie.Need-overflow-cast-total invariant-loop decreases-loop
+cast-total : tie.Need-overflow_cast-total invariant-loop decreases-loop
 cast-total c = omega (arith, small c)
 
-add_total : tie.Need-overflow-add-total invariant-loop decreases-loop
-add_total c = omega (arith, small c, (loop c).loop.invariant.1)
+add_total : tie.Need-overflow_add-total invariant-loop decreases-loop
+add_total c = omega (arith, small c, (loop c).loop-i.invariant.1)
 
-cast-common : tie.Need-overflow-cast-common invariant-loop decreases-loop
-cast-common c = omega (arith, small c.before, c.above-own.ensures)
+cast-common : tie.Need-overflow_cast-common invariant-loop decreases-loop
+cast-common c = omega (arith, small c.before, c.above_own.ensures)
 
-add-common : tie.Need-overflow-add-common invariant-loop decreases-loop
-add-common c = omega (arith, small c.before, c.above-own.ensures, (loop c.before).loop.inv.2)
+add-common : tie.Need-overflow_add-common invariant-loop decreases-loop
+add-common c = omega (arith, small c.before, c.above_own.ensures, (loop c.before).loop-i.invariant.2)
 
-loop-again : tie.Need-loop-preserved invariant-loop decreases-loop
+loop-again : tie.Need-loop-i-preserved invariant-loop decreases-loop
 loop-again c =
     let p = loop c.before in
-    let s = p.before.before in
-    let total = total-next s.args.tallies.now p.loop.i (omega (arith, s.pre)) in
-    let common = common-next s.args.tallies.now p.loop.i (omega (arith, s.pre)) in
-    let above = c.above-own.ensures in (
+    let total = total-next p.args.tallies.now p.loop-i.i (omega (arith, p.requires)) in
+    let common = common-next p.args.tallies.now p.loop-i.i (omega (arith, p.requires)) in
+    let above = c.above_own.ensures in (
       omega arith,
-      omega (arith, small c.before, p.loop.inv.1),
-      omega (arith, small c.before, above, p.loop.inv.2),
-      omega (arith, total, p.loop.inv.3),
-      omega (arith, common, above, p.loop.inv.4),
+      omega (arith, small c.before, p.loop-i.invariant.1),
+      omega (arith, small c.before, above, p.loop-i.invariant.2),
+      omega (arith, total, p.loop-i.invariant.3),
+      omega (arith, common, above, p.loop-i.invariant.4),
     )
 
 returns : tie.Need-returns invariant-loop decreases-loop
 returns c =
-    let p = c.before in
-    let s = p.before.before in
-    let ks = s.args.tallies.now in
-    let i = p.loop.i in
-    let past : 32 ≤ i = omega (arith, c.loop-test.false) in
-    let total : p.loop.total ≡ added_total ks =
-    omega (arith, total-none ks i (omega (arith, s.requires)), p.loop.invariant.3) in
-    let common : p.loop.common ≡ common_used ks =
-    omega (arith, common-none ks i (omega (arith, s.requires)), p.loop.invariant.4) in
-    rw (total, common) (shares-by ks s.args.n s.requires)
+    let ks = c.args.tallies.now in
+    let i = c.loop-i.i in
+    let past : 32 ≤ i = omega (arith, c.loop-i-test.false) in
+    let total : c.loop-i.total ≡ added_total ks =
+    omega (arith, total-none ks i (omega (arith, c.requires)), c.loop-i.invariant.3) in
+    let common : c.loop-i.common ≡ common_used ks =
+    omega (arith, common-none ks i (omega (arith, c.requires)), c.loop-i.invariant.4) in
+    rw (total, common) (shares-by ks c.args.n c.requires)
 
-pub shares-ok-spec : {M : Type 1} → statement M
-shares-ok-spec =
+pub shares_ok_spec : {M : Type 1} → statement M
+shares_ok_spec =
     tie.close
     (tie.spec
     invariant-loop

@@ -27,66 +27,64 @@ abbrev from4 : Table → ℕ
 from4 t = unless (kinds_ok t.kinds) 4 (from5 t)
 
 -- the table, where a test passed
-abbrev t2 : tie.Else2 → Table
-t2 c = table_in c.before.before.before.args.table
+abbrev t2 : tie.Else-not-t-m → Table
+t2 c = table_in c.args.table
 
-abbrev t3 : tie.Else3 → Table
+abbrev t3 : tie.Else-not-kinds_known → Table
 t3 c = t2 c.before.before
 
-abbrev t4 : tie.Else4 → Table
+abbrev t4 : tie.Else-not-chords_sized → Table
 t4 c = t3 c.before.before
 
 -- what is left of the refusals there
-left2 : (c : tie.Else2) → table_refusal (table_bytes (t2 c)) ≡ from4 (t2 c)
+left2 : (c : tie.Else-not-t-m) → table_refusal (table_bytes (t2 c)) ≡ from4 (t2 c)
 left2 c =
-    let l = c.before in
-    let f = counts-few _ l.members-len.result l.members-len.ensures l.before.if1.false in
-    refusal-written (t2 c) ∙ rw (f ∙ not-false _ c.if2.false)
+    let f = counts-few _ c.members_len-m.result c.members_len-m.ensures c.if-n-gt32.false in
+    refusal-written (t2 c) ∙ rw (f ∙ not-false _ c.if-not-t-m.false-raw)
 
-left3 : (c : tie.Else3) → table_refusal (table_bytes (t3 c)) ≡ from5 (t3 c)
-left3 c = left2 c.before.before ∙ rw (sym c.before.kinds-known.ensures ∙ not-false _ c.if3.false)
+left3 : (c : tie.Else-not-kinds_known) → table_refusal (table_bytes (t3 c)) ≡ from5 (t3 c)
+left3 c = left2 c.before.before ∙ rw (sym c.kinds_known.ensures ∙ not-false _ c.if-not-kinds_known.false-raw)
 
-sized-pass : (c : tie.Else4) → every sized (t4 c).chords ≡ true
-sized-pass c = sym c.before.chords-sized.ensures ∙ not-false _ c.if4.false
+sized-pass : (c : tie.Else-not-chords_sized) → every sized (t4 c).chords ≡ true
+sized-pass c = sym c.chords_sized.ensures ∙ not-false _ c.if-not-chords_sized.false-raw
 
-left4 : (c : tie.Else4) → table_refusal (table_bytes (t4 c)) ≡ from7 (t4 c)
+left4 : (c : tie.Else-not-chords_sized) → table_refusal (table_bytes (t4 c)) ≡ from7 (t4 c)
 left4 c = left3 c.before.before ∙ rw (sized-pass c)
 
-returns : tie.Need-returns
+returns : tie.Need-returns-then-n-gt32
 returns c =
-    let t = c.before.args.table in
-    rw (refusal-written (table_in t), counts-many t c.if1.true)
+    let t = c.args.table in
+    rw (refusal-written (table_in t), counts-many t c.if-n-gt32.true)
 
-returns-2 : tie.Need-returns-2
+returns-2 : tie.Need-returns-then-not-t-m
 returns-2 c =
-    let l = c.before in
-    let t = l.before.before.args.table in
-    let f = counts-few t l.members-len.result l.members-len.ensures l.before.if1.false in
-    rw (refusal-written (table_in t), f ∙ not-true _ c.if2.true)
+    let t = c.args.table in
+    let f = counts-few t c.members_len-m.result c.members_len-m.ensures c.if-n-gt32.false in
+    rw (refusal-written (table_in t), f ∙ not-true _ c.if-not-t-m.true-raw)
 
-kinds-known-requires : tie.Need-kinds-known-requires
+kinds-known-requires : tie.Need-kinds_known-requires
 kinds-known-requires c κs =
-    let t = c.before.before.before.args.table in
-    let p = both {t = leb 1 t.kinds_len} (not-false _ c.if2.false) in
+    let t = c.args.table in
+    let p = both {t = leb 1 t.kinds_len} (not-false _ c.if-not-t-m.false-raw) in
     leb-true _ _ (both {t = leb t.kinds_len 16} p.1).0
 
-returns-3 : tie.Need-returns-3
-returns-3 c = rw (left2 c.before.before, sym c.before.kinds-known.ensures ∙ not-true _ c.if3.true)
+returns-3 : tie.Need-returns-then-not-kinds_known
+returns-3 c = rw (left2 c.before.before, sym c.kinds_known.ensures ∙ not-true _ c.if-not-kinds_known.true-raw)
 
-returns-4 : tie.Need-returns-4
-returns-4 c = rw (left3 c.before.before, sym c.before.chords-sized.ensures ∙ not-true _ c.if4.true)
+returns-4 : tie.Need-returns-then-not-chords_sized
+returns-4 c = rw (left3 c.before.before, sym c.chords_sized.ensures ∙ not-true _ c.if-not-chords_sized.true-raw)
 
-members-in-requires : tie.Need-members-in-requires
+members-in-requires : tie.Need-members_in-requires
 members-in-requires c κs = (search rules, sized-pass c)
 
-returns-5 : tie.Need-returns-5
-returns-5 c = rw (left4 c.before.before, sym c.before.members-in.ensures ∙ not-true _ c.if5.true)
+returns-5 : tie.Need-returns-then-not-members_in
+returns-5 c = rw (left4 c.before.before, sym c.members_in.ensures ∙ not-true _ c.if-not-members_in.true-raw)
 
-returns-6 : tie.Need-returns-6
-returns-6 c = rw (left4 c.before.before, sym c.before.members-in.ensures ∙ not-false _ c.if5.false)
+returns-6 : tie.Need-returns
+returns-6 c = rw (left4 c.before.before, sym c.members_in.ensures ∙ not-false _ c.if-not-members_in.false-raw)
 
-pub value-refusal-spec : {M : Type 1} → statement M
-value-refusal-spec =
+pub value_refusal_spec : {M : Type 1} → statement M
+value_refusal_spec =
     tie.close
     (tie.spec
     returns

@@ -10,30 +10,28 @@ use borrow.Author.Rules.{rules}
 use Rattle.writer.proofs.write_table.Statement.{statement}
 use Rattle.writer.proofs.write_table.Tie as tie
 
-none : (c : tie.Else1) → table_refusal (table_bytes (table_in c.before.before.before.args.table)) ≡ 0
-none c = sym c.before.value-refusal.ensures ∙ c.if1.false
+none : (c : tie.Else-number-ne0) → table_refusal (table_bytes (table_in c.args.table)) ≡ 0
+none c = sym c.value_refusal-number.ensures ∙ c.if-number-ne0.false
 
-returns : tie.Need-returns
+returns : tie.Need-returns-then-number-ne0
 returns c =
-    let s = c.before.before.before in
-    let v = table_in s.args.table in
-    let r = value-refused v s.args.out.now _ c.before.value-refusal.ensures c.if1.true in
-    (r, as-found v s.args.out.now _ r c.if1.true)
+    let v = table_in c.args.table in
+    let r = value-refused v c.args.out.now _ c.value_refusal-number.ensures c.if-number-ne0.true in
+    (r, as-found v c.args.out.now _ r c.if-number-ne0.true)
 
-members-len-requires : tie.Need-members-len-requires
+members-len-requires : tie.Need-members_len-m-requires
 members-len-requires c κs = (kept _ (none c.before.before)).chords_few
 
-returns-2 : tie.Need-returns-2
+returns-2 : tie.Need-returns-then-out-t
 returns-2 c =
     let l = c.before in
     let p = l.before.before.before in
-    let s = p.before.before.before in
-    let v = table_in s.args.table in
-    let w = length-written s.args.table in
-    let r = buffer-short v s.args.out.now (none p) (omega (arith, l.members-len.ensures)) in
-    (r, as-found v s.args.out.now _ r (λ z. omega arith))
+    let v = table_in p.args.table in
+    let w = length-written p.args.table in
+    let r = buffer-short v p.args.out.now (none p) (omega (arith, l.members_len-m.ensures)) in
+    (r, as-found v p.args.out.now _ r (λ z. omega arith))
 
-put-table-requires : tie.Need-put-table-requires
+put-table-requires : tie.Need-put_table-requires
 put-table-requires c κs =
     let l = c.before.before in
     let k = kept _ (none l.before.before.before) in
@@ -41,23 +39,22 @@ put-table-requires c κs =
       kinds_few = k.kinds_few;
       chords_few = k.chords_few;
       all_sized = k.all_sized;
-      members = l.members-len.ensures;
-      room = c.before.if2.false;
+      members = l.members_len-m.ensures;
+      room = c.if-out-t.false;
     }
 
-returns-3 : tie.Need-returns-3
+returns-3 : tie.Need-returns
 returns-3 c =
     let b = c.before.before in
     let l = b.before.before.before in
     let p = l.before.before.before in
-    let s = p.before.before.before in
-    let v = table_in s.args.table in
-    let w = length-written s.args.table in
-    let r = none_refused v s.args.out.now (none p) (omega (arith, l.members-len.ensures)) in
-    (r, b.put-table.ensures ∙ all-written v s.args.out.now r)
+    let v = table_in p.args.table in
+    let w = length-written p.args.table in
+    let r = none_refused v p.args.out.now (none p) (omega (arith, l.members_len-m.ensures)) in
+    (r, b.put_table.ensures ∙ all-written v p.args.out.now r)
 
-pub write-table-spec : {M : Type 1} → statement M
-write-table-spec =
+pub write_table_spec : {M : Type 1} → statement M
+write_table_spec =
     tie.close
     (tie.spec
     (λ c κs. search rules)

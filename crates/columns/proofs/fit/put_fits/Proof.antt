@@ -5,44 +5,41 @@ use Rattle.columns.proofs.Told.{told-as, fitting-any, fitting-property, fitting-
 use Rattle.columns.proofs.fit.put_fits.Statement.{statement}
 use Rattle.columns.proofs.fit.put_fits.Tie as tie
 
-abbrev start : tie.After-shared-slice-known4 → tie.Start
+abbrev start : tie.After-shared_slice_known-4-1 → tie.Start
 start c = c.before.before.before.before
 
-put-kinds-requires : tie.Need-put-kinds-requires
+put-kinds-requires : tie.Need-put_kinds-requires
 put-kinds-requires c κs =
     let m = c.before in
     let s = start m.before.before in
-    (search rules, told-as (fitting-any _ _ _ _ _ m.enum_told.given.1) s.pre.1)
+    (search rules, told-as (fitting-any _ _ _ _ _ m.enum_told-1.given.1) s.requires.1)
 
-put-properties-requires : tie.Need-put-properties-requires
+put-properties-requires : tie.Need-put_properties-requires
 put-properties-requires c κs =
     let m = c.before in
     let s = start m.before.before in
-    (search rules, told-as (fitting-property _ _ _ _ _ m.enum-told2.given.1) s.pre.1)
+    (search rules, told-as (fitting-property _ _ _ _ _ m.enum_told-in-Property-1.given.1) s.requires.1)
 
-put-both-requires : tie.Need-put-both-requires
+put-both-requires : tie.Need-put_both-requires
 put-both-requires c κs =
     let m = c.before in
     let s = start m.before.before in
-    (search rules, told-as (fitting-both _ _ _ _ _ m.enum-told3.given.1) s.pre.1)
+    (search rules, told-as (fitting-both _ _ _ _ _ m.enum_told-in-Unit-1.given.1) s.requires.1)
 
-returns : tie.Need-returns
+returns : tie.Need-returns-in-Any
 returns c =
-    let m = c.before.before in
-    told-as (λ k. sym (fitting-any _ _ _ _ _ m.enum_told.given.1 k)) c.put-kinds.ensures
+    told-as (λ k. sym (fitting-any _ _ _ _ _ c.enum_told-1.given.1 k)) c.put_kinds.ensures
 
-returns-2 : tie.Need-returns-2
+returns-2 : tie.Need-returns-in-Property
 returns-2 c =
-    let m = c.before.before in
-    told-as (λ k. sym (fitting-property _ _ _ _ _ m.enum-told2.given.1 k)) c.put-properties.ensures
+    told-as (λ k. sym (fitting-property _ _ _ _ _ c.enum_told-in-Property-1.given.1 k)) c.put_properties.ensures
 
-returns-3 : tie.Need-returns-3
+returns-3 : tie.Need-returns-in-Unit
 returns-3 c =
-    let m = c.before.before in
-    told-as (λ k. sym (fitting-both _ _ _ _ _ m.enum-told3.given.1 k)) c.put_both.ensures
+    told-as (λ k. sym (fitting-both _ _ _ _ _ c.enum_told-in-Unit-1.given.1 k)) c.put_both.ensures
 
-pub put-fits-spec : {M : Type 1} → statement M
-put-fits-spec =
+pub put_fits_spec : {M : Type 1} → statement M
+put_fits_spec =
     tie.close
     (tie.spec
     (λ c. search rules)

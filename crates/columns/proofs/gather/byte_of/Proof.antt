@@ -9,43 +9,40 @@ use Rattle.columns.proofs.Bytes.{word_fits, byte_more}
 use Rattle.columns.proofs.gather.byte_of.Statement.{statement}
 use Rattle.columns.proofs.gather.byte_of.Tie as tie
 
-abbrev invariant-loop : tie.invariant-loop
+abbrev invariant-loop : tie.invariant-loop-i
 invariant-loop y at s₀ i₀ s i = (i ≤ 8) × (s ≡ word_of y at i)
 
-abbrev decreases-loop : tie.decreases-loop
+abbrev decreases-loop : tie.decreases-loop-i
 decreases-loop y at s₀ i₀ s i = 8 - i
 
 -- the word with one bit more
-turn : (c : tie.In-loop invariant-loop decreases-loop) → let p = c.before in
-    let a = p.before.args in
-    p.loop.s + get_or a.y.now (a.at + p.loop.i) 0 ≡ word_of a.y.now a.at (p.loop.i + 1)
+turn : (c : tie.In-loop-i invariant-loop decreases-loop) → let p = c.before in
+    let a = p.args in
+    p.loop-i.s + get_or a.y.now (a.at + p.loop-i.i) 0 ≡ word_of a.y.now a.at (p.loop-i.i + 1)
 turn c =
     let p = c.before in
-    let s = p.before in
-    let k = s.args.at + p.loop.i in
-    rw p.loop.invariant.1
-    (byte_more s.args.y.now s.args.at p.loop.i k refl (omega arith) (s.requires.2 k (omega arith)))
+    let k = p.args.at + p.loop-i.i in
+    rw p.loop-i.invariant.1
+    (byte_more p.args.y.now p.args.at p.loop-i.i k refl (omega arith) (p.requires.2 k (omega arith)))
 
-loop-holds : tie.Need-loop-init invariant-loop decreases-loop
+loop-holds : tie.Need-loop-i-init invariant-loop decreases-loop
 unfolding word_from
 loop-holds c = search rules
 
-add-s-2 : tie.Need-overflow-add-s-2 invariant-loop decreases-loop
+add-s-2 : tie.Need-overflow_add-s-in-loop-i invariant-loop decreases-loop
 add-s-2 c =
-    let p = c.before.before in
-    record { fits = rw (turn c.before) (word_fits _ _ (p.loop.i + 1) 8 (omega arith)) }
+    record { fits = rw (turn c.before) (word_fits _ _ (c.loop-i.i + 1) 8 (omega arith)) }
 
-loop-again : tie.Need-loop-preserved invariant-loop decreases-loop
+loop-again : tie.Need-loop-i-preserved invariant-loop decreases-loop
 loop-again c = (search rules, turn c.before)
 
 returns : tie.Need-returns invariant-loop decreases-loop
 returns c =
-    let p = c.before in
-    let z : p.loop.i ≡ 8 = omega arith in
-    rw z at p.loop.invariant.1
+    let z : c.loop-i.i ≡ 8 = omega arith in
+    rw z at c.loop-i.invariant.1
 
-pub byte-of-spec : {M : Type 1} → statement M
-byte-of-spec =
+pub byte_of_spec : {M : Type 1} → statement M
+byte_of_spec =
     tie.close
     (tie.spec
     invariant-loop

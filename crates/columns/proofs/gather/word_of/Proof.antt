@@ -8,41 +8,39 @@ use Rattle.columns.proofs.Bytes.{word_fits, eight-more}
 use Rattle.columns.proofs.gather.word_of.Statement.{statement}
 use Rattle.columns.proofs.gather.word_of.Tie as tie
 
-abbrev invariant-loop : tie.invariant-loop
+abbrev invariant-loop : tie.invariant-loop-p
 invariant-loop y w₀ p₀ w p = (p ≤ 64) × (p % 8 ≡ 0) × (w ≡ word_of y 0 p)
 
-abbrev decreases-loop : tie.decreases-loop
+abbrev decreases-loop : tie.decreases-loop-p
 decreases-loop y w₀ p₀ w p = 64 - p
 
 -- the word with eight bits more
 turn : (c : tie.After-wide invariant-loop decreases-loop) → let l = c.before.before.before in
-    l.loop.w + (c.wide.result * 2 ^ l.loop.p) % 2 ^ 64
-    ≡ word_of l.before.args.y.now 0 (l.loop.p + 8)
+    l.loop-p.w + (c.wide.result * 2 ^ l.loop-p.p) % 2 ^ 64
+    ≡ word_of l.args.y.now 0 (l.loop-p.p + 8)
 turn c =
     let l = c.before.before.before in
-    rw l.loop.invariant.2
-    (eight-more l.before.args.y.now l.loop.p _ (omega arith) (c.wide.ensures ∙ c.before.byte_of.ensures))
+    rw l.loop-p.invariant.2
+    (eight-more l.args.y.now l.loop-p.p _ (omega arith) (c.wide.ensures ∙ c.byte_of.ensures))
 
-loop-holds : tie.Need-loop-init invariant-loop decreases-loop
+loop-holds : tie.Need-loop-p-init invariant-loop decreases-loop
 unfolding word_from
 loop-holds c = search rules
 
-add-w : tie.Need-overflow-add-w invariant-loop decreases-loop
+add-w : tie.Need-overflow_add-w invariant-loop decreases-loop
 add-w c =
-    let l = c.before.before.before in
-    record { fits = rw (turn c) (word_fits _ 0 (l.loop.p + 8) 64 (omega arith)) }
+    record { fits = rw (turn c) (word_fits _ 0 (c.loop-p.p + 8) 64 (omega arith)) }
 
-loop-again : tie.Need-loop-preserved invariant-loop decreases-loop
+loop-again : tie.Need-loop-p-preserved invariant-loop decreases-loop
 loop-again c = (search rules, search rules, turn c)
 
 returns : tie.Need-returns invariant-loop decreases-loop
 returns c =
-    let l = c.before in
-    let z : l.loop.p ≡ 64 = omega arith in
-    rw z at l.loop.invariant.2
+    let z : c.loop-p.p ≡ 64 = omega arith in
+    rw z at c.loop-p.invariant.2
 
-pub word-of-spec : {M : Type 1} → statement M
-word-of-spec =
+pub word_of_spec : {M : Type 1} → statement M
+word_of_spec =
     tie.close
     (tie.spec
     invariant-loop

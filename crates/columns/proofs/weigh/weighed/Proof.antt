@@ -9,32 +9,32 @@ use Rattle.columns.proofs.Walks.{chosen_is}
 use Rattle.columns.proofs.weigh.weighed.Statement.{statement}
 use Rattle.columns.proofs.weigh.weighed.Tie as tie
 
-abbrev start : tie.After-rank → tie.Start
+abbrev start : tie.After-rank-r → tie.Start
 start c = c.before.before.before
 
-returns : tie.Need-returns
+returns : tie.Need-returns-then-best-r
 returns c =
     let a = (start c.before).args in
     sym
-    (better-later _ (rank_of (day_in a.keys.now) a.k) a.best (rw (← c.before.rank.ensures) c.if1.true))
+    (better-later _ (rank_of (day_in a.keys.now) a.k) a.best (rw (← c.rank-r.ensures) c.if-best-r.true))
 
-returns-2 : tie.Need-returns-2
+returns-2 : tie.Need-returns-then-is_in
 returns-2 c =
     let a = (start c.before.before.before).args in
     sym (better-unless _ (rank_of (day_in a.keys.now) a.k) a.best
-    (chosen_is a.chosen.now a.k true (sym c.if2.true ∙ c.before.is-in.ensures)))
+    (chosen_is a.chosen.now a.k true (sym c.if-is_in.true ∙ c.is_in.ensures)))
 
-returns-3 : tie.Need-returns-3
+returns-3 : tie.Need-returns
 returns-3 c =
     let e = c.before.before in
-    let r = e.before.rank in
+    let r = e.rank-r in
     let a = (start e.before).args in
     r.ensures ∙ sym (better-taken _ (rank_of (day_in a.keys.now) a.k) a.best
-    (chosen_is a.chosen.now a.k false (sym c.if2.false ∙ c.before.is-in.ensures))
-    (rw (← r.ensures) (omega (arith, e.if1.false))))
+    (chosen_is a.chosen.now a.k false (sym c.if-is_in.false ∙ c.is_in.ensures))
+    (rw (← r.ensures) (omega (arith, e.if-best-r.false))))
 
-pub weighed-spec : {M : Type 1} → statement M
-weighed-spec =
+pub weighed_spec : {M : Type 1} → statement M
+weighed_spec =
     tie.close
     (tie.spec
     (λ c κs. search rules)

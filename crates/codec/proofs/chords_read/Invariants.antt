@@ -1,0 +1,21 @@
+use mathlib.Core.Path.{◌≡◌, sym, ◌∙◌}
+use mathlib.Core.List.{map}
+use Prim.Native.Nat.{◌≤◌, ◌-◌}
+use native.Mathlib.Omega.{arith}
+use lib.ListN.{drop, replicate, get_or-map, length-map}
+use lib.Seq.{sets}
+use Rattle.model.specs.Tables.{no_chord}
+use Rattle.model.specs.Layout.{table_of}
+use Rattle.model.proofs.AcceptedChords.{table-ok}
+use Rattle.codec.specs.Views.{chord_for, empty_chord}
+use Rattle.model.proofs.Walks.{fill-next, fill_end}
+use borrow.Author.Rules.{rules}
+use Rattle.codec.proofs.chords_read.Given as goal
+
+abbrev pub invariant-loop-i : goal.invariant-loop-i
+invariant-loop-i l =
+    (l.i ≤ l.r) × (sets l.chords l.i (drop l.i (map chord_for (table_of l.table).chords))
+    ≡ sets (replicate 32 empty_chord) 0 (map chord_for (table_of l.table).chords))
+
+abbrev pub decreases-loop-i : goal.decreases-loop-i
+decreases-loop-i l = l.r - l.i

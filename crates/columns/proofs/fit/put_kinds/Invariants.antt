@@ -1,0 +1,15 @@
+use mathlib.Core.Path.{◌≡◌, refl}
+use Prim.Native.Nat.{◌+◌, ◌-◌, ◌≤◌}
+use native.Mathlib.Omega.{arith}
+use borrow.Author.Rules.{rules}
+use Rattle.columns.specs.Firsts.{of_kind}
+use Rattle.columns.specs.Words.{bit, Told}
+use Rattle.columns.proofs.Told.{told_more}
+use Rattle.columns.proofs.fit.put_kinds.Given as goal
+
+abbrev pub invariant-loop-i : goal.invariant-loop-i
+invariant-loop-i l =
+    (l.i ≤ l.from + 16) × Told (of_kind l.channels l.statuses l.want.channel l.want.status) l.at l.i l.y
+
+abbrev pub decreases-loop-i : goal.decreases-loop-i
+decreases-loop-i l = l.from + 16 - l.i

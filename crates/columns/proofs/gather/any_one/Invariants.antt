@@ -1,0 +1,16 @@
+use mathlib.Core.Bool.{◌||◌}
+use mathlib.Core.Path.{◌≡◌, refl}
+use Prim.Native.Nat.{◌≤◌, ◌-◌}
+use native.Mathlib.Omega.{arith}
+use borrow.Author.Rules.{rules}
+use Rattle.columns.specs.Firsts.{first_from, found}
+use Rattle.columns.specs.Words.{is_one}
+use Rattle.columns.proofs.Firsts.{found_turn, found-end}
+use Rattle.columns.proofs.gather.any_one.Given as goal
+
+abbrev pub invariant-loop-i : goal.invariant-loop-i
+invariant-loop-i l =
+    (l.i ≤ 64) × (found (first_from (is_one l.y) 0 64) ≡ (l.any || found (first_from (is_one l.y) l.i (64 - l.i))))
+
+abbrev pub decreases-loop-i : goal.decreases-loop-i
+decreases-loop-i l = 64 - l.i

@@ -1,0 +1,16 @@
+use mathlib.Core.Bool.{◌||◌}
+use mathlib.Core.Path.{◌≡◌, refl}
+use Prim.Native.Nat.{◌≤◌, ◌-◌}
+use native.Mathlib.Omega.{arith}
+use borrow.Author.Rules.{rules}
+use Rattle.columns.specs.Firsts.{first_from, found, of_day_before}
+use Rattle.columns.proofs.Firsts.{found_turn, found-end}
+use Rattle.columns.proofs.skip.any_before.Given as goal
+
+abbrev pub invariant-loop-i : goal.invariant-loop-i
+invariant-loop-i l =
+    (l.i ≤ l.to) × (found (first_from (of_day_before l.keys l.day) l.from (l.to - l.from))
+    ≡ (l.any || found (first_from (of_day_before l.keys l.day) l.i (l.to - l.i))))
+
+abbrev pub decreases-loop-i : goal.decreases-loop-i
+decreases-loop-i l = l.to - l.i

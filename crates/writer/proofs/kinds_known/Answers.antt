@@ -1,0 +1,15 @@
+-- `writer::kinds_known` meets its contract: the part that is tested holds the kinds.
+use Rattle.writer.proofs.Chords.{kinds-part}
+use mathlib.Core.Path.{◌≡◌, sym, ◌∙◌}
+use Prim.Native.Nat.{◌≤◌}
+use native.Mathlib.Omega.{arith}
+use lib.ListN.{length, length-map}
+use lib.Seq.{length-take-le}
+use Rattle.table.proofs.Headers.{kinds-below}
+use borrow.Author.Rules.{rules}
+use Rattle.writer.proofs.kinds_known.Goals as goal
+
+pub returns : goal.returns
+returns c =
+    let f : c.args.table.kinds_len ≤ length c.args.table.kinds = search rules in
+    c.all_below.ensures ∙ rw (kinds-below, kinds-part c.args.table f)

@@ -1,0 +1,18 @@
+use mathlib.Core.Path.{◌≡◌}
+use Prim.Native.Nat.{◌≤◌, ◌-◌, ◌+◌, ◌*◌}
+use native.Mathlib.Omega.{arith}
+use lib.ListN.{length, drop, get_or}
+use Rattle.model.specs.Layout.{written_members}
+use Rattle.codec.specs.Views.{table_in}
+use Rattle.writer.proofs.Chords.{none_left, zero_chord}
+use Rattle.writer.proofs.Writes.{members-left}
+use borrow.Author.Rules.{rules}
+use Rattle.writer.proofs.members_len.Given as goal
+
+abbrev pub invariant-loop-i : goal.invariant-loop-i
+invariant-loop-i l =
+    (l.i ≤ l.n) × (l.n ≡ l.table.chords_len) × (l.sum ≤ 255 * l.i) ×
+    (l.sum + length (written_members (drop l.i (table_in l.table).chords)) ≡ length (written_members (table_in l.table).chords))
+
+abbrev pub decreases-loop-i : goal.decreases-loop-i
+decreases-loop-i l = l.n - l.i

@@ -1,0 +1,21 @@
+use mathlib.Core.Path.{◌≡◌, refl, sym, ◌∙◌}
+use Prim.Native.Nat.{◌≤◌, ◌-◌, ◌+◌}
+use native.Mathlib.Omega.{arith}
+use lib.ListN.{length, drop, get_or}
+use lib.Seq.{sets, length-sets}
+use Rattle.model.specs.Layout.{written_members}
+use Rattle.codec.specs.Views.{chord_in, table_in}
+use Rattle.writer.proofs.Chords.{none_left, sized-at, zero_chord}
+use Rattle.writer.proofs.Writes.{members-left, members-next}
+use borrow.Author.Rules.{rules}
+use Rattle.writer.proofs.put_members.Given as goal
+
+abbrev pub invariant-loop-i : goal.invariant-loop-i
+invariant-loop-i l =
+    (l.i ≤ l.n) × (l.n ≡ l.table.chords_len) × (length l.out ≡ length l.initial.out)
+    × (l.next + length (written_members (drop l.i (table_in l.table).chords)) ≤ length l.initial.out)
+    × (sets l.out l.next (written_members (drop l.i (table_in l.table).chords))
+    ≡ sets l.initial.out l.at (written_members (table_in l.table).chords))
+
+abbrev pub decreases-loop-i : goal.decreases-loop-i
+decreases-loop-i l = l.n - l.i
