@@ -1,7 +1,7 @@
 -- Laws of a block that is passed over, since none of it comes before the best so far.
 use mathlib.Core.Path.{◌≡◌, refl}
 use mathlib.Core.Logic.{◌≢◌, inl, inr}
-use mathlib.Core.Bool.{Bool, true, false, ◌&&◌, ◌||◌}
+use mathlib.Core.Bool.{Bool, true, false, ◌&&◌}
 use mathlib.Core.List.{List}
 use Prim.Native.Nat.{ℕ, zero, suc, ◌+◌, ◌-◌, ◌/◌, ◌^◌, ◌<◌, ◌≤◌}
 use native.Mathlib.Omega.{arith}
@@ -60,7 +60,7 @@ module _ (day : ℕ → ℕ) where
   least-below p b i zero r = below_more i (i + 0) b (omega arith) r
   least-below p b i (suc n) r =
       let e : suc i + n ≡ i + suc n = omega arith in
-      rw (← e) (least-below p _ (suc i) n (better-below (p i) i b r))
+      rw (← e) (least-below p (better (p i) (rank_of day i) b) (suc i) n (better-below (p i) i b r))
 
   -- what is found in a block is below its end
   pub block-below : (p : ℕ → Bool) (b at from to r : ℕ) → at ≤ from → from ≤ to

@@ -1,5 +1,5 @@
 -- Laws of the least rank of those that pass: a turn, the end, two parts that meet, and what stays the best.
-use mathlib.Core.Path.{◌≡◌, refl, sym, ◌∙◌}
+use mathlib.Core.Path.{◌≡◌, refl, ◌∙◌}
 use mathlib.Core.Bool.{Bool, true, false, ◌&&◌, and-false}
 use mathlib.Core.List.{List}
 use Prim.Native.Nat.{ℕ, zero, suc, ◌+◌, ◌-◌, ◌*◌, ◌<◌, ◌≤◌}
@@ -71,7 +71,8 @@ module _ (day : ℕ → ℕ) where
         let y : i ≡ j = omega arith in
         rw (x, y)
     least-parts b i (suc m) l zero j e f = absurd (omega arith)
-    least-parts b i (suc m) l (suc n) j e f = least-parts _ (suc i) m l n j (omega arith) (omega arith)
+    least-parts b i (suc m) l (suc n) j e f =
+        least-parts (better (p i) (rank_of day i) b) (suc i) m l n j (omega arith) (omega arith)
 
     least-split : (b i j n : ℕ) → i ≤ j → j ≤ n
         → least_from day p b i (n - i) ≡ least_from day p (least_from day p b i (j - i)) j (n - j)

@@ -4,7 +4,7 @@ use mathlib.Core.Bool.{Bool, ◌&&◌, and-true}
 use mathlib.Core.List.{List}
 use Prim.Native.Nat.{ℕ, ◌+◌, ◌<◌}
 use native.Mathlib.Omega.{arith}
-use lib.ListN.{length, set, replicate, length-replicate, length-set}
+use lib.ListN.{set, replicate, length-replicate, length-set}
 use Rattle.model.proofs.Walks.{set_more}
 use Rattle.table.specs.declared.Equality.TheVariants as E
 use Rattle.columns.specs.declared.Want as DW

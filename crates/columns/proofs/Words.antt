@@ -1,7 +1,7 @@
 -- Laws of words of bits: their size, their parts, and their lowest bit.
 use mathlib.Core.Path.{◌≡◌, refl, ◌∙◌}
 use mathlib.Core.Logic.{◌≢◌, ⊎_elim}
-use mathlib.Core.Bool.{Bool, true, false, ◌&&◌}
+use mathlib.Core.Bool.{Bool, true, false}
 use Prim.Native.Nat.{ℕ, zero, suc, ◌+◌, ◌-◌, ◌*◌, ◌/◌, ◌%◌, ◌^◌, ◌<◌, ◌≤◌}
 use native.Mathlib.Nat.{pow-zero, two-pow-succ, one-mul, mul-add, add-mul-mod_self_right, mod-eq_of_lt}
 use native.Mathlib.Omega.{arith}
@@ -192,8 +192,8 @@ module _ (day : ℕ → ℕ) where
         λ a. rw (pow-zero 2, bit-clear (w - 1) x i n c) (bit-stays ((w - 1) / 2) x (suc i) n (omega arith)),
       )
 
-  pub bit-turn : (n w i k b x : ℕ) → better true (rank_of day k) b ≡ x → w ≢ 0 → w < 2 ^ n → i + count_trailing_zeros n w ≡ k
-      → Turn k b x n w i (count_trailing_zeros n w)
+  pub bit-turn : (n w i k b x : ℕ) → better true (rank_of day k) b ≡ x → w ≢ 0 → w < 2 ^ n
+      → i + count_trailing_zeros n w ≡ k → Turn k b x n w i (count_trailing_zeros n w)
   unfolding count_trailing_zeros
   bit-turn zero w i k b x q h l e = absurd (h (omega (arith, pow-zero 2)))
   bit-turn (suc n) w i k b x q h l e =

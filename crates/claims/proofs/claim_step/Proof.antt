@@ -15,24 +15,21 @@ few s =
     let l = (table-ok a.table.now s.requires.0.0).chord_few a.d.job.chord s.requires.0.1 in
     omega (arith, s.requires.1.0.1)
 
-element-copy-out-m : tie.Need-element-copy-out-m
+element-copy-out-m : tie.Need-bounds-j-k
 element-copy-out-m c = let l = few c.before.before in search rules
 
-claimed-by-requires : tie.Need-claimed-by-requires
+claimed-by-requires : tie.Need-claimed_by-requires
 claimed-by-requires c κs = let l = few c.before.before.before.before.before in search rules
 
 returns : tie.Need-returns
 returns c =
-    let w = c.before in
-    let g = w.before in
-    let s = g.before.before.before.before in
-    let a = s.args in
-    λ b ec ep em. c.claimed-by.ensures b ec em
-    ∙ claims-by (table_of a.table.now) b a.d a.k g.chord-len.result a.channel a.count a.pending
-    w.wakes.result s.requires.1.0.0 s.requires.1.0.1 g.chord-len.ensures w.wakes.ensures ec ep em
+    let a = c.args in
+    λ b ec ep em. c.claimed_by.ensures b ec em
+    ∙ claims-by (table_of a.table.now) b a.d a.k c.chord_len-size.result a.channel a.count a.pending
+    c.wakes-wakes.result c.requires.1.0.0 c.requires.1.0.1 c.chord_len-size.ensures c.wakes-wakes.ensures ec ep em
 
-pub claim-step-spec : {M : Type 1} → statement M
-claim-step-spec =
+pub claim_step_spec : {M : Type 1} → statement M
+claim_step_spec =
     tie.close
     (tie.spec
     (λ c. search rules)

@@ -17,39 +17,33 @@ few s =
     let l = (table-ok a.table.now s.requires.0.0).chord_few a.d.job.chord s.requires.0.1 in
     omega (arith, s.requires.1.1)
 
-element-copy-out-n : tie.Need-element-copy-out-n
+element-copy-out-n : tie.Need-bounds-j-k
 element-copy-out-n c = let l = few c.before.before in search rules
 
-add-if1 : tie.Need-overflow-add-if1
+add-if1 : tie.Need-overflow_add-k
 add-if1 c = let l = few c.before.before.before in search rules
 
-returns : tie.Need-returns
+returns : tie.Need-returns-then-k-m
 returns c =
-    let q = c.before in
-    let i = q.before in
-    let s = i.before.before.before.before in
-    let a = s.args in
+    let a = c.args in
     λ b e. rw c.works.ensures
-    (reverted (table_of a.table.now) b a.d a.k a.m _ q.next-chord.result s.requires.1.0 s.requires.1.1
-    (eq-eqb (a.k + 1) a.m i.if1.true) (q.next-chord.ensures b e))
+    (reverted (table_of a.table.now) b a.d a.k a.m _ c.next_chord-pass.result c.requires.1.0 c.requires.1.1
+    (eq-eqb (a.k + 1) a.m c.if-k-m.true) (c.next_chord-pass.ensures b e))
 
-add-t15 : tie.Need-overflow-add-t15
+add-t15 : tie.Need-overflow_add-k-2
 add-t15 c = let l = few c.before.before.before.before in search rules
 
-returns-2 : tie.Need-returns-2
+returns-2 : tie.Need-returns
 returns-2 c =
-    let q = c.before in
-    let i = q.before in
-    let s = i.before.before.before.before in
-    let a = s.args in
+    let a = c.args in
     let t = table_of a.table.now in
     let next = job_in_phase a.d.job (P.Revert (a.k + 1) a.m) in
-    λ b e. rw (c.works2.ensures, q.in-phase.ensures)
-    (reverted t b a.d a.k a.m _ next s.requires.1.0 s.requires.1.1
-    (ne_eqb (a.k + 1) a.m i.if1.false) (revert-on t a.d.job a.k a.m s.requires.1.0))
+    λ b e. rw (c.works-2.ensures, c.in_phase-next.ensures)
+    (reverted t b a.d a.k a.m _ next c.requires.1.0 c.requires.1.1
+    (ne_eqb (a.k + 1) a.m c.if-k-m.false) (revert-on t a.d.job a.k a.m c.requires.1.0))
 
-pub revert-step-spec : {M : Type 1} → statement M
-revert-step-spec =
+pub revert_step_spec : {M : Type 1} → statement M
+revert_step_spec =
     tie.close
     (tie.spec
     (λ c. search rules)

@@ -13,55 +13,55 @@ use borrow.Author.Rules.{rules}
 use Rattle.merger.proofs.kinds_agree.Statement.{statement}
 use Rattle.merger.proofs.kinds_agree.Tie as tie
 
-abbrev invariant-loop : tie.invariant-loop
+abbrev invariant-loop : tie.invariant-loop-i
 invariant-loop first map second i₀ i =
     (i ≤ length map) × (kinds_agree first map second ≡ kinds_agree first (drop i map) (drop i second))
 
-abbrev decreases-loop : tie.decreases-loop
+abbrev decreases-loop : tie.decreases-loop-i
 decreases-loop first map second i₀ i = length map - i
 
-abbrev start : tie.At-loop invariant-loop decreases-loop → tie.Start invariant-loop decreases-loop
+abbrev start : tie.At-loop-i invariant-loop decreases-loop → tie.Start invariant-loop decreases-loop
 start p = p.before.before.before.before
 
-shared-slice-read-joins-2 : tie.Need-shared-slice-read-joins-2 invariant-loop decreases-loop
+shared-slice-read-joins-2 : tie.Need-bounds-second-i invariant-loop decreases-loop
 shared-slice-read-joins-2 c =
-    omega (arith, (start c.before.before.before).pre.whole)
+    omega (arith, (start c.before.before.before).requires.whole)
 
 joins-requires : tie.Need-joins-requires invariant-loop decreases-loop
 joins-requires c κs =
     let p = c.before.before.before in
     let s = start p in
-    every-nth (λ m. is_new m || ltb m (length s.args.first.now)) s.args.map.now 0 s.pre.names p.loop.i
+    every-nth (λ m. is_new m || ltb m (length s.args.first.now)) s.args.map.now 0 s.requires.names p.loop-i.i
     (omega arith)
 
-returns : tie.Need-returns invariant-loop decreases-loop
+returns : tie.Need-returns-then-not-joins invariant-loop decreases-loop
 returns c =
     let p = c.before.before.before.before.before in
     let s = start p in
     let a = s.args in
-    let e = sym c.before.joins.ensures ∙ not-true _ c.if1.true in
-    let j = agree_at a.first.now a.map.now a.second.now p.loop.i (omega arith)
-    (omega (arith, s.pre.whole)) in
-    sym (p.loop.invariant.1 ∙ j ∙ rw e)
+    let e = sym c.joins.ensures ∙ not-true _ c.if-not-joins.true-raw in
+    let j = agree_at a.first.now a.map.now a.second.now p.loop-i.i (omega arith)
+    (omega (arith, s.requires.whole)) in
+    sym (p.loop-i.invariant.1 ∙ j ∙ rw e)
 
-loop-again : tie.Need-loop-preserved invariant-loop decreases-loop
+loop-again : tie.Need-loop-i-preserved invariant-loop decreases-loop
 loop-again c =
     let p = c.before.before.before.before.before in
     let s = start p in
     let a = s.args in
-    let e = sym c.before.joins.ensures ∙ not-false _ c.if1.false in
-    let j = agree_at a.first.now a.map.now a.second.now p.loop.i (omega arith)
-    (omega (arith, s.pre.whole)) in
-    (search rules, p.loop.invariant.1 ∙ j ∙ rw e)
+    let e = sym c.joins.ensures ∙ not-false _ c.if-not-joins.false-raw in
+    let j = agree_at a.first.now a.map.now a.second.now p.loop-i.i (omega arith)
+    (omega (arith, s.requires.whole)) in
+    (search rules, p.loop-i.invariant.1 ∙ j ∙ rw e)
 
-returns-2 : tie.Need-returns-2 invariant-loop decreases-loop
+returns-2 : tie.Need-returns invariant-loop decreases-loop
 returns-2 c =
     let p = c.before in
     let a = (start p).args in
-    sym (p.loop.invariant.1 ∙ agree-end a.first.now a.map.now a.second.now p.loop.i (omega arith))
+    sym (p.loop-i.invariant.1 ∙ agree-end a.first.now a.map.now a.second.now p.loop-i.i (omega arith))
 
-pub kinds-agree-spec : {M : Type 1} → statement M
-kinds-agree-spec =
+pub kinds_agree_spec : {M : Type 1} → statement M
+kinds_agree_spec =
     tie.close
     (tie.spec
     invariant-loop

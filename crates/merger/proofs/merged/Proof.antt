@@ -9,21 +9,21 @@ use borrow.Author.Rules.{rules}
 use Rattle.merger.proofs.merged.Statement.{statement}
 use Rattle.merger.proofs.merged.Tie as tie
 
-abbrev start : tie.After-kinds → tie.Start
+abbrev start : tie.After-kinds-part → tie.Start
 start c = c.before.before.before.before.before
 
 few : (s : tie.Start) → length s.args.map.now ≤ 16
 few s = omega (arith, s.requires.whole, (table-ok _ s.requires.chords.accepted).kinds_few)
 
-kinds-after-requires : tie.Need-kinds-after-requires
+kinds-after-requires : tie.Need-kinds_after-new_kinds-requires
 kinds-after-requires c κs =
     let s = start c in
-    record { whole = rw c.kinds.ensures s.pre.whole; room = s.pre.kinds }
+    record { whole = rw c.kinds-part.ensures s.requires.whole; room = s.requires.kinds }
 
 targets-requires : tie.Need-targets-requires
-targets-requires c κs = let s = start c.before in (few s, omega (arith, s.pre.kinds))
+targets-requires c κs = let s = start c.before in (few s, omega (arith, s.requires.kinds))
 
-count-new-requires : tie.Need-count-new-requires
+count-new-requires : tie.Need-count_new-requires
 count-new-requires c κs = few (start c.before.before.before)
 
 returns : tie.Need-returns
@@ -33,21 +33,21 @@ returns c =
     let kinds = mapped.before.before in
     let s = start kinds in
     let a = s.args in
-    let k : length a.first.kinds ≡ 16 = simp length-map at s.good.0.1.1.0.1.0.1 in
-    let h : length a.first.chords ≡ 32 = simp length-map at s.good.0.1.1.1.1.0.1.0.1 in
+    let k : length a.first.kinds ≡ 16 = search rules in
+    let h : length a.first.chords ≡ 32 = search rules in
     rw (
-      mapped.before.kinds-after.ensures,
-      kinds.kinds.ensures,
-      c.before.count-new.ensures,
-      after.chords-after.ensures,
+      mapped.kinds_after-new_kinds.ensures,
+      kinds.kinds-part.ensures,
+      c.count_new.ensures,
+      after.chords_after-new_chords.ensures,
       mapped.targets.ensures,
-      c.chords-len.ensures,
+      c.chords_len.ensures,
     )
-    (value-merged a.first a.second.now a.map.now s.pre.chords.accepted s.pre.whole
-    (omega (arith, s.pre.kinds)) (omega (arith, s.pre.chords.room)))
+    (value-merged a.first a.second.now a.map.now s.requires.chords.accepted s.requires.whole
+    (omega (arith, s.requires.kinds)) (omega (arith, s.requires.chords.room)))
 
-pub merged-spec : {M : Type 1} → statement M
-merged-spec =
+pub merged_spec : {M : Type 1} → statement M
+merged_spec =
     tie.close
     (tie.spec
     (λ c κs. search rules)

@@ -10,12 +10,11 @@ use Rattle.wakes.proofs.wake_step.Tie as tie
 
 -- the array of the choice has eight places
 eight : (s : tie.Start) → length s.args.d.job.chosen ≡ 8
-eight s = simp length-map at s.well-formed.1.0.1.1.1.1.1.1.1.1.0.1.1.1.1.1.0.1.0.1
+eight s = search rules
 
-woken-of-requires : tie.Need-woken-of-requires
+woken-of-requires : tie.Need-woken_of-x-requires
 woken-of-requires c κs =
-    let s = c.before.before in
-    (s.requires.0, (s.requires.1.1, rw s.requires.1.0))
+    (c.requires.0, (c.requires.1.1, rw c.requires.1.0))
 
 returns : tie.Need-returns
 returns c =
@@ -26,13 +25,13 @@ returns c =
     let s = w.before.before.before in
     let a = s.args in
     let few = (table-ok a.table.now s.requires.0.0).chord_few a.d.job.chord s.requires.0.1 in
-    λ b. rw (c.works.ensures, q.in-phase.ensures)
-    (wakes-is (table_of a.table.now) b a.d few (eight s) g.chord-len.result g.chord-len.ensures
-    f.freeing.result f.freeing.ensures.1 w.woken-of.result s.requires.1.0 w.woken-of.ensures
-    f.freeing.ensures.0)
+    λ b. rw (c.works.ensures, q.in_phase-next.ensures)
+    (wakes-is (table_of a.table.now) b a.d few (eight s) g.chord_len-n.result g.chord_len-n.ensures
+    f.freeing-phase.result f.freeing-phase.ensures.1 w.woken_of-x.result s.requires.1.0 w.woken_of-x.ensures
+    f.freeing-phase.ensures.0)
 
-pub wake-step-spec : {M : Type 1} → statement M
-wake-step-spec =
+pub wake_step_spec : {M : Type 1} → statement M
+wake_step_spec =
     tie.close
     (tie.spec
     woken-of-requires

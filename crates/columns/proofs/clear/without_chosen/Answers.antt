@@ -1,14 +1,11 @@
 -- `columns::clear::without_chosen` meets its contract: the first i are cleared. The measure is the number left.
-use mathlib.Core.Path.{◌≡◌, ◌∙◌}
-use mathlib.Core.Bool.{Bool, ◌&&◌}
-use Prim.Native.Nat.{ℕ, ◌-◌, ◌≤◌}
+use mathlib.Core.Path.{◌∙◌}
+use mathlib.Core.Bool.{◌&&◌}
 use native.Mathlib.Omega.{arith}
-use lib.ListN.{length, take}
+use lib.ListN.{take}
 use lib.Seq.{take_all}
-use mir.Facts.{Fits-16_64}
 use borrow.Author.Rules.{rules}
 use Rattle.columns.specs.Firsts.{unchosen}
-use Rattle.columns.specs.Words.{bit, word_from}
 use Rattle.columns.proofs.Cleared.{chosen_none, chosen_more}
 use Rattle.columns.proofs.clear.without_chosen.Goals as goal
 

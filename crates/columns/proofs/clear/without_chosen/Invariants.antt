@@ -1,14 +1,9 @@
-use mathlib.Core.Path.{◌≡◌, ◌∙◌}
+use mathlib.Core.Path.{◌≡◌}
 use mathlib.Core.Bool.{Bool, ◌&&◌}
 use Prim.Native.Nat.{ℕ, ◌-◌, ◌≤◌}
-use native.Mathlib.Omega.{arith}
 use lib.ListN.{length, take}
-use lib.Seq.{take_all}
-use mir.Facts.{Fits-16_64}
-use borrow.Author.Rules.{rules}
 use Rattle.columns.specs.Firsts.{unchosen}
 use Rattle.columns.specs.Words.{bit, word_from}
-use Rattle.columns.proofs.Cleared.{chosen_none, chosen_more}
 use Rattle.columns.proofs.clear.without_chosen.Given as goal
 
 abbrev pub invariant-loop-i : goal.invariant-loop-i

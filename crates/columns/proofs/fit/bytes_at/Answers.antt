@@ -1,10 +1,6 @@
 -- `columns::fit::bytes_at` meets its contract: the bytes below `from` are told.
-use mathlib.Core.Path.{◌≡◌}
-use Prim.Native.Nat.{◌-◌, ◌%◌, ◌≤◌}
 use native.Mathlib.Omega.{arith}
 use borrow.Author.Rules.{rules}
-use Rattle.columns.specs.Firsts.{fitting}
-use Rattle.columns.specs.Words.{Told}
 use Rattle.columns.proofs.Told.{told_none}
 use Rattle.columns.proofs.fit.bytes_at.Goals as goal
 

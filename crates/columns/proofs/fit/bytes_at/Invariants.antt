@@ -1,10 +1,7 @@
 use mathlib.Core.Path.{◌≡◌}
 use Prim.Native.Nat.{◌-◌, ◌%◌, ◌≤◌}
-use native.Mathlib.Omega.{arith}
-use borrow.Author.Rules.{rules}
 use Rattle.columns.specs.Firsts.{fitting}
 use Rattle.columns.specs.Words.{Told}
-use Rattle.columns.proofs.Told.{told_none}
 use Rattle.columns.proofs.fit.bytes_at.Given as goal
 
 abbrev pub invariant-loop-from : goal.invariant-loop-from

@@ -1,10 +1,10 @@
 -- `columns::fit::put_kinds` meets its contract: the bytes below i are told.
 use mathlib.Core.Path.{◌≡◌, refl}
-use Prim.Native.Nat.{◌+◌, ◌-◌, ◌≤◌}
+use Prim.Native.Nat.{◌+◌}
 use native.Mathlib.Omega.{arith}
 use borrow.Author.Rules.{rules}
 use Rattle.columns.specs.Firsts.{of_kind}
-use Rattle.columns.specs.Words.{bit, Told}
+use Rattle.columns.specs.Words.{bit}
 use Rattle.columns.proofs.Told.{told_more}
 use Rattle.columns.proofs.fit.put_kinds.Goals as goal
 

@@ -1,10 +1,6 @@
-use mathlib.Core.Path.{◌≡◌, refl}
 use Prim.Native.Nat.{◌+◌, ◌-◌, ◌≤◌}
-use native.Mathlib.Omega.{arith}
-use borrow.Author.Rules.{rules}
 use Rattle.columns.specs.Firsts.{of_kind}
-use Rattle.columns.specs.Words.{bit, Told}
-use Rattle.columns.proofs.Told.{told_more}
+use Rattle.columns.specs.Words.{Told}
 use Rattle.columns.proofs.fit.put_kinds.Given as goal
 
 abbrev pub invariant-loop-i : goal.invariant-loop-i

@@ -1,11 +1,10 @@
 -- `columns::fit::put_properties` meets its contract: the bytes below i are told.
 use mathlib.Core.Path.{◌≡◌, refl}
-use mathlib.Core.Bool.{◌&&◌}
-use Prim.Native.Nat.{◌+◌, ◌-◌, ◌≤◌}
+use Prim.Native.Nat.{◌+◌}
 use native.Mathlib.Omega.{arith}
 use borrow.Author.Rules.{rules}
 use Rattle.columns.specs.Firsts.{of_kind, of_property}
-use Rattle.columns.specs.Words.{bit, Told}
+use Rattle.columns.specs.Words.{bit}
 use Rattle.columns.proofs.Told.{told_more}
 use Rattle.columns.proofs.fit.put_properties.Goals as goal
 

@@ -1,10 +1,7 @@
 -- `columns::gather::any_one` meets its contract: what is found so far, or in what is left.
-use mathlib.Core.Bool.{◌||◌}
-use mathlib.Core.Path.{◌≡◌, refl}
-use Prim.Native.Nat.{◌≤◌, ◌-◌}
+use mathlib.Core.Path.{refl}
 use native.Mathlib.Omega.{arith}
 use borrow.Author.Rules.{rules}
-use Rattle.columns.specs.Firsts.{first_from, found}
 use Rattle.columns.specs.Words.{is_one}
 use Rattle.columns.proofs.Firsts.{found_turn, found-end}
 use Rattle.columns.proofs.gather.any_one.Goals as goal

@@ -1,10 +1,8 @@
 -- `columns::gather::low_bits` meets its contract: a remainder.
-use mathlib.Core.Path.{◌≡◌, sym}
-use Prim.Native.Nat.{◌^◌}
+use mathlib.Core.Path.{sym}
 use native.Mathlib.Nat.{mod-eq_of_lt}
 use native.Mathlib.Omega.{arith}
 use lib.Pow.{pow_pos}
-use borrow.Author.Rules.{rules}
 use Rattle.columns.proofs.Words.{one_shifted}
 use Rattle.columns.proofs.gather.low_bits.Goals as goal
 

@@ -1,8 +1,5 @@
 -- `columns::gather::marks` meets its contract: the bytes below i are written.
-use mathlib.Core.Path.{◌≡◌}
-use Prim.Native.Nat.{ℕ, ◌-◌, ◌<◌, ◌≤◌}
 use native.Mathlib.Omega.{arith}
-use lib.ListN.{length, get_or}
 use borrow.Author.Rules.{rules}
 use Rattle.model.proofs.Walks.{set_more}
 use Rattle.columns.specs.Words.{bit, is_one, placed}

@@ -1,11 +1,7 @@
 use mathlib.Core.Path.{◌≡◌}
 use Prim.Native.Nat.{ℕ, ◌-◌, ◌<◌, ◌≤◌}
-use native.Mathlib.Omega.{arith}
 use lib.ListN.{length, get_or}
-use borrow.Author.Rules.{rules}
-use Rattle.model.proofs.Walks.{set_more}
-use Rattle.columns.specs.Words.{bit, is_one, placed}
-use Rattle.columns.proofs.Bytes.{placed-is}
+use Rattle.columns.specs.Words.{is_one, placed}
 use Rattle.columns.proofs.gather.marks.Given as goal
 
 abbrev pub invariant-loop-i : goal.invariant-loop-i

@@ -1,10 +1,8 @@
 -- `columns::skip::any_before` meets its contract: what is found so far, or in what is left.
-use mathlib.Core.Bool.{◌||◌}
-use mathlib.Core.Path.{◌≡◌, refl}
-use Prim.Native.Nat.{◌≤◌, ◌-◌}
+use mathlib.Core.Path.{refl}
 use native.Mathlib.Omega.{arith}
 use borrow.Author.Rules.{rules}
-use Rattle.columns.specs.Firsts.{first_from, found, of_day_before}
+use Rattle.columns.specs.Firsts.{of_day_before}
 use Rattle.columns.proofs.Firsts.{found_turn, found-end}
 use Rattle.columns.proofs.skip.any_before.Goals as goal
 

@@ -1,10 +1,7 @@
 use mathlib.Core.Bool.{◌||◌}
-use mathlib.Core.Path.{◌≡◌, refl}
+use mathlib.Core.Path.{◌≡◌}
 use Prim.Native.Nat.{◌≤◌, ◌-◌}
-use native.Mathlib.Omega.{arith}
-use borrow.Author.Rules.{rules}
 use Rattle.columns.specs.Firsts.{first_from, found, of_kind}
-use Rattle.columns.proofs.Firsts.{found_turn, found-end}
 use Rattle.columns.proofs.skip.any_in.Given as goal
 
 abbrev pub invariant-loop-i : goal.invariant-loop-i

@@ -4,7 +4,6 @@ use Prim.Native.Nat.{◌+◌, ◌-◌}
 use native.Mathlib.Omega.{arith}
 use borrow.Author.Rules.{rules}
 use Rattle.model.proofs.Tests.{by-range}
-use Rattle.columns.specs.Firsts.{Skipped, of_kind}
 use Rattle.columns.proofs.Firsts.{not_found, none_passes}
 use Rattle.columns.proofs.skip.next_block.Goals as goal
 

@@ -1,10 +1,5 @@
-use mathlib.Core.Path.{sym, ◌∙◌}
-use Prim.Native.Nat.{◌+◌, ◌-◌}
-use native.Mathlib.Omega.{arith}
-use borrow.Author.Rules.{rules}
-use Rattle.model.proofs.Tests.{by-range}
+use Prim.Native.Nat.{◌-◌}
 use Rattle.columns.specs.Firsts.{Skipped, of_kind}
-use Rattle.columns.proofs.Firsts.{not_found, none_passes}
 use Rattle.columns.proofs.skip.next_block.Given as goal
 
 abbrev pub invariant-loop-at : goal.invariant-loop-at

@@ -1,10 +1,7 @@
 -- `columns::weigh::is_in` meets its contract: what is left decides. The measure is the number left.
-use mathlib.Core.Path.{◌≡◌, sym, ◌∙◌}
-use Prim.Native.Nat.{◌≤◌, ◌-◌}
+use mathlib.Core.Path.{sym, ◌∙◌}
 use native.Mathlib.Omega.{arith}
-use lib.ListN.{length, drop}
 use borrow.Author.Rules.{rules}
-use Rattle.model.specs.Basics.{is_in}
 use Rattle.model.proofs.Walks.{in-here, in-next, in-none}
 use Rattle.columns.proofs.weigh.is_in.Goals as goal
 

@@ -1,8 +1,5 @@
 -- `columns::weigh::rank` meets its contract. A day is a number of 32 bits.
 use mathlib.Core.Path.{refl}
-use native.Mathlib.Omega.{arith}
-use Prim.Native.Nat.{◌+◌}
-use borrow.Author.Rules.{rules}
 use Rattle.columns.proofs.Ranks.{rank_is}
 use Rattle.columns.proofs.weigh.rank.Goals as goal
 

@@ -9,17 +9,12 @@ use Rattle.state.specs.declared.Said.TheVariants as W
 use Rattle.state.specs.declared.Turn.TheVariants as U
 use Rattle.state.specs.declared.Change.TheVariants as G
 use Rattle.state.specs.Builders.{works_by}
-use Rattle.claims.proofs.claims_to.Statement.{statement}
-use Rattle.claims.proofs.claims_to.Tie as tie
+use Rattle.claims.proofs.claims_to.Goals as goal
 
 claims : (d : DD.Sender) (i j : DJ.Job) (m : ℕ) (e : DE.Effect) → i ≡ j
     → e ≡ works_by d i (W.Claimed m) (G.Turn m U.Claims) → e ≡ works_by d j (W.Claimed m) (G.Turn m U.Claims)
 claims d i j m e same works = works ∙ ap (λ x. works_by d x (W.Claimed m) (G.Turn m U.Claims)) same
 
-returns : tie.Need-returns
+pub returns : goal.returns
 returns c =
-    let k = c.before in
-    claims k.before.before.args.d _ _ k.before.before.args.m _ k.in-phase.ensures c.works.ensures
-
-pub claims-to-spec : {M : Type 1} → statement M
-claims-to-spec = tie.close (tie.spec (λ c κs. search rules) (λ c κs. search rules) returns)
+    claims c.args.d _ _ c.args.m _ c.in_phase-next.ensures c.works.ensures
