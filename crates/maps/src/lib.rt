@@ -4,7 +4,7 @@
 
 ghost use Rattle.std.specs.Prelude.{◌≡◌, ◌<◌, length};
 ghost use Rattle.model.specs.Layout.{table_refusal, table_of};
-ghost use Rattle.io.specs.Counts.{IsPrefixLen};
+ghost use Rattle.texts.specs.Counts.{IsPrefixLen};
 
 use texts::{
     Loaded, complain, complain_number, complain_refused, is_same, least, none_loaded, past,
@@ -60,20 +60,20 @@ fn byte_of(word: &[u8]) -> usize {
 }
 
 // What follows `the map` in a line about one of its words, which count from 1.
-fn complain_word(number: u64) {
-    complain_number(b": word ", number, b": ");
+fn complain_word(err: &impl Print, number: u64) {
+    complain_number(err, b": word ", number, b": ");
 }
 
-fn wrong_word(number: u64, word: &[u8]) {
-    complain(b"the map");
-    complain_word(number);
-    complain(b"expected a number or new, not ");
-    complain(word);
-    complain(b"\n");
+fn wrong_word(err: &impl Print, number: u64, word: &[u8]) {
+    complain(err, b"the map");
+    complain_word(err, number);
+    complain(err, b"expected a number or new, not ");
+    complain(err, word);
+    complain(err, b"\n");
 }
 
 // The map's bytes at the start of a buffer, one for each word, as many as it holds.
-pub fn read_map(text: &[u8], map: &mut [u8]) -> Loaded
+pub fn read_map(err: &impl Print, text: &[u8], map: &mut [u8]) -> Loaded
     ensures { IsPrefixLen result.len map.new }
 {
     let mut at: usize = 0;
@@ -85,7 +85,7 @@ pub fn read_map(text: &[u8], map: &mut [u8]) -> Loaded
         }
         let m = byte_of(word);
         if 255 < m {
-            wrong_word((n as u64) + 1, word);
+            wrong_word(err, (n as u64) + 1, word);
             return none_loaded();
         }
         map[n] = m as u8;
@@ -97,19 +97,19 @@ pub fn read_map(text: &[u8], map: &mut [u8]) -> Loaded
 
 // A merge that is turned away, in words.
 
-fn complain_some(ahead: &[u8], n: u64, one: &[u8]) {
-    complain_number(ahead, n, one);
+fn complain_some(err: &impl Print, ahead: &[u8], n: u64, one: &[u8]) {
+    complain_number(err, ahead, n, one);
     if n != 1 {
-        complain(b"s");
+        complain(err, b"s");
     }
 }
 
-fn complain_kind(sync: bool) {
+fn complain_kind(err: &impl Print, sync: bool) {
     if sync {
-        complain(b"waiting");
+        complain(err, b"waiting");
         return;
     }
-    complain(b"leave");
+    complain(err, b"leave");
 }
 
 // The place where a word of the text starts, or the blanks before it.
@@ -137,22 +137,29 @@ fn first_with(map: &[u8], m: u8, i: u8) -> u8
     i
 }
 
-fn complain_taken(i: u8, m: u8, j: u8) {
-    complain_word((i as u64) + 1);
-    complain_number(b"tray ", m as u64, b" of the first is taken already");
-    complain_number(b" by word ", (j as u64) + 1, b"");
+fn complain_taken(err: &impl Print, i: u8, m: u8, j: u8) {
+    complain_word(err, (i as u64) + 1);
+    complain_number(err, b"tray ", m as u64, b" of the first is taken already");
+    complain_number(err, b" by word ", (j as u64) + 1, b"");
 }
 
-fn complain_kinds(i: u8, m: u8, own: bool, other: bool) {
-    complain_word((i as u64) + 1);
-    complain_number(b"tray ", m as u64, b" of the first is ");
-    complain_kind(own);
-    complain_number(b", tray ", i as u64, b" of the second ");
-    complain_kind(other);
+fn complain_kinds(err: &impl Print, i: u8, m: u8, own: bool, other: bool) {
+    complain_word(err, (i as u64) + 1);
+    complain_number(err, b"tray ", m as u64, b" of the first is ");
+    complain_kind(err, own);
+    complain_number(err, b", tray ", i as u64, b" of the second ");
+    complain_kind(err, other);
 }
 
 // What is wrong with a word of the map, and whether anything is.
-fn complain_at(first: &[u8], second: &[u8], map: &[u8], text: &[u8], i: u8) -> bool
+fn complain_at(
+    err: &impl Print,
+    first: &[u8],
+    second: &[u8],
+    map: &[u8],
+    text: &[u8],
+    i: u8,
+) -> bool
     requires first_value { (table_refusal first.now ≡ 0) × (table_refusal second.now ≡ 0) }
     requires map_len { length map.now ≡ length (table_of second.now).kinds }
     requires i_in_bounds { i < length (table_of second.now).kinds }
@@ -162,14 +169,14 @@ fn complain_at(first: &[u8], second: &[u8], map: &[u8], text: &[u8], i: u8) -> b
         return false;
     }
     if table::channels_len(first) <= m {
-        complain_word((i as u64) + 1);
-        complain(b"the first table has no tray ");
-        complain(word_at(text, place_of(text, i)));
+        complain_word(err, (i as u64) + 1);
+        complain(err, b"the first table has no tray ");
+        complain(err, word_at(text, place_of(text, i)));
         return true;
     }
     let j = first_with(map, m, i);
     if j < i {
-        complain_taken(i, m, j);
+        complain_taken(err, i, m, j);
         return true;
     }
     let own = chords::is_sync(first, m);
@@ -177,19 +184,19 @@ fn complain_at(first: &[u8], second: &[u8], map: &[u8], text: &[u8], i: u8) -> b
     if own == other {
         return false;
     }
-    complain_kinds(i, m, own, other);
+    complain_kinds(err, i, m, own, other);
     true
 }
 
 // What is wrong with the first word that is wrong.
-fn complain_words(first: &[u8], second: &[u8], map: &[u8], text: &[u8])
+fn complain_words(err: &impl Print, first: &[u8], second: &[u8], map: &[u8], text: &[u8])
     requires first_value { (table_refusal first.now ≡ 0) × (table_refusal second.now ≡ 0) }
     requires map_len { length map.now ≡ length (table_of second.now).kinds }
 {
     let n = table::channels_len(second);
     let mut i: u8 = 0;
     while i < n {
-        if complain_at(first, second, map, text, i) {
+        if complain_at(err, first, second, map, text, i) {
             return;
         }
         i += 1;
@@ -197,47 +204,47 @@ fn complain_words(first: &[u8], second: &[u8], map: &[u8], text: &[u8])
 }
 
 // The ground of 17.
-fn complain_map(first: &[u8], second: &[u8], map: &[u8], text: &[u8])
+fn complain_map(err: &impl Print, first: &[u8], second: &[u8], map: &[u8], text: &[u8])
     requires { (table_refusal first.now ≡ 0) × (table_refusal second.now ≡ 0) }
 {
-    complain(b"the map");
+    complain(err, b"the map");
     let n = table::channels_len(second) as usize;
     if map.len() != n {
-        complain_some(b" has ", map.len() as u64, b" word");
-        complain_some(b", the second table ", n as u64, b" tray");
+        complain_some(err, b" has ", map.len() as u64, b" word");
+        complain_some(err, b", the second table ", n as u64, b" tray");
         return;
     }
-    complain_words(first, second, map, text);
+    complain_words(err, first, second, map, text);
 }
 
 // The ground of 18: the rules, or else the trays.
-fn complain_limits(first: &[u8], second: &[u8])
+fn complain_limits(err: &impl Print, first: &[u8], second: &[u8])
     requires { (table_refusal first.now ≡ 0) × (table_refusal second.now ≡ 0) }
 {
-    complain(b"the merged table would have more than ");
+    complain(err, b"the merged table would have more than ");
     let rules = (table::chords_len(first) as u64) + (table::chords_len(second) as u64);
     if 32 < rules {
-        complain(b"32 rules");
+        complain(err, b"32 rules");
         return;
     }
-    complain(b"16 trays");
+    complain(err, b"16 trays");
 }
 
 // The line for a merge that a number turns away.
-pub fn explain(first: &[u8], second: &[u8], map: &[u8], text: &[u8], number: u8) {
+pub fn explain(err: &impl Print, first: &[u8], second: &[u8], map: &[u8], text: &[u8], number: u8) {
     if table::table_refusal(first) != 0 {
-        table_refused(number, b"the first table: ");
+        table_refused(err, number, b"the first table: ");
         return;
     }
     if table::table_refusal(second) != 0 {
-        table_refused(number, b"the second table: ");
+        table_refused(err, number, b"the second table: ");
         return;
     }
-    complain_refused(number);
+    complain_refused(err, number);
     if number == 17 {
-        complain_map(first, second, map, text);
+        complain_map(err, first, second, map, text);
     } else {
-        complain_limits(first, second);
+        complain_limits(err, first, second);
     }
-    complain(b"\n");
+    complain(err, b"\n");
 }

@@ -5,7 +5,7 @@ use Prim.Native.Nat.{ℕ, suc, ◌+◌, ◌≤◌}
 use native.Mathlib.Omega.{arith}
 use lib.ListN.{length, get_or, take, drop, replicate, length-map, length-append}
 use lib.Seq.{sets, sets-eq, length-take-le}
-use Rattle.model.specs.Tables.{Chord, Table, no_chord}
+use Rattle.model.specs.Tables.{Chord, no_chord}
 use Rattle.model.specs.Basics.{flag}
 use Rattle.model.specs.Layout.{table_refusal, table_of}
 use Rattle.model.proofs.Parts.{map-sets, stored-reads}

@@ -16,7 +16,6 @@ use Rattle.model.specs.Boards.{Board, Sent, Sender, Message, message_at, no_mess
 use Rattle.model.specs.Boards.{working, Job, is_idle, State, channel_of, blocked}
 use Rattle.model.specs.Effects.{none, turn, Change, records, signals, matches_after}
 use Rattle.model.specs.Jobs.{new_pass}
-use Rattle.model.specs.Steps.{more, resumed}
 use Rattle.model.specs.Holdings.{Holds}
 use Rattle.model.specs.Shares.{has_room, one_more}
 use Rattle.model.specs.Adds.{added, new_sender, new_message, cents_ok, day_open, add_refusal}

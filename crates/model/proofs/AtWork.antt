@@ -9,7 +9,7 @@ use lib.ListN.{length, get_or}
 use native.Mathlib.Omega.{arith}
 use Rattle.model.specs.Basics.{is_in}
 use Rattle.model.specs.Tables.{Table, is_sync}
-use Rattle.model.specs.Boards.{Board, Job, Phase, sender_at, working, signal, claimed, State, channel_of, is_idle}
+use Rattle.model.specs.Boards.{Board, Job, Phase, sender_at, working, claimed, State, channel_of, is_idle}
 use Rattle.model.specs.Boards.{Sender, message_at, consumed, woken, Message}
 use Rattle.model.specs.Effects.{Change, none, turn, claims, frees, consumes, wakes_by, resumes, records}
 use Rattle.model.specs.Effects.{signals, Turn, Effect, apply}
@@ -20,7 +20,7 @@ use Rattle.model.proofs.Tests.{never}
 use Rattle.model.proofs.Words.{is_record}
 use Rattle.model.proofs.Frame.{messages-count}
 use Rattle.model.proofs.Grows.{Turns, status_before, Lawful, Grows, apart}
-use Rattle.model.proofs.Passage.{TurnsTo, on_board, grows, step-passage}
+use Rattle.model.proofs.Passage.{TurnsTo, grows, step-passage}
 use Rattle.model.proofs.Phases.{turn-wakes, is_resume, still, signalling}
 use Rattle.model.proofs.Local.{JobAt, PlacedAt, pass-ok, rests-ok, SenderOk, sender-on, with-state, ends-ok}
 use Rattle.model.proofs.Holding.{HoldingKept}

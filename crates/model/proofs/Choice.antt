@@ -17,7 +17,6 @@ use Rattle.model.proofs.Tests.{never, both, and, same?}
 use Rattle.model.proofs.Oldest.{before-not, oldest-none, oldest-at, oldest-first}
 use Rattle.model.proofs.Lists.{first_passes, first-before, not_in, none_of}
 use Rattle.model.proofs.Lists.{snoc-all, snoc-one}
-use Rattle.model.proofs.Passage.{on_board}
 use Rattle.model.proofs.Local.{Selection}
 
 -- alike, by its two laws

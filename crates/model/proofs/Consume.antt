@@ -11,7 +11,7 @@ use lib.ListN.{get_or, length}
 use native.Mathlib.Omega.{arith}
 use Rattle.model.specs.Basics.{is_in}
 use Rattle.model.specs.Tables.{Table, is_sync}
-use Rattle.model.specs.Boards.{Board, Job, consume, Sender, message_at, consumed, sender_at, match_at, signal}
+use Rattle.model.specs.Boards.{Board, Job, consume, Sender, message_at, consumed, sender_at, match_at}
 use Rattle.model.specs.Boards.{State, Phase, working, tell, channel_of, idle, idle_sender}
 use Rattle.model.specs.Effects.{consumes, Effect, Consumed, turn, apply}
 use Rattle.model.specs.Jobs.{in_job, in_phase, job_end}

@@ -17,7 +17,7 @@ use Rattle.model.specs.Boards.{sender_at, working, blocked}
 use Rattle.model.specs.Effects.{Change, Turn, resumes, none, turn, records, signals}
 use Rattle.model.specs.Jobs.{pass_from, job_end, in_job, ends_by, sync_end, waker_end, new_pass}
 use Rattle.model.specs.Looks.{subject_place, choice, fits}
-use Rattle.model.specs.Steps.{rests_then, resumed}
+use Rattle.model.specs.Steps.{rests_then}
 use Rattle.model.proofs.Tests.{never, and, no_true, other-false}
 use Rattle.model.proofs.Lists.{is_in-nth, first-in, nth-is_in}
 use Rattle.model.proofs.Pigeon.{one_left}

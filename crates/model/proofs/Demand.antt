@@ -22,9 +22,8 @@ use Rattle.model.specs.Demands.{Demand3}
 use Rattle.model.proofs.Tests.{never}
 use Rattle.model.proofs.Lists.{every-nth}
 use Rattle.model.proofs.AcceptedChords.{TableOk, table-ok}
-use Rattle.model.proofs.Written.{ms, t}
+use Rattle.model.proofs.Written.{ms}
 use Rattle.model.proofs.Words.{answered-said}
-use Rattle.model.proofs.Passage.{same}
 use Rattle.model.proofs.Local.{Waits, StateOk}
 use Rattle.model.proofs.Matches.{Unmatched}
 use Rattle.model.proofs.Answering.{AnswerDue, has_reply, has_match, has_signal, will_consume, will_tell}

@@ -15,7 +15,7 @@ use Rattle.model.proofs.Tests.{same?, never}
 use Rattle.model.proofs.Lists.{is_in-nth}
 use Rattle.model.proofs.Words.{is_record}
 use Rattle.model.proofs.Grows.{apart}
-use Rattle.model.proofs.Passage.{on_board, Passage, grows, match_is, MatchIs, old_match, new_match}
+use Rattle.model.proofs.Passage.{Passage, grows, match_is, MatchIs, old_match, new_match}
 use Rattle.model.proofs.Phases.{still}
 use Rattle.model.proofs.Holding.{Holding}
 

@@ -14,8 +14,6 @@ use Rattle.model.specs.Boards.{Board, channel_of, message_at, Phase, look, claim
 use Rattle.model.specs.Boards.{free, signal, pass_end, backoff, Job, sender_at, working, woken, Sender}
 use Rattle.model.specs.Effects.{Change, Turn, resumes, claims, frees, consumes, wakes_by}
 use Rattle.model.specs.Looks.{alike}
-use Rattle.model.specs.Steps.{resumed}
-use Rattle.model.specs.Pools.{meets}
 use Rattle.model.proofs.Tests.{same?}
 use Rattle.model.proofs.Pigeon.{found}
 use Rattle.model.proofs.Grows.{Grows, status_before, apart}

@@ -17,7 +17,6 @@ use Rattle.model.specs.Boards.{Status, pending, Message, no_message}
 use Rattle.model.specs.Effects.{Turn, Change, none, turn, records, signals, claims, turned, status_after}
 use Rattle.model.specs.Effects.{match_after, waker_after, matches_after, frees, consumes, wakes_by, resumes}
 use Rattle.model.specs.Effects.{Effect, apply}
-use Rattle.model.specs.Steps.{more}
 use Rattle.model.specs.Demands.{SameButSignal}
 use Rattle.model.proofs.Tests.{same?, never, or_right, and}
 use Rattle.model.proofs.Frame.{messages-count, messages-at, senders-at, sender_after, own_at, other_at}

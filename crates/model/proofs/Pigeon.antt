@@ -9,7 +9,6 @@ use lib.Dec.{eqb}
 use lib.ListN.{length, get_or}
 use native.Mathlib.Omega.{arith}
 use Rattle.model.specs.Basics.{pick, first_by, is_in}
-use Rattle.model.specs.Tables.{size}
 use Rattle.model.proofs.Tests.{same?, never, both}
 use Rattle.model.proofs.Lists.{is_in-nth, first-in, first_passes}
 

@@ -3,7 +3,7 @@ use mathlib.Core.Path.{◌≡◌, ap, sym, refl, ◌∙◌}
 use mathlib.Core.Logic.{inl, ◌≢◌, ◌⊎◌, inr}
 use mathlib.Core.Bool.{Bool, true, false}
 use mathlib.Core.List.{List}
-use Prim.Native.Nat.{◌-◌, ℕ, zero, suc}
+use Prim.Native.Nat.{ℕ, zero, suc}
 use lib.ListN.{length, get_or}
 use Rattle.model.specs.Tables.{Table}
 use Rattle.model.specs.Boards.{woken, Phase, working, Board, Sender, Message}

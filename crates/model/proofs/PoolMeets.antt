@@ -11,11 +11,9 @@ use Rattle.model.specs.Basics.{is_in}
 use Rattle.model.specs.Tables.{Table, chord_at}
 use Rattle.model.specs.Boards.{Board, Sent, message_at, sender_at, no_sent, no_message}
 use Rattle.model.specs.Looks.{alike}
-use Rattle.model.specs.Sound.{owns}
 use Rattle.model.specs.Pools.{Pool, own_of, distinct, cents_added, pool_cents, sent_at, meets, channels_meet}
 use Rattle.model.proofs.Tests.{and, both}
 use Rattle.model.proofs.Lists.{nth-every, every-nth}
-use Rattle.model.proofs.Written.{t}
 use Rattle.model.proofs.Local.{Full, Selection}
 use Rattle.model.proofs.Choice.{alike-via}
 use Rattle.model.proofs.Matches.{Unmatched}

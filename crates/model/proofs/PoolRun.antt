@@ -17,12 +17,10 @@ use Rattle.model.specs.Boards.{Board, Match, sender_at, no_match, cents_of, matc
 use Rattle.model.specs.Effects.{Effect, apply, records, matches_after, Change, none, turn, signals, word_of}
 use Rattle.model.specs.Effects.{value_of}
 use Rattle.model.specs.Adds.{added, new_message}
-use Rattle.model.specs.Sound.{owns}
 use Rattle.model.specs.Pools.{Pool, cents_added, match_reads, no_read, read_match, sent_at, fair, without, leaves}
 use Rattle.model.specs.Pools.{MatchRead, enters, worth, pool_cents}
 use Rattle.model.proofs.Tests.{never, same?, and, either, or_right}
 use Rattle.model.proofs.Lists.{nth-is_in, nth-every}
-use Rattle.model.proofs.Written.{t, ms}
 use Rattle.model.proofs.Words.{is_record}
 use Rattle.model.proofs.Frame.{matches-kept, messages-count, sents-after, records-count, records-last}
 use Rattle.model.proofs.Grows.{Grows}

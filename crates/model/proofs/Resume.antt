@@ -13,7 +13,7 @@ use Rattle.model.specs.Boards.{Board, sender_at, blocked, State, message_at, wok
 use Rattle.model.specs.Boards.{Status, match_at, pending, claimed}
 use Rattle.model.specs.Effects.{Effect, apply, resumes}
 use Rattle.model.specs.Jobs.{new_pass}
-use Rattle.model.specs.Steps.{stays_blocked, resume_by, resumed, resume_step}
+use Rattle.model.specs.Steps.{stays_blocked, resume_by, resume_step}
 use Rattle.model.specs.Holdings.{Holds}
 use Rattle.model.proofs.Tests.{never}
 use Rattle.model.proofs.Words.{is_record}

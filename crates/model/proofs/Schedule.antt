@@ -14,7 +14,6 @@ use Rattle.model.specs.Steps.{step_by}
 use Rattle.model.specs.Holdings.{Holds}
 use Rattle.model.specs.Adds.{add_refusal}
 use Rattle.model.specs.Closes.{close_refusal}
-use Rattle.model.specs.Sound.{owns}
 use Rattle.model.specs.Pools.{Pool, empty_pool, Call, answer_to, adds, add_answer, steps, step_answer, closes, played}
 use Rattle.model.specs.Pools.{close_answer, match_reads, after_all, played_all, history}
 use Rattle.model.specs.Demands.{board_after, pool_after, final_reads}

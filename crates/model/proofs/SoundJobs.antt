@@ -4,7 +4,7 @@ use mathlib.Core.Path.{◌≡◌, refl, sym, subst, subst⁻¹}
 use mathlib.Core.Logic.{◌⊎◌, inr, inl}
 use mathlib.Core.Bool.{Bool, true, false, ◌&&◌}
 use mathlib.Core.List.{◌++◌, ◌∷◌, [], List}
-use Prim.Native.Nat.{ℕ, ◌<◌, suc, ◌-◌, zero, ◌≤◌}
+use Prim.Native.Nat.{ℕ, ◌<◌, suc, zero, ◌≤◌}
 use borrow.Author.Tests.{eqb-true}
 use lib.Dec.{eqb, leb}
 use lib.ListN.{length, get_or, length-append}
@@ -12,7 +12,7 @@ use native.Mathlib.Omega.{arith}
 use Rattle.model.specs.Basics.{pick}
 use Rattle.model.specs.Tables.{Table, chord_at, naming, size, wakes, first_sync}
 use Rattle.model.specs.Boards.{Board, channel_of, Job, Sender, State, wake, blocked, signal}
-use Rattle.model.specs.Boards.{message_at, Phase, working, sender_at, look, claim, consume, pending, revert, tell}
+use Rattle.model.specs.Boards.{message_at, Phase, working, sender_at, look, claim, consume, revert, tell}
 use Rattle.model.specs.Boards.{free, pass_end, backoff_at, backoff, is_pending, is_open}
 use Rattle.model.specs.Effects.{apply}
 use Rattle.model.specs.Jobs.{pass_from, in_state, goes_idle}

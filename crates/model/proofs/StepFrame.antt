@@ -23,7 +23,6 @@ use Rattle.model.proofs.Tests.{never}
 use Rattle.model.proofs.Written.{t, ms}
 use Rattle.model.proofs.Words.{step-speaks, OutcomeSpeaks}
 use Rattle.model.proofs.Frame.{senders-each, like, sents-after, messages-count, unaltered}
-use Rattle.model.proofs.PoolMeets.{as_sent, count}
 use Rattle.model.proofs.Closes.{close-accepted}
 
 -- the message that a change turns, 0 for none, and the matches that it records

@@ -9,7 +9,7 @@ use lib.ListN.{get_or, length}
 use native.Mathlib.Omega.{arith}
 use Rattle.model.specs.Basics.{is_in}
 use Rattle.model.specs.Tables.{Table}
-use Rattle.model.specs.Boards.{Board, Job, tell, sender_at, State, Sender, signal, consumed, message_at, Phase}
+use Rattle.model.specs.Boards.{Board, Job, tell, sender_at, State, Sender, consumed, message_at, Phase}
 use Rattle.model.specs.Boards.{Message}
 use Rattle.model.specs.Effects.{Effect, Told, signals, apply, messages_after}
 use Rattle.model.specs.Jobs.{in_job, in_phase, job_end}

@@ -5,7 +5,7 @@ use Rattle.std.specs.Prelude.{◌≡◌, ◌≢◌, Bool, true, false, ◌&&◌,
 use Rattle.model.specs.Basics.{is_in, every, flag}
 use Rattle.model.specs.Tables.{Table, is_sync, chord_at}
 use Rattle.model.specs.Layout.{table_refusal, table_of}
-use Rattle.model.specs.Boards.{Sender, Board, message_at, Match, sender_at, Message, Sent, empty_board, pending}
+use Rattle.model.specs.Boards.{Sender, Board, message_at, Match, sender_at, Message, Sent, empty_board}
 use Rattle.model.specs.Boards.{is_pending, backoffs_pass, builtin_backoffs}
 use Rattle.model.specs.Effects.{Said, Refused, refused, Answered, Closed, word_of}
 use Rattle.model.specs.Steps.{step_by}

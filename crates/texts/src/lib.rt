@@ -6,7 +6,8 @@ ghost use Rattle.std.specs.Prelude.{◌≡◌, List, ◌++◌, ℕ, ◌+◌, ◌
 ghost use Rattle.model.specs.Tables.{Table};
 ghost use Rattle.model.specs.Layout.{table_bytes};
 
-use libc::STDERR_FILENO;
+use std::env::FillError;
+use std::rt::Env;
 
 // How many bytes of a buffer hold what was read; not `ok` where that failed, which was said then.
 #[derive(Clone, Copy)]
@@ -111,40 +112,51 @@ pub fn table_len(buf: &[u8]) -> usize
     two(buf[10], buf[11]) + two(buf[4], buf[5])
 }
 
-// Standard error.
+// Standard error, which is passed as what prints to it.
 
-pub fn complain(text: &[u8]) {
-    io::write_all(STDERR_FILENO, text);
+pub fn complain(err: &impl Print, text: &[u8]) {
+    let _ = err.write_all(text);
 }
 
 // A number between two texts.
-pub fn complain_number(ahead: &[u8], n: u64, behind: &[u8]) {
-    complain(ahead);
-    io::print_decimal(STDERR_FILENO, n);
-    complain(behind);
+pub fn complain_number(err: &impl Print, ahead: &[u8], n: u64, behind: &[u8]) {
+    complain(err, ahead);
+    let _ = err.print(n);
+    complain(err, behind);
 }
 
-pub fn complain_refused(number: u8) {
-    complain_number(b"refused ", number as u64, b": ");
+pub fn complain_refused(err: &impl Print, number: u8) {
+    complain_number(err, b"refused ", number as u64, b": ");
 }
 
 // When the reader gives a number.
-fn complain_when(number: u8) {
+fn complain_when(err: &impl Print, number: u8) {
     match number {
-        1 => complain(b"under 12 bytes"),
-        2 => complain(b"T, R or M out of range"),
-        3 => complain(b"offsets or length wrong"),
-        4 => complain(b"byte over 1"),
-        5 => complain(b"wrong first member, count not 1 to 8, or last byte over 2"),
-        6 => complain(b"member counts do not sum to M"),
-        _ => complain(b"tray number T or more"),
+        1 => complain(err, b"under 12 bytes"),
+        2 => complain(err, b"T, R or M out of range"),
+        3 => complain(err, b"offsets or length wrong"),
+        4 => complain(err, b"byte over 1"),
+        5 => complain(
+            err,
+            b"wrong first member, count not 1 to 8, or last byte over 2",
+        ),
+        6 => complain(err, b"member counts do not sum to M"),
+        _ => complain(err, b"tray number T or more"),
     }
 }
 
 // The whole line for the reader's number, with a text that says of which table it is.
-pub fn table_refused(number: u8, label: &[u8]) {
-    complain_refused(number);
-    complain(label);
-    complain_when(number);
-    complain(b"\n");
+pub fn table_refused(err: &impl Print, number: u8, label: &[u8]) {
+    complain_refused(err, number);
+    complain(err, label);
+    complain_when(err, number);
+    complain(err, b"\n");
+}
+
+// The arguments.
+
+// Whether the program was given an argument of this number; its own name is number 0.
+pub fn has_arg(env: &impl Env, i: usize) -> bool {
+    let mut first = [0u8; 1];
+    !matches!(env.arg(i, &mut first), Err(FillError::NotPresent))
 }

@@ -5,7 +5,6 @@ use mathlib.Core.List.{List}
 use Prim.Native.Nat.{ℕ, ◌≤◌}
 use lib.ListN.{length, take}
 use lib.Seq.{take-append_seam}
-use Rattle.model.specs.Tables.{Table}
 use Rattle.model.specs.Layout.{table_refusal, table_of, table_bytes, write_refusal, written, keeps_layout, all_bytes}
 use Rattle.model.proofs.Written.{reads-written}
 use Rattle.model.proofs.Survive.{tables-survive}

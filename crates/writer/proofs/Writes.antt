@@ -6,7 +6,7 @@ use Prim.Native.Nat.{ℕ, suc, ◌+◌, ◌*◌, ◌<◌, ◌≤◌}
 use native.Mathlib.Omega.{arith}
 use lib.ListN.{length, get_or, drop, length-append}
 use lib.Seq.{sets, sets-eq}
-use Rattle.model.specs.Tables.{Chord, Table}
+use Rattle.model.specs.Tables.{Table}
 use Rattle.model.specs.Layout.{table_bytes, written_header, written_chords, written_members}
 use Rattle.model.proofs.Written.{whole-written, length-entries}
 use Rattle.model.proofs.Parts.{sets-append}

@@ -1,8 +1,7 @@
 -- `backoffs::bytes_pass` meets its contract: the widened table is the same list.
-use mathlib.Core.Path.{◌≡◌, ap, ◌∙◌}
+use mathlib.Core.Path.{ap, ◌∙◌}
 use Rattle.model.specs.Boards.{backoffs_pass}
 use Rattle.backoffs.proofs.PassLaws.{other_length}
-use borrow.Author.Rules.{rules}
 use Rattle.backoffs.proofs.bytes_pass.Goals as goal
 
 pub returns-then-rests-ne-ENTRIES : goal.returns-then-rests-ne-ENTRIES

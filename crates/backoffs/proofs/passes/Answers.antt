@@ -1,11 +1,8 @@
 -- `backoffs::passes` meets its contract: the answer so far and that for the entries left are the answer for all.
-use mathlib.Core.Path.{◌≡◌, refl, sym, ap, ◌∙◌}
-use mathlib.Core.Bool.{Bool, true, ◌&&◌, and-true, and_assoc}
-use Prim.Native.Nat.{◌≤◌, ◌-◌}
-use lib.ListN.{drop, length}
+use mathlib.Core.Path.{refl, sym, ap, ◌∙◌}
+use mathlib.Core.Bool.{Bool, ◌&&◌, and-true, and_assoc}
 use native.Mathlib.Omega.{arith}
-use Rattle.backoffs.proofs.PassLaws.{rise_from, rise-next, rise-none, rise-passes, other_length}
-use borrow.Author.Rules.{rules}
+use Rattle.backoffs.proofs.PassLaws.{rise-next, rise-none, rise-passes, other_length}
 use Rattle.backoffs.proofs.passes.Goals as goal
 
 pub returns-then-rests-ne-ENTRIES : goal.returns-then-rests-ne-ENTRIES

@@ -1,10 +1,8 @@
-use mathlib.Core.Path.{◌≡◌, refl, sym, ap, ◌∙◌}
-use mathlib.Core.Bool.{Bool, true, ◌&&◌, and-true, and_assoc}
+use mathlib.Core.Path.{◌≡◌}
+use mathlib.Core.Bool.{◌&&◌}
 use Prim.Native.Nat.{◌≤◌, ◌-◌}
-use lib.ListN.{drop, length}
-use native.Mathlib.Omega.{arith}
-use Rattle.backoffs.proofs.PassLaws.{rise_from, rise-next, rise-none, rise-passes, other_length}
-use borrow.Author.Rules.{rules}
+use lib.ListN.{drop}
+use Rattle.backoffs.proofs.PassLaws.{rise_from}
 use Rattle.backoffs.proofs.passes.Given as goal
 
 abbrev pub invariant-loop-i : goal.invariant-loop-i

@@ -1,6 +1,5 @@
 -- `backoffs::rests_at` meets its contract: an entry of a table that passes is at most 64.
 use mathlib.Core.Path.{◌≡◌}
-use Prim.Native.Nat.{◌≤◌}
 use lib.ListN.{length}
 use native.Mathlib.Omega.{arith}
 use Rattle.model.specs.Boards.{backoff_at}

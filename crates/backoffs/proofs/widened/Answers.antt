@@ -1,8 +1,6 @@
 -- `backoffs::widened` meets its contract: each turn copies one entry more.
-use mathlib.Core.Path.{◌≡◌, refl, sym, ◌∙◌}
-use Prim.Native.Nat.{◌-◌, ◌≤◌}
+use mathlib.Core.Path.{refl, sym, ◌∙◌}
 use borrow.Author.Rules.{rules}
-use lib.ListN.{length, take}
 use native.Mathlib.Omega.{arith}
 use Rattle.model.proofs.Walks.{anew-step, anew-end}
 use Rattle.backoffs.proofs.widened.Goals as goal

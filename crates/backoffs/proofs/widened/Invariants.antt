@@ -1,9 +1,6 @@
-use mathlib.Core.Path.{◌≡◌, refl, sym, ◌∙◌}
+use mathlib.Core.Path.{◌≡◌}
 use Prim.Native.Nat.{◌-◌, ◌≤◌}
-use borrow.Author.Rules.{rules}
 use lib.ListN.{length, take}
-use native.Mathlib.Omega.{arith}
-use Rattle.model.proofs.Walks.{anew-step, anew-end}
 use Rattle.backoffs.proofs.widened.Given as goal
 
 abbrev pub invariant-loop-i : goal.invariant-loop-i

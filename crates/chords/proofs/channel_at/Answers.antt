@@ -1,5 +1,4 @@
 -- `chords::channel_at` meets its contract: the part's byte is the chord's channel.
-use borrow.Author.Rules.{rules}
 use Rattle.chords.proofs.channel_at.Goals as goal
 
 pub bounds-part-k : goal.bounds-part-k

@@ -1,10 +1,7 @@
 -- `chords::is_in` meets its contract: the answer for all bytes is the answer for those left.
 -- The measure is the number of bytes left.
-use mathlib.Core.Path.{◌≡◌, sym, ◌∙◌}
-use Prim.Native.Nat.{◌≤◌, ◌-◌}
+use mathlib.Core.Path.{sym, ◌∙◌}
 use native.Mathlib.Omega.{arith}
-use lib.ListN.{length, drop}
-use Rattle.model.specs.Basics.{is_in}
 use Rattle.model.proofs.Walks.{in-here, in-next, in-none}
 use borrow.Author.Rules.{rules}
 use Rattle.chords.proofs.is_in.Goals as goal

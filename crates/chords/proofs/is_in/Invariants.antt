@@ -1,10 +1,7 @@
-use mathlib.Core.Path.{◌≡◌, sym, ◌∙◌}
+use mathlib.Core.Path.{◌≡◌}
 use Prim.Native.Nat.{◌≤◌, ◌-◌}
-use native.Mathlib.Omega.{arith}
 use lib.ListN.{length, drop}
 use Rattle.model.specs.Basics.{is_in}
-use Rattle.model.proofs.Walks.{in-here, in-next, in-none}
-use borrow.Author.Rules.{rules}
 use Rattle.chords.proofs.is_in.Given as goal
 
 abbrev pub invariant-loop-i : goal.invariant-loop-i

@@ -1,5 +1,4 @@
 -- `chords::names` meets its contract: the part that is searched holds the chord's channels.
-use borrow.Author.Rules.{rules}
 use Rattle.chords.proofs.names.Goals as goal
 
 pub returns : goal.returns

@@ -1,12 +1,10 @@
 -- `chords::next_naming` meets its contract: the next one from the start is the next one from here on.
 -- The measure is the number of chords left.
 use mathlib.Core.Path.{◌≡◌, refl, sym, ◌∙◌}
-use Prim.Native.Nat.{◌-◌}
 use native.Mathlib.Omega.{arith}
 use Rattle.model.specs.Layout.{table_of}
 use Rattle.chords.specs.Naming.{next_naming}
 use Rattle.chords.proofs.Naming.{next_here, next-on, next-end}
-use borrow.Author.Rules.{rules}
 use Rattle.chords.proofs.next_naming.Goals as goal
 
 pub loop-i-init : goal.loop-i-init

@@ -1,10 +1,7 @@
-use mathlib.Core.Path.{◌≡◌, refl, sym, ◌∙◌}
+use mathlib.Core.Path.{◌≡◌}
 use Prim.Native.Nat.{◌-◌}
-use native.Mathlib.Omega.{arith}
 use Rattle.model.specs.Layout.{table_of}
 use Rattle.chords.specs.Naming.{next_naming}
-use Rattle.chords.proofs.Naming.{next_here, next-on, next-end}
-use borrow.Author.Rules.{rules}
 use Rattle.chords.proofs.next_naming.Given as goal
 
 abbrev pub invariant-loop-i : goal.invariant-loop-i

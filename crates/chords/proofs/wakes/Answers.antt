@@ -5,7 +5,6 @@ use Prim.Native.Nat.{ℕ}
 use lib.Dec.{ltb}
 use Rattle.model.specs.Tables.{Table, is_sync, first_sync, size, wakes}
 use Rattle.model.specs.Layout.{table_of}
-use borrow.Author.Rules.{rules}
 use Rattle.chords.proofs.wakes.Goals as goal
 
 by-kinds : (t : Table) (r channel : ℕ) (own : Bool) (first n : ℕ) → own ≡ is_sync t channel → first ≡ first_sync t r

@@ -2,7 +2,6 @@
 use borrow.Author.Tests.{not-true, not-false}
 use Rattle.model.specs.Layout.{table_of}
 use Rattle.claims.proofs.Claiming.{claimed-more, claimed-last, claimed-match}
-use borrow.Author.Rules.{rules}
 use Rattle.claims.proofs.claimed_by.Goals as goal
 
 pub returns-then-not-pending : goal.returns-then-not-pending

@@ -1,7 +1,6 @@
 -- `claims::claims_to` meets its contract.
 use mathlib.Core.Path.{◌≡◌, ap, ◌∙◌}
 use Prim.Native.Nat.{ℕ}
-use borrow.Author.Rules.{rules}
 use Rattle.state.specs.declared.Sender as DD
 use Rattle.state.specs.declared.Job as DJ
 use Rattle.state.specs.declared.Effect as DE

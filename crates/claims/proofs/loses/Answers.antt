@@ -1,7 +1,6 @@
 -- `claims::loses` meets its contract, for the first claim and for another.
 use Rattle.model.specs.Layout.{table_of}
 use Rattle.claims.proofs.Claiming.{lost-first, lost-more}
-use borrow.Author.Rules.{rules}
 use Rattle.claims.proofs.loses.Goals as goal
 
 pub returns-then-k-eq0 : goal.returns-then-k-eq0

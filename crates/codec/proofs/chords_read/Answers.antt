@@ -1,15 +1,13 @@
 -- `codec::chords_read` meets its contract: the chords left, stored from here on, give all of them stored.
 -- The measure is the number of chords left.
-use mathlib.Core.Path.{◌≡◌, sym, ◌∙◌}
+use mathlib.Core.Path.{sym, ◌∙◌}
 use mathlib.Core.List.{map}
-use Prim.Native.Nat.{◌≤◌, ◌-◌}
 use native.Mathlib.Omega.{arith}
-use lib.ListN.{drop, replicate, get_or-map, length-map}
-use lib.Seq.{sets}
+use lib.ListN.{get_or-map, length-map}
 use Rattle.model.specs.Tables.{no_chord}
 use Rattle.model.specs.Layout.{table_of}
 use Rattle.model.proofs.AcceptedChords.{table-ok}
-use Rattle.codec.specs.Views.{chord_for, empty_chord}
+use Rattle.codec.specs.Views.{chord_for}
 use Rattle.model.proofs.Walks.{fill-next, fill_end}
 use borrow.Author.Rules.{rules}
 use Rattle.codec.proofs.chords_read.Goals as goal

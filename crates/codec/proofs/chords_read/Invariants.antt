@@ -1,15 +1,10 @@
-use mathlib.Core.Path.{◌≡◌, sym, ◌∙◌}
+use mathlib.Core.Path.{◌≡◌}
 use mathlib.Core.List.{map}
 use Prim.Native.Nat.{◌≤◌, ◌-◌}
-use native.Mathlib.Omega.{arith}
-use lib.ListN.{drop, replicate, get_or-map, length-map}
+use lib.ListN.{drop, replicate}
 use lib.Seq.{sets}
-use Rattle.model.specs.Tables.{no_chord}
 use Rattle.model.specs.Layout.{table_of}
-use Rattle.model.proofs.AcceptedChords.{table-ok}
 use Rattle.codec.specs.Views.{chord_for, empty_chord}
-use Rattle.model.proofs.Walks.{fill-next, fill_end}
-use borrow.Author.Rules.{rules}
 use Rattle.codec.proofs.chords_read.Given as goal
 
 abbrev pub invariant-loop-i : goal.invariant-loop-i

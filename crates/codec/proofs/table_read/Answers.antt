@@ -1,6 +1,5 @@
 -- `codec::table_read` meets its contract: field by field.
 use Rattle.codec.specs.Views.{table_for}
-use borrow.Author.Rules.{rules}
 use Rattle.codec.proofs.table_read.Goals as goal
 
 pub returns : goal.returns

@@ -1,6 +1,5 @@
 -- `ends::backoff_step` meets its contract.
 use Rattle.model.specs.Steps.{backoff_step}
-use borrow.Author.Rules.{rules}
 use Rattle.ends.proofs.backoff_step.Goals as goal
 
 pub returns : goal.returns

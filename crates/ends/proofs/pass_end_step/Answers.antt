@@ -3,7 +3,6 @@ use mathlib.Core.Path.{◌∙◌}
 use Rattle.model.specs.Layout.{table_of}
 use Rattle.state.specs.Views.{job_in, sender_in}
 use Rattle.ends.proofs.PassEnds.{pass-by, again-is}
-use borrow.Author.Rules.{rules}
 use Rattle.ends.proofs.pass_end_step.Goals as goal
 
 pub returns-then-j-opened : goal.returns-then-j-opened

@@ -2,16 +2,14 @@
 -- The measure is the number of chords left.
 use mathlib.Core.Path.{◌≡◌, sym, ◌∙◌, ap}
 use mathlib.Core.List.{map}
-use Prim.Native.Nat.{◌≤◌, ◌-◌, ◌+◌}
+use Prim.Native.Nat.{◌+◌}
 use native.Mathlib.Omega.{arith}
-use lib.ListN.{drop, length-map, get_or-map}
-use lib.Seq.{sets}
+use lib.ListN.{length-map, get_or-map}
 use Rattle.model.specs.Tables.{no_chord}
 use Rattle.model.specs.Layout.{table_of}
 use Rattle.merging.specs.Merges.{merged_chord}
 use Rattle.codec.specs.Views.{chord_for}
 use Rattle.model.proofs.Walks.{fill-next, fill_end}
-use Rattle.merger.specs.Asks.{chords_for}
 use borrow.Author.Rules.{rules}
 use Rattle.merger.proofs.chords_after.Goals as goal
 

@@ -1,11 +1,8 @@
 -- `merger::count_new` meets its contract: the count so far and what is left make the whole. The measure is the number
 -- of bytes left.
-use mathlib.Core.Path.{◌≡◌}
-use Prim.Native.Nat.{◌≤◌, ◌-◌, ◌+◌}
 use native.Mathlib.Omega.{arith}
-use lib.ListN.{get_or, length, drop}
+use lib.ListN.{get_or}
 use Rattle.merging.specs.Merges.{is_new}
-use Rattle.merger.specs.Asks.{count_new}
 use Rattle.model.proofs.Tests.{flag-le, byte_flag}
 use Rattle.merger.proofs.Walks.{count_at, count-end}
 use borrow.Author.Rules.{rules}

@@ -1,12 +1,7 @@
 use mathlib.Core.Path.{◌≡◌}
 use Prim.Native.Nat.{◌≤◌, ◌-◌, ◌+◌}
-use native.Mathlib.Omega.{arith}
-use lib.ListN.{get_or, length, drop}
-use Rattle.merging.specs.Merges.{is_new}
+use lib.ListN.{length, drop}
 use Rattle.merger.specs.Asks.{count_new}
-use Rattle.model.proofs.Tests.{flag-le, byte_flag}
-use Rattle.merger.proofs.Walks.{count_at, count-end}
-use borrow.Author.Rules.{rules}
 use Rattle.merger.proofs.count_new.Given as goal
 
 abbrev pub invariant-loop-i : goal.invariant-loop-i

@@ -5,7 +5,6 @@ use native.Mathlib.Omega.{arith}
 use Rattle.model.specs.Layout.{table_of}
 use Rattle.model.proofs.AcceptedChords.{length-kinds}
 use Rattle.model.proofs.Accepted.{accepted}
-use borrow.Author.Rules.{rules}
 use Rattle.merger.proofs.kinds.Goals as goal
 
 pub slice_bounds-result-end : goal.slice_bounds-result-end

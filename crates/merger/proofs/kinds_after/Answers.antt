@@ -1,13 +1,8 @@
 -- `merger::kinds_after` meets its contract: the new kinds left, stored from here on, give all of them stored.
 -- The measure is the number of bytes left.
-use mathlib.Core.Path.{◌≡◌, refl}
-use Prim.Native.Nat.{◌≤◌, ◌-◌, ◌+◌}
+use mathlib.Core.Path.{refl}
 use native.Mathlib.Numerals.{add-one}
 use native.Mathlib.Omega.{arith}
-use lib.ListN.{length, drop}
-use lib.Seq.{sets}
-use Rattle.merging.specs.Merges.{new_kinds}
-use Rattle.merger.specs.Asks.{count_new}
 use Rattle.merger.proofs.Walks.{joined_at, new-at, none-new, count-joined, count-new}
 use borrow.Author.Rules.{rules}
 use Rattle.merger.proofs.kinds_after.Goals as goal

@@ -1,13 +1,9 @@
-use mathlib.Core.Path.{◌≡◌, refl}
+use mathlib.Core.Path.{◌≡◌}
 use Prim.Native.Nat.{◌≤◌, ◌-◌, ◌+◌}
-use native.Mathlib.Numerals.{add-one}
-use native.Mathlib.Omega.{arith}
 use lib.ListN.{length, drop}
 use lib.Seq.{sets}
 use Rattle.merging.specs.Merges.{new_kinds}
 use Rattle.merger.specs.Asks.{count_new}
-use Rattle.merger.proofs.Walks.{joined_at, new-at, none-new, count-joined, count-new}
-use borrow.Author.Rules.{rules}
 use Rattle.merger.proofs.kinds_after.Given as goal
 
 abbrev pub invariant-loop-i : goal.invariant-loop-i

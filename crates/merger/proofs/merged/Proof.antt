@@ -2,7 +2,7 @@
 use mathlib.Core.Path.{◌≡◌}
 use Prim.Native.Nat.{◌≤◌}
 use native.Mathlib.Omega.{arith}
-use lib.ListN.{length, length-map}
+use lib.ListN.{length}
 use Rattle.model.proofs.AcceptedChords.{table-ok}
 use Rattle.merger.proofs.Values.{value-merged}
 use borrow.Author.Rules.{rules}

@@ -1,12 +1,9 @@
 -- `merger::names_ok` meets its contract: what is left from here on decides. The measure is the number of bytes left.
-use mathlib.Core.Path.{◌≡◌, sym, ◌∙◌}
+use mathlib.Core.Path.{sym, ◌∙◌}
 use mathlib.Core.Bool.{◌||◌}
-use Prim.Native.Nat.{◌≤◌, ◌-◌}
 use native.Mathlib.Omega.{arith}
 use borrow.Author.Tests.{not-true, not-false}
 use lib.Dec.{ltb}
-use lib.ListN.{length, drop}
-use Rattle.model.specs.Basics.{every}
 use Rattle.merging.specs.Merges.{is_new}
 use Rattle.model.proofs.Walks.{all-no, all_yes, all_end}
 use borrow.Author.Rules.{rules}

@@ -1,14 +1,10 @@
-use mathlib.Core.Path.{◌≡◌, sym, ◌∙◌}
+use mathlib.Core.Path.{◌≡◌}
 use mathlib.Core.Bool.{◌||◌}
 use Prim.Native.Nat.{◌≤◌, ◌-◌}
-use native.Mathlib.Omega.{arith}
-use borrow.Author.Tests.{not-true, not-false}
 use lib.Dec.{ltb}
 use lib.ListN.{length, drop}
 use Rattle.model.specs.Basics.{every}
 use Rattle.merging.specs.Merges.{is_new}
-use Rattle.model.proofs.Walks.{all-no, all_yes, all_end}
-use borrow.Author.Rules.{rules}
 use Rattle.merger.proofs.names_ok.Given as goal
 
 abbrev pub invariant-loop-i : goal.invariant-loop-i

@@ -1,15 +1,11 @@
 -- `merger::targets` meets its contract: what is left, stored from here on, gives all of it stored.
 -- The measure is the number of bytes left.
-use mathlib.Core.Path.{◌≡◌}
-use Prim.Native.Nat.{◌≤◌, ◌+◌, ◌-◌}
 use native.Mathlib.Numerals.{add-one}
 use native.Mathlib.Omega.{arith}
-use lib.ListN.{length, get_or, drop, replicate}
-use lib.Seq.{sets}
-use Rattle.merging.specs.Merges.{is_new, targets}
+use lib.ListN.{get_or}
+use Rattle.merging.specs.Merges.{is_new}
 use Rattle.model.proofs.Tests.{flag-le, byte_flag}
 use Rattle.merger.proofs.Walks.{targets-at, targets-end}
-use borrow.Author.Rules.{rules}
 use Rattle.merger.proofs.targets.Goals as goal
 
 pub overflow_add-next : goal.overflow_add-next

@@ -1,13 +1,8 @@
 use mathlib.Core.Path.{◌≡◌}
 use Prim.Native.Nat.{◌≤◌, ◌+◌, ◌-◌}
-use native.Mathlib.Numerals.{add-one}
-use native.Mathlib.Omega.{arith}
-use lib.ListN.{length, get_or, drop, replicate}
+use lib.ListN.{length, drop, replicate}
 use lib.Seq.{sets}
-use Rattle.merging.specs.Merges.{is_new, targets}
-use Rattle.model.proofs.Tests.{flag-le, byte_flag}
-use Rattle.merger.proofs.Walks.{targets-at, targets-end}
-use borrow.Author.Rules.{rules}
+use Rattle.merging.specs.Merges.{targets}
 use Rattle.merger.proofs.targets.Given as goal
 
 abbrev pub invariant-loop-i : goal.invariant-loop-i

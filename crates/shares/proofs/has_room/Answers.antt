@@ -1,7 +1,6 @@
 -- `shares::has_room` meets its contract: one of its own, or a common one.
 use native.Mathlib.Omega.{arith}
 use Rattle.shares.proofs.SumLaws.{room-own, room-common}
-use borrow.Author.Rules.{rules}
 use Rattle.shares.proofs.has_room.Goals as goal
 
 pub returns-then-tallies-i-lt16 : goal.returns-then-tallies-i-lt16

@@ -11,46 +11,43 @@ use borrow.Author.Rules.{rules}
 use Rattle.soundness.proofs.cents_ok.Statement.{statement}
 use Rattle.soundness.proofs.cents_ok.Tie as tie
 
-abbrev invariant-loop : tie.invariant-loop
+abbrev invariant-loop : tie.invariant-loop-i
 invariant-loop cents n m i₀ i = (i ≤ n) × (each_below i (in_range cents) ≡ true)
 
-abbrev decreases-loop : tie.decreases-loop
+abbrev decreases-loop : tie.decreases-loop-i
 decreases-loop cents n m i₀ i = n - i
 
 -- the amount of a turn is in range or not, as amount_ok says
-turn : (c : tie.After-amount-ok invariant-loop decreases-loop)
-    → each_below (c.before.before.loop.i + 1)
-    (in_range c.before.before.before.before.before.args.cents.now) ≡ c.amount-ok.result
+turn : (c : tie.After-amount_ok invariant-loop decreases-loop)
+    → each_below (c.loop-i.i + 1)
+    (in_range c.args.cents.now) ≡ c.amount_ok.result
 turn c =
-    let p = c.before.before in
-    rw (each-one (in_range p.before.before.before.args.cents.now) p.loop.i, p.loop.invariant.1)
-    (sym c.amount-ok.ensures)
+    rw (each-one (in_range c.args.cents.now) c.loop-i.i, c.loop-i.invariant.1)
+    (sym c.amount_ok.ensures)
 
-returns : tie.Need-returns invariant-loop decreases-loop
+returns : tie.Need-returns-then-not-fours_ok invariant-loop decreases-loop
 returns c =
-    let a = c.before.before.args in
-    let e = sym c.before.fours-ok.ensures ∙ not-true _ c.if1.true in
+    let a = c.args in
+    let e = sym c.fours_ok.ensures ∙ not-true _ c.if-not-fours_ok.true-raw in
     sym (each-no (in_range a.cents.now) (4 * (a.n / 4)) a.n (omega arith) e)
 
-loop-holds : tie.Need-loop-init invariant-loop decreases-loop
-loop-holds c = (search rules, sym c.before.fours-ok.ensures ∙ not-false _ c.if1.false)
+loop-holds : tie.Need-loop-i-init invariant-loop decreases-loop
+loop-holds c = (search rules, sym c.fours_ok.ensures ∙ not-false _ c.if-not-fours_ok.false-raw)
 
-returns-2 : tie.Need-returns-2 invariant-loop decreases-loop
+returns-2 : tie.Need-returns-then-not-amount_ok invariant-loop decreases-loop
 returns-2 c =
-    let p = c.before.before.before in
-    sym (each-no _ (p.loop.i + 1) _ (omega arith) (turn c.before ∙ not-true _ c.if2.true))
+    sym (each-no _ (c.loop-i.i + 1) _ (omega arith) (turn c.before ∙ not-true _ c.if-not-amount_ok.true-raw))
 
-loop-again : tie.Need-loop-preserved invariant-loop decreases-loop
-loop-again c = (search rules, turn c.before ∙ not-false _ c.if2.false)
+loop-again : tie.Need-loop-i-preserved invariant-loop decreases-loop
+loop-again c = (search rules, turn c.before ∙ not-false _ c.if-not-amount_ok.false-raw)
 
-returns-3 : tie.Need-returns-3 invariant-loop decreases-loop
+returns-3 : tie.Need-returns invariant-loop decreases-loop
 returns-3 c =
-    let p = c.before in
-    let z : p.loop.i ≡ p.before.before.before.args.n = omega arith in
-    rw (← z) (sym p.loop.invariant.1)
+    let z : c.loop-i.i ≡ c.args.n = omega arith in
+    rw (← z) (sym c.loop-i.invariant.1)
 
-pub cents-ok-spec : {M : Type 1} → statement M
-cents-ok-spec =
+pub cents_ok_spec : {M : Type 1} → statement M
+cents_ok_spec =
     tie.close
     (tie.spec
     invariant-loop

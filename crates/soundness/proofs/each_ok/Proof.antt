@@ -12,49 +12,45 @@ use borrow.Author.Rules.{rules}
 use Rattle.soundness.proofs.each_ok.Statement.{statement}
 use Rattle.soundness.proofs.each_ok.Tie as tie
 
-abbrev invariant-loop : tie.invariant-loop
+abbrev invariant-loop : tie.invariant-loop-i
 invariant-loop table chords messages n count i₀ i =
     (i ≤ n) × (each_below i (numbers_ok (table_of table) chords messages count) ≡ true)
 
-abbrev decreases-loop : tie.decreases-loop
+abbrev decreases-loop : tie.decreases-loop-i
 decreases-loop table chords messages n count i₀ i = n - i
 
 -- the match of a turn is sound or not, as match_ok says
-turn : (c : tie.After-match-ok invariant-loop decreases-loop)
+turn : (c : tie.After-match_ok invariant-loop decreases-loop)
     → let p = c.before.before.before in
-    let a = p.before.before.before.before.args in
-    each_below (p.loop.i + 1) (numbers_ok (table_of a.table.now) a.chords.now a.messages.now a.count)
-    ≡ c.match-ok.result
+    let a = p.args in
+    each_below (p.loop-i.i + 1) (numbers_ok (table_of a.table.now) a.chords.now a.messages.now a.count)
+    ≡ c.match_ok.result
 turn c =
     let p = c.before.before.before in
-    rw (each-one _ p.loop.i, p.loop.invariant.1) (sym c.match-ok.ensures)
+    rw (each-one _ p.loop-i.i, p.loop-i.invariant.1) (sym c.match_ok.ensures)
 
-loop-holds : tie.Need-loop-init invariant-loop decreases-loop
+loop-holds : tie.Need-loop-i-init invariant-loop decreases-loop
 loop-holds c = (search rules, each_none _)
 
-match-ok-requires : tie.Need-match-ok-requires invariant-loop decreases-loop
+match-ok-requires : tie.Need-match_ok-requires invariant-loop decreases-loop
 match-ok-requires c κs =
-    let p = c.before.before in
-    let s = p.before.before.before.before in
-    let h = ltb-true _ _ (each_at _ s.args.n s.requires.1.1 p.loop.i (omega arith)) in
-    ((s.requires.0, h), omega arith)
+    let h = ltb-true _ _ (each_at _ c.args.n c.requires.1.1 c.loop-i.i (omega arith)) in
+    ((c.requires.0, h), omega arith)
 
-returns : tie.Need-returns invariant-loop decreases-loop
+returns : tie.Need-returns-then-not-match_ok invariant-loop decreases-loop
 returns c =
-    let p = c.before.before.before.before in
-    sym (each-no _ (p.loop.i + 1) _ (omega arith) (turn c.before ∙ not-true _ c.if1.true))
+    sym (each-no _ (c.loop-i.i + 1) _ (omega arith) (turn c.before ∙ not-true _ c.if-not-match_ok.true-raw))
 
-loop-again : tie.Need-loop-preserved invariant-loop decreases-loop
-loop-again c = (search rules, turn c.before ∙ not-false _ c.if1.false)
+loop-again : tie.Need-loop-i-preserved invariant-loop decreases-loop
+loop-again c = (search rules, turn c.before ∙ not-false _ c.if-not-match_ok.false-raw)
 
-returns-2 : tie.Need-returns-2 invariant-loop decreases-loop
+returns-2 : tie.Need-returns invariant-loop decreases-loop
 returns-2 c =
-    let p = c.before in
-    let z : p.loop.i ≡ p.before.before.before.before.args.n = omega arith in
-    rw (← z) (sym p.loop.invariant.1)
+    let z : c.loop-i.i ≡ c.args.n = omega arith in
+    rw (← z) (sym c.loop-i.invariant.1)
 
-pub each-ok-spec : {M : Type 1} → statement M
-each-ok-spec =
+pub each_ok_spec : {M : Type 1} → statement M
+each_ok_spec =
     tie.close
     (tie.spec
     invariant-loop

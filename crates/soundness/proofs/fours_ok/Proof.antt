@@ -11,42 +11,38 @@ use borrow.Author.Rules.{rules}
 use Rattle.soundness.proofs.fours_ok.Statement.{statement}
 use Rattle.soundness.proofs.fours_ok.Tie as tie
 
-abbrev invariant-loop : tie.invariant-loop
+abbrev invariant-loop : tie.invariant-loop-i
 invariant-loop cents m i₀ i = (i ≤ m) × (each_below (4 * i) (in_range cents) ≡ true)
 
-abbrev decreases-loop : tie.decreases-loop
+abbrev decreases-loop : tie.decreases-loop-i
 decreases-loop cents m i₀ i = m - i
 
 -- the amounts of a turn are in range or not, as four_ok says
-turn : (c : tie.After-four-ok invariant-loop decreases-loop)
-    → each_below (4 * c.before.before.loop.i + 4) (in_range c.before.before.before.args.cents.now)
-    ≡ c.four-ok.result
+turn : (c : tie.After-four_ok invariant-loop decreases-loop)
+    → each_below (4 * c.loop-i.i + 4) (in_range c.args.cents.now)
+    ≡ c.four_ok.result
 turn c =
-    let p = c.before.before in
-    rw (each-four (in_range p.before.args.cents.now) (4 * p.loop.i), p.loop.invariant.1) (sym c.four-ok.ensures)
+    rw (each-four (in_range c.args.cents.now) (4 * c.loop-i.i), c.loop-i.invariant.1) (sym c.four_ok.ensures)
 
-loop-holds : tie.Need-loop-init invariant-loop decreases-loop
+loop-holds : tie.Need-loop-i-init invariant-loop decreases-loop
 loop-holds c = (search rules, each_none _)
 
-returns : tie.Need-returns invariant-loop decreases-loop
+returns : tie.Need-returns-then-not-four_ok invariant-loop decreases-loop
 returns c =
-    let p = c.before.before.before in
-    sym (each-no _ (4 * p.loop.i + 4) _ (omega arith) (turn c.before ∙ not-true _ c.if1.true))
+    sym (each-no _ (4 * c.loop-i.i + 4) _ (omega arith) (turn c.before ∙ not-true _ c.if-not-four_ok.true-raw))
 
-loop-again : tie.Need-loop-preserved invariant-loop decreases-loop
+loop-again : tie.Need-loop-i-preserved invariant-loop decreases-loop
 loop-again c =
-    let p = c.before.before.before in
-    let z : 4 * (p.loop.i + 1) ≡ 4 * p.loop.i + 4 = omega arith in
-    (search rules, rw z (turn c.before ∙ not-false _ c.if1.false))
+    let z : 4 * (c.loop-i.i + 1) ≡ 4 * c.loop-i.i + 4 = omega arith in
+    (search rules, rw z (turn c.before ∙ not-false _ c.if-not-four_ok.false-raw))
 
-returns-2 : tie.Need-returns-2 invariant-loop decreases-loop
+returns-2 : tie.Need-returns invariant-loop decreases-loop
 returns-2 c =
-    let p = c.before in
-    let z : p.loop.i ≡ p.before.args.m = omega arith in
-    rw (← z) (sym p.loop.invariant.1)
+    let z : c.loop-i.i ≡ c.args.m = omega arith in
+    rw (← z) (sym c.loop-i.invariant.1)
 
-pub fours-ok-spec : {M : Type 1} → statement M
-fours-ok-spec =
+pub fours_ok_spec : {M : Type 1} → statement M
+fours_ok_spec =
     tie.close
     (tie.spec
     invariant-loop

@@ -21,11 +21,11 @@ abbrev lent : tie.Start → MatchColumns
 lent s = record { chords = s.args.chords.now; messages = s.args.messages.now }
 
 -- the chords are all in the table or not, as bytes_below says
-chords-in : (c : tie.After-bytes-below)
-    → let s = c.before.before.before.before.before in
-    each_below s.args.k (below (length (table_of s.args.table.now).chords) s.args.chords.now)
+chords-in : (c : tie.After-bytes_below)
+    →
+    each_below c.args.k (below (length (table_of c.args.table.now).chords) c.args.chords.now)
     ≡ c.bytes_below.result
-chords-in c = rw (← c.before.chords-len.ensures) (sym c.bytes_below.ensures)
+chords-in c = rw (← c.chords_len-most.ensures) (sym c.bytes_below.ensures)
 
 -- the matches one at a time, as the two columns say
 two : (s : tie.Start) (b : Board) → every (match_ok (table_of s.args.table.now) b)
@@ -35,34 +35,34 @@ two : (s : tie.Start) (b : Board) → every (match_ok (table_of s.args.table.now
     (length b.messages)))
 two s b = matches-are s.args.table.now s.requires.0 (lent s) s.args.k (omega arith) b
 
-returns : tie.Need-returns
+returns : tie.Need-returns-then-not-bytes_below
 returns c b e =
-    let n = chords-in c.before ∙ not-true _ c.if1.true in
+    let n = chords-in c.before ∙ not-true _ c.if-not-bytes_below.true-raw in
     rw (two c.before.before.before.before.before.before b, n)
 
-returns-2 : tie.Need-returns-2
+returns-2 : tie.Need-returns-then-numbers_below
 returns-2 c b e =
     let d = c.before.before in
     let s = d.before.before.before.before.before.before in
-    let y = chords-in d.before ∙ not-false _ d.if1.false in
-    let n = sym c.before.numbers-below.ensures ∙ c.if2.true in
+    let y = chords-in d.before ∙ not-false _ d.if-not-bytes_below.false-raw in
+    let n = sym c.numbers_below.ensures ∙ c.if-numbers_below.true in
     let f = all_are s.args.table.now s.requires.0 (lent s) s.args.k (omega arith) s.args.count y n in
     rw (two s b, y, e, f)
 
-each-ok-requires : tie.Need-each-ok-requires
+each-ok-requires : tie.Need-each_ok-requires
 each-ok-requires c κs =
     let d = c.before.before in
-    let y = chords-in d.before ∙ not-false _ d.if1.false in
+    let y = chords-in d.before ∙ not-false _ d.if-not-bytes_below.false-raw in
     search (rules, y)
 
-returns-3 : tie.Need-returns-3
+returns-3 : tie.Need-returns
 returns-3 c b e =
     let d = c.before.before.before in
-    let y = chords-in d.before ∙ not-false _ d.if1.false in
-    rw (two d.before.before.before.before.before.before b, y, e) c.each-ok.ensures
+    let y = chords-in d.before ∙ not-false _ d.if-not-bytes_below.false-raw in
+    rw (two d.before.before.before.before.before.before b, y, e) c.each_ok.ensures
 
-pub matches-ok-spec : {M : Type 1} → statement M
-matches-ok-spec =
+pub matches_ok_spec : {M : Type 1} → statement M
+matches_ok_spec =
     tie.close
     (tie.spec
     (λ c κs. search rules)

@@ -9,17 +9,14 @@ use Rattle.soundness.proofs.messages_ok.Statement.{statement}
 use Rattle.soundness.proofs.messages_ok.Tie as tie
 
 -- a consumed message, status 3, is asked for its match
-matched-ok : (c : tie.After-links-ok)
-    → let a = c.before.before.before.before.before.before.before.before.before.before.args in
-    c.links-ok.result ≡ each_below a.n (link_ok a.matched.now a.statuses.now a.matches 3)
-matched-ok c = c.links-ok.ensures
+matched-ok : (c : tie.After-links_ok-d)
+    → let a = c.args in
+    c.links_ok-d.result ≡ each_below a.n (link_ok a.matched.now a.statuses.now a.matches 3)
+matched-ok c = c.links_ok-d.ensures
 
 returns : tie.Need-returns
 returns c keys units b ms ks =
-    let l = c.before.before in
-    let p = l.before.before.before in
-    let s = p.before.before.before.before.before.before in
-    let a = s.args in
+    let a = c.args in
     rw (
       messages-are (table_of a.table.now) b (record {
         channels = a.channels.now;
@@ -32,16 +29,16 @@ returns c keys units b ms ks =
       }) a.n (omega arith),
       ms,
       ks,
-      ← p.channels-len.ensures,
-      l.before.before.bytes_below.ensures,
-      l.before.cents-ok.ensures,
-      l.bytes-below2.ensures,
+      ← c.channels_len-t.ensures,
+      c.bytes_below-a.ensures,
+      c.cents_ok-b.ensures,
+      c.bytes_below-c.ensures,
       matched-ok c.before,
-      c.links-ok2.ensures,
+      c.links_ok-e.ensures,
     )
 
-pub messages-ok-spec : {M : Type 1} → statement M
-messages-ok-spec =
+pub messages_ok_spec : {M : Type 1} → statement M
+messages_ok_spec =
     tie.close
     (tie.spec
     (λ c κs. search rules)

@@ -3,7 +3,6 @@ use mathlib.Core.Path.{◌∙◌}
 use Rattle.model.specs.Layout.{table_of}
 use Rattle.state.specs.Views.{sender_in}
 use Rattle.state.proofs.JobEnds.{end_by}
-use borrow.Author.Rules.{rules}
 use Rattle.state.proofs.job_end.Goals as goal
 
 pub returns-then-sync : goal.returns-then-sync

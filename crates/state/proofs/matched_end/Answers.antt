@@ -1,7 +1,6 @@
 -- `state::matched_end` meets its contract, with a match and without.
 use Rattle.state.specs.Views.{sender_in}
 use Rattle.state.proofs.JobEnds.{matched-none, matched-some}
-use borrow.Author.Rules.{rules}
 use Rattle.state.proofs.matched_end.Goals as goal
 
 pub returns-then-m-eq0 : goal.returns-then-m-eq0

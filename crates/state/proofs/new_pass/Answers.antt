@@ -1,5 +1,4 @@
 -- `state::new_pass` meets its contract: the pass is from the first chord on.
-use borrow.Author.Rules.{rules}
 use Rattle.state.proofs.new_pass.Goals as goal
 
 pub returns : goal.returns

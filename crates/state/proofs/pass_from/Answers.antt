@@ -2,7 +2,6 @@
 use native.Mathlib.Omega.{arith}
 use Rattle.model.specs.Layout.{table_of}
 use Rattle.state.proofs.Passes.{pass-yes, pass-no}
-use borrow.Author.Rules.{rules}
 use Rattle.state.proofs.pass_from.Goals as goal
 
 pub returns-then-chord-chords_len : goal.returns-then-chord-chords_len

@@ -2,7 +2,6 @@
 use mathlib.Core.Path.{◌∙◌}
 use Rattle.model.specs.Layout.{table_of}
 use Rattle.state.proofs.Passes.{rests-none, rests-some}
-use borrow.Author.Rules.{rules}
 use Rattle.state.proofs.rests_then.Goals as goal
 
 pub returns-then-rests-eq0 : goal.returns-then-rests-eq0

@@ -3,7 +3,6 @@ use mathlib.Core.Path.{◌∙◌}
 use Rattle.model.specs.Layout.{table_of}
 use Rattle.state.specs.Views.{sender_in}
 use Rattle.state.proofs.JobEnds.{waker-none, waker-some}
-use borrow.Author.Rules.{rules}
 use Rattle.state.proofs.sync_end.Goals as goal
 
 pub returns-then-waker-eq0 : goal.returns-then-waker-eq0

@@ -1,12 +1,9 @@
 -- `table::all_below` meets its contract: the answer for all bytes is the answer for those left.
 -- The measure is the number of bytes left.
-use mathlib.Core.Path.{◌≡◌, sym, ◌∙◌}
-use Prim.Native.Nat.{◌≤◌, ◌-◌}
+use mathlib.Core.Path.{sym, ◌∙◌}
 use native.Mathlib.Omega.{arith}
 use borrow.Author.Tests.{lt-ltb, le-ltb}
 use lib.Dec.{ltb}
-use lib.ListN.{length, drop}
-use Rattle.model.specs.Basics.{every}
 use Rattle.model.proofs.Walks.{all-no, all_yes, all_end}
 use borrow.Author.Rules.{rules}
 use Rattle.table.proofs.all_below.Goals as goal

@@ -1,6 +1,5 @@
 -- `table::chord_equal` meets its contract: the byte read is the entry's last.
 use Rattle.model.proofs.TableLaws.{equal_is}
-use borrow.Author.Rules.{rules}
 use Rattle.table.proofs.chord_equal.Goals as goal
 
 pub returns : goal.returns

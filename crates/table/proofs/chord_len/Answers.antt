@@ -1,7 +1,6 @@
 -- `table::chord_len` meets its contract: the byte read is the size.
 use mathlib.Core.Path.{sym, ◌∙◌}
 use Rattle.model.proofs.TableLaws.{size_is}
-use borrow.Author.Rules.{rules}
 use Rattle.table.proofs.chord_len.Goals as goal
 
 pub returns : goal.returns

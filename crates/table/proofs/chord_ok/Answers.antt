@@ -1,5 +1,5 @@
 -- `table::chord_ok` meets its contract: the tests of the four bytes are those of the bytes from the place on.
-use mathlib.Core.Path.{◌≡◌, sym, ◌∙◌}
+use mathlib.Core.Path.{◌≡◌, sym}
 use mathlib.Core.Bool.{◌&&◌}
 use mathlib.Core.List.{List}
 use Prim.Native.Nat.{ℕ, ◌+◌, ◌*◌}
@@ -7,7 +7,6 @@ use lib.Dec.{eqb, leb}
 use lib.ListN.{get_or, drop}
 use Rattle.model.specs.Layout.{chord_ok}
 use Rattle.table.proofs.Walks.{chord-from}
-use borrow.Author.Rules.{rules}
 use Rattle.table.proofs.chord_ok.Goals as goal
 
 by_bytes : (s : List ℕ) (at next first : ℕ) → first ≡ get_or s at 0 + 256 * get_or s (at + 1) 0

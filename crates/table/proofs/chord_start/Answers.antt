@@ -6,7 +6,6 @@ use native.Mathlib.Omega.{arith}
 use lib.ListN.{get_or}
 use Rattle.model.specs.Layout.{word, chord_entry, part_start}
 use Rattle.table.proofs.Places.{counts-in}
-use borrow.Author.Rules.{rules}
 use Rattle.table.proofs.chord_start.Goals as goal
 
 pub word_at-t-requires : goal.word_at-t-requires

@@ -1,6 +1,5 @@
 -- `table::chords_found` meets its contract: the part that is tested starts at the chords' entries.
 use Rattle.model.proofs.Parts.{to_end}
-use borrow.Author.Rules.{rules}
 use Rattle.table.proofs.chords_found.Goals as goal
 
 pub returns : goal.returns

@@ -1,6 +1,5 @@
 -- `table::counts_ok` meets its contract: the tests are the definition's, over the words read.
 use Rattle.model.specs.Layout.{counts_ok}
-use borrow.Author.Rules.{rules}
 use Rattle.table.proofs.counts_ok.Goals as goal
 
 pub returns : goal.returns

@@ -2,7 +2,6 @@
 use native.Mathlib.Omega.{arith}
 use lib.Seq.{get_or-drop}
 use Rattle.table.proofs.Places.{counts-in, entry_in}
-use borrow.Author.Rules.{rules}
 use Rattle.table.proofs.entry_byte.Goals as goal
 
 pub word_at-t-requires : goal.word_at-t-requires

@@ -3,7 +3,6 @@ use mathlib.Core.Path.{◌≡◌, ◌∙◌}
 use Prim.Native.Nat.{◌+◌, ◌-◌}
 use native.Mathlib.Omega.{arith}
 use Rattle.table.proofs.Headers.{kinds-below}
-use borrow.Author.Rules.{rules}
 use Rattle.table.proofs.kinds_ok.Goals as goal
 
 pub returns : goal.returns

@@ -1,7 +1,6 @@
 -- `table::members_ok` meets its contract: the part that is tested holds the members.
 use Rattle.model.specs.Layout.{members_ok}
 use Rattle.model.proofs.Parts.{to_end}
-use borrow.Author.Rules.{rules}
 use Rattle.table.proofs.members_ok.Goals as goal
 
 pub returns : goal.returns

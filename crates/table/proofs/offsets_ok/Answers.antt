@@ -6,7 +6,6 @@ use Prim.Native.Nat.{ℕ, ◌+◌, ◌*◌}
 use lib.Dec.{eqb}
 use lib.ListN.{length}
 use Rattle.model.specs.Layout.{word, offsets_ok}
-use borrow.Author.Rules.{rules}
 use Rattle.table.proofs.offsets_ok.Goals as goal
 
 by-words : (s : List ℕ) (t r m kinds chords members : ℕ) → t ≡ word 0 s → r ≡ word 1 s → m ≡ word 2 s

@@ -1,6 +1,5 @@
 -- `table::word_at` meets its contract: the two bytes joined are the word.
 use Rattle.model.specs.Layout.{word}
-use borrow.Author.Rules.{rules}
 use Rattle.table.proofs.word_at.Goals as goal
 
 pub returns : goal.returns

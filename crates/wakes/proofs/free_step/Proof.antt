@@ -2,7 +2,7 @@
 use mathlib.Core.Path.{◌≡◌}
 use Prim.Native.Nat.{◌<◌, ◌≤◌}
 use native.Mathlib.Omega.{arith}
-use lib.ListN.{length, length-map}
+use lib.ListN.{length}
 use Rattle.model.specs.Tables.{size}
 use Rattle.model.specs.Layout.{table_of}
 use Rattle.model.proofs.AcceptedChords.{table-ok}

@@ -1,7 +1,6 @@
 -- `wakes::signal_step` meets its contract.
 use Rattle.model.specs.Layout.{table_of}
 use Rattle.wakes.proofs.Waking.{signals-is}
-use borrow.Author.Rules.{rules}
 use Rattle.wakes.proofs.signal_step.Goals as goal
 
 pub woken_of-x-requires : goal.woken_of-x-requires

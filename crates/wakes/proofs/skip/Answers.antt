@@ -1,7 +1,6 @@
 -- `wakes::skip` meets its contract, below the place and from it on.
 use native.Mathlib.Omega.{arith}
 use Rattle.wakes.proofs.Waking.{skip-low, skip-high}
-use borrow.Author.Rules.{rules}
 use Rattle.wakes.proofs.skip.Goals as goal
 
 pub returns-then-k-f : goal.returns-then-k-f

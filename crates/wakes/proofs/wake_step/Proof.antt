@@ -1,6 +1,6 @@
 -- `wakes::wake_step` meets its contract. A chord has at most 8 channels.
 use mathlib.Core.Path.{◌≡◌}
-use lib.ListN.{length, length-map}
+use lib.ListN.{length}
 use Rattle.model.specs.Layout.{table_of}
 use Rattle.model.proofs.AcceptedChords.{table-ok}
 use Rattle.wakes.proofs.Waking.{wakes-is}

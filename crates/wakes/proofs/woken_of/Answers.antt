@@ -5,7 +5,6 @@ use Rattle.model.specs.Tables.{size}
 use Rattle.model.specs.Layout.{table_of}
 use Rattle.model.proofs.AcceptedChords.{table-ok}
 use Rattle.wakes.proofs.Waking.{woken_is}
-use borrow.Author.Rules.{rules}
 use Rattle.wakes.proofs.woken_of.Goals as goal
 
 pub bounds-chosen-f : goal.bounds-chosen-f

@@ -1,10 +1,7 @@
 -- `writer::channels_below` meets its contract: the part that is tested holds the chord's channels.
 use Rattle.writer.proofs.Chords.{channels-part}
-use mathlib.Core.Path.{◌≡◌, sym}
 use Prim.Native.Nat.{◌≤◌}
-use native.Mathlib.Omega.{arith}
-use lib.ListN.{length, length-map}
-use lib.Seq.{length-take-le}
+use lib.ListN.{length}
 use Rattle.model.specs.Layout.{members_ok}
 use borrow.Author.Rules.{rules}
 use Rattle.writer.proofs.channels_below.Goals as goal

@@ -1,14 +1,12 @@
 -- `writer::chords_sized` meets its contract: the answer for all chords is the answer for those left.
 -- The measure is the number of chords left.
-use lib.ListN.{drop, get_or}
-use Rattle.codec.specs.Views.{chord_in, table_in}
+use lib.ListN.{get_or}
+use Rattle.codec.specs.Views.{chord_in}
 use Rattle.writer.proofs.Chords.{chords-left, none_left, sized-is, zero_chord}
 use mathlib.Core.Path.{◌≡◌, sym, ◌∙◌}
 use mathlib.Core.Bool.{true, false}
-use Prim.Native.Nat.{◌≤◌, ◌-◌}
 use native.Mathlib.Omega.{arith}
 use borrow.Author.Tests.{not-true, not-false}
-use Rattle.model.specs.Basics.{every}
 use Rattle.writer.specs.Writes.{sized}
 use borrow.Author.Rules.{rules}
 use Rattle.writer.proofs.chords_sized.Goals as goal

@@ -1,10 +1,8 @@
 -- `writer::kinds_known` meets its contract: the part that is tested holds the kinds.
 use Rattle.writer.proofs.Chords.{kinds-part}
-use mathlib.Core.Path.{◌≡◌, sym, ◌∙◌}
+use mathlib.Core.Path.{◌∙◌}
 use Prim.Native.Nat.{◌≤◌}
-use native.Mathlib.Omega.{arith}
-use lib.ListN.{length, length-map}
-use lib.Seq.{length-take-le}
+use lib.ListN.{length}
 use Rattle.table.proofs.Headers.{kinds-below}
 use borrow.Author.Rules.{rules}
 use Rattle.writer.proofs.kinds_known.Goals as goal

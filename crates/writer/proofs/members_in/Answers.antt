@@ -1,13 +1,8 @@
 -- `writer::members_in` meets its contract: the answer for all chords is the answer for those left.
 -- The measure is the number of chords left.
-use mathlib.Core.Path.{◌≡◌, sym, ◌∙◌}
-use Prim.Native.Nat.{◌≤◌, ◌-◌}
+use mathlib.Core.Path.{sym, ◌∙◌}
 use native.Mathlib.Omega.{arith}
 use borrow.Author.Tests.{not-true, not-false}
-use lib.ListN.{drop}
-use Rattle.model.specs.Basics.{every}
-use Rattle.model.specs.Layout.{members_ok}
-use Rattle.codec.specs.Views.{table_in}
 use Rattle.writer.specs.Writes.{members_written}
 use Rattle.writer.proofs.Chords.{chords-left, none_left, length-kinds-in, sized-at}
 use borrow.Author.Rules.{rules}

@@ -1,14 +1,10 @@
-use mathlib.Core.Path.{◌≡◌, sym, ◌∙◌}
+use mathlib.Core.Path.{◌≡◌}
 use Prim.Native.Nat.{◌≤◌, ◌-◌}
-use native.Mathlib.Omega.{arith}
-use borrow.Author.Tests.{not-true, not-false}
 use lib.ListN.{drop}
 use Rattle.model.specs.Basics.{every}
 use Rattle.model.specs.Layout.{members_ok}
 use Rattle.codec.specs.Views.{table_in}
 use Rattle.writer.specs.Writes.{members_written}
-use Rattle.writer.proofs.Chords.{chords-left, none_left, length-kinds-in, sized-at}
-use borrow.Author.Rules.{rules}
 use Rattle.writer.proofs.members_in.Given as goal
 
 abbrev pub invariant-loop-i : goal.invariant-loop-i

@@ -1,11 +1,9 @@
 -- `writer::members_len` meets its contract: the sum and the members left are all the members.
 -- The measure is the number of chords left.
 use mathlib.Core.Path.{◌≡◌}
-use Prim.Native.Nat.{◌≤◌, ◌-◌, ◌+◌, ◌*◌}
+use Prim.Native.Nat.{◌+◌}
 use native.Mathlib.Omega.{arith}
-use lib.ListN.{length, drop, get_or}
-use Rattle.model.specs.Layout.{written_members}
-use Rattle.codec.specs.Views.{table_in}
+use lib.ListN.{get_or}
 use Rattle.writer.proofs.Chords.{none_left, zero_chord}
 use Rattle.writer.proofs.Writes.{members-left}
 use borrow.Author.Rules.{rules}

@@ -1,12 +1,8 @@
 use mathlib.Core.Path.{◌≡◌}
 use Prim.Native.Nat.{◌≤◌, ◌-◌, ◌+◌, ◌*◌}
-use native.Mathlib.Omega.{arith}
-use lib.ListN.{length, drop, get_or}
+use lib.ListN.{length, drop}
 use Rattle.model.specs.Layout.{written_members}
 use Rattle.codec.specs.Views.{table_in}
-use Rattle.writer.proofs.Chords.{none_left, zero_chord}
-use Rattle.writer.proofs.Writes.{members-left}
-use borrow.Author.Rules.{rules}
 use Rattle.writer.proofs.members_len.Given as goal
 
 abbrev pub invariant-loop-i : goal.invariant-loop-i

@@ -1,10 +1,9 @@
 -- `writer::put_bytes` meets its contract: the bytes left, stored from here on, give all of them stored.
 -- The measure is the number of bytes left.
 use mathlib.Core.Path.{◌≡◌, refl, sym, ◌∙◌}
-use Prim.Native.Nat.{◌≤◌, ◌-◌, ◌+◌}
+use Prim.Native.Nat.{◌+◌}
 use native.Mathlib.Omega.{arith}
-use lib.ListN.{length, drop, length-set}
-use lib.Seq.{sets}
+use lib.ListN.{length-set}
 use Rattle.model.proofs.Walks.{fill-next, fill_end}
 use borrow.Author.Rules.{rules}
 use Rattle.writer.proofs.put_bytes.Goals as goal

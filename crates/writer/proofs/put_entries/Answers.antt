@@ -1,13 +1,11 @@
 -- `writer::put_entries` meets its contract: the entries left, stored from here on, give all of them stored.
 -- The measure is the number of chords left.
 use mathlib.Core.Path.{◌≡◌, refl, sym, ◌∙◌}
-use Prim.Native.Nat.{◌≤◌, ◌-◌, ◌+◌, ◌*◌}
+use Prim.Native.Nat.{◌+◌, ◌*◌}
 use native.Mathlib.Omega.{arith}
-use lib.ListN.{length, drop, get_or}
+use lib.ListN.{get_or}
 use lib.Seq.{sets, length-sets}
-use Rattle.model.specs.Layout.{written_chords}
 use Rattle.table.specs.Equalities.{equality_in}
-use Rattle.codec.specs.Views.{table_in}
 use Rattle.writer.specs.Writes.{entry_bytes}
 use Rattle.writer.proofs.Chords.{none_left, zero_chord}
 use Rattle.writer.proofs.Writes.{entries_next}

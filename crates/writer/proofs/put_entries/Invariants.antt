@@ -1,15 +1,9 @@
-use mathlib.Core.Path.{◌≡◌, refl, sym, ◌∙◌}
+use mathlib.Core.Path.{◌≡◌}
 use Prim.Native.Nat.{◌≤◌, ◌-◌, ◌+◌, ◌*◌}
-use native.Mathlib.Omega.{arith}
-use lib.ListN.{length, drop, get_or}
-use lib.Seq.{sets, length-sets}
+use lib.ListN.{length, drop}
+use lib.Seq.{sets}
 use Rattle.model.specs.Layout.{written_chords}
-use Rattle.table.specs.Equalities.{equality_in}
 use Rattle.codec.specs.Views.{table_in}
-use Rattle.writer.specs.Writes.{entry_bytes}
-use Rattle.writer.proofs.Chords.{none_left, zero_chord}
-use Rattle.writer.proofs.Writes.{entries_next}
-use borrow.Author.Rules.{rules}
 use Rattle.writer.proofs.put_entries.Given as goal
 
 abbrev pub invariant-loop-i : goal.invariant-loop-i

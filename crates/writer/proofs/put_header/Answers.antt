@@ -1,5 +1,4 @@
 -- `writer::put_header` meets its contract: six words stored in turn are the header stored.
-use borrow.Author.Rules.{rules}
 use Rattle.writer.proofs.put_header.Goals as goal
 
 pub returns : goal.returns

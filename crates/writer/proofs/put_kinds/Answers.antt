@@ -1,9 +1,6 @@
 -- `writer::put_kinds` meets its contract: the part that is stored holds the kinds.
-use mathlib.Core.Path.{◌≡◌, sym}
 use Prim.Native.Nat.{◌≤◌}
-use native.Mathlib.Omega.{arith}
-use lib.ListN.{length, length-map}
-use lib.Seq.{length-take-le}
+use lib.ListN.{length}
 use Rattle.writer.proofs.Chords.{kinds-part}
 use borrow.Author.Rules.{rules}
 use Rattle.writer.proofs.put_kinds.Goals as goal

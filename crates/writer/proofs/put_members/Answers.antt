@@ -1,12 +1,10 @@
 -- `writer::put_members` meets its contract: the members left, stored from here on, give all of them stored.
 -- The measure is the number of chords left.
 use mathlib.Core.Path.{◌≡◌, refl, sym, ◌∙◌}
-use Prim.Native.Nat.{◌≤◌, ◌-◌, ◌+◌}
 use native.Mathlib.Omega.{arith}
-use lib.ListN.{length, drop, get_or}
+use lib.ListN.{get_or}
 use lib.Seq.{sets, length-sets}
-use Rattle.model.specs.Layout.{written_members}
-use Rattle.codec.specs.Views.{chord_in, table_in}
+use Rattle.codec.specs.Views.{chord_in}
 use Rattle.writer.proofs.Chords.{none_left, sized-at, zero_chord}
 use Rattle.writer.proofs.Writes.{members-left, members-next}
 use borrow.Author.Rules.{rules}

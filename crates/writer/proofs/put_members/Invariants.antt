@@ -1,13 +1,9 @@
-use mathlib.Core.Path.{◌≡◌, refl, sym, ◌∙◌}
+use mathlib.Core.Path.{◌≡◌}
 use Prim.Native.Nat.{◌≤◌, ◌-◌, ◌+◌}
-use native.Mathlib.Omega.{arith}
-use lib.ListN.{length, drop, get_or}
-use lib.Seq.{sets, length-sets}
+use lib.ListN.{length, drop}
+use lib.Seq.{sets}
 use Rattle.model.specs.Layout.{written_members}
-use Rattle.codec.specs.Views.{chord_in, table_in}
-use Rattle.writer.proofs.Chords.{none_left, sized-at, zero_chord}
-use Rattle.writer.proofs.Writes.{members-left, members-next}
-use borrow.Author.Rules.{rules}
+use Rattle.codec.specs.Views.{table_in}
 use Rattle.writer.proofs.put_members.Given as goal
 
 abbrev pub invariant-loop-i : goal.invariant-loop-i

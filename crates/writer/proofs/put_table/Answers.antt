@@ -4,7 +4,6 @@ use native.Mathlib.Omega.{arith}
 use Rattle.codec.specs.Views.{table_in}
 use Rattle.writer.proofs.Chords.{length-kinds-in, length-chords-in}
 use Rattle.writer.proofs.Writes.{length-written, table-stored}
-use borrow.Author.Rules.{rules}
 use Rattle.writer.proofs.put_table.Goals as goal
 
 pub returns : goal.returns

@@ -1,0 +1,2 @@
+-- What the contracts of `texts` and of the programs on tables cite.
+pub mod Counts
