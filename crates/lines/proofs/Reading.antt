@@ -13,7 +13,8 @@ use mir.Val.{to_z, SFits}
 use Rattle.model.specs.Basics.{pick}
 use Rattle.model.specs.Pools.Call.{adds, steps}
 use Rattle.model.specs.Lines.{cut_at, joined, fields_of, is_decimal, digits_value, is_number, is_magnitude, is_minus}
-use Rattle.model.specs.Lines.{digits_of, is_cents, cents_from, add_of, add_line, step_of, step_line, is_byte, line_by, line_of}
+use Rattle.model.specs.Lines.{digits_of, is_cents, cents_from, add_of, add_line, step_of, step_line, is_byte}
+use Rattle.model.specs.Lines.{line_by, line_of}
 use Rattle.model.specs.Lines.Line.{unreadable, reads}
 use Rattle.model.proofs.Tests.{both}
 use Rattle.lines.specs.Views.{plus_one}

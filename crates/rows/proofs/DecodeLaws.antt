@@ -94,7 +94,8 @@ module _ (s : List ℕ) (l : length s ≡ board_len) where
 
   behind : drop 672 (drop 2 s) ≡ get_or s closed_at 0 ∷ (tallies_in s ++ backoffs_in s)
   behind =
-      drop-drop 672 2 s ∙ drop-cons s closed_at 0 (omega (arith, l)) ∙ ap (λ (x : List ℕ). get_or s closed_at 0 ∷ x) lasts
+      drop-drop 672 2 s ∙ drop-cons s closed_at 0 (omega (arith, l))
+      ∙ ap (λ (x : List ℕ). get_or s closed_at 0 ∷ x) lasts
 
 -- numbers that pass are those of their board, which fits its types
 pub from_back : (s : List ℕ) → encodes s ≡ true → (board_numbers (board_from s) ≡ s) × BoardFits (board_from s)

@@ -1,7 +1,7 @@
 -- Laws of an empty board's numbers, written: the same sender at each of 32 places, then two counts and a flag of 0, no
 -- sender has added a message, and last the backoff table.
-use mathlib.Core.Path.{◌≡◌, refl, ap, ◌∙◌, sym}
-use mathlib.Core.List.{List, [], ◌∷◌, ◌++◌, append_assoc, append-nil}
+use mathlib.Core.Path.{◌≡◌, ap, ◌∙◌, sym}
+use mathlib.Core.List.{List, ◌∷◌, ◌++◌, append_assoc, append-nil}
 use Prim.Native.Nat.{ℕ, ◌+◌, ◌*◌, ◌<◌, ◌≤◌}
 use lib.ListN.{length, get_or, take, drop, set, replicate, get_or-replicate, length-replicate, length-append}
 use lib.ListN.{take-append-drop, drop_of_length-le, length-drop}
@@ -69,7 +69,8 @@ module _ (s s' s'' front rests : List ℕ) (n : length s ≡ board_len) (m : len
       ∙ ap (λ (x : ℕ). paste (front ++ (0 ∷ drop tallies_at s)) x none-added 32) past
       ∙ paste-behind front (0 ∷ drop tallies_at s) none-added 1 32
 
-  pub ended : s' ≡ paste (front ++ (0 ∷ drop tallies_at s)) tallies_at none-added 32 → s'' ≡ paste s' backoffs_at rests 16
+  pub ended : s' ≡ paste (front ++ (0 ∷ drop tallies_at s)) tallies_at none-added 32
+      → s'' ≡ paste s' backoffs_at rests 16
       → s'' ≡ front ++ (0 ∷ (none-added ++ rests))
   ended e e' =
       let w = drop 32 (drop tallies_at s) in

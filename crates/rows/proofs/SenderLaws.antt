@@ -65,7 +65,8 @@ module _ (a cs : List ℕ) (i : ℕ) (l : length a ≡ 21) (m : length cs ≡ 8)
   chosen-end h e = anew-end (drop 13 a) cs i (m ∙ sym eight) e (omega (arith, eight))
 
 pub phase-spelled : (p : DP.Phase) (xs : List ℕ)
-    → get_or (phase_numbers p) 0 0 ∷ get_or (phase_numbers p) 1 0 ∷ get_or (phase_numbers p) 2 0 ∷ xs ≡ phase_numbers p ++ xs
+    → get_or (phase_numbers p) 0 0 ∷ get_or (phase_numbers p) 1 0 ∷ get_or (phase_numbers p) 2 0 ∷ xs
+    ≡ phase_numbers p ++ xs
 phase-spelled (P.Look k) xs = refl
 phase-spelled (P.Claim k) xs = refl
 phase-spelled (P.Revert k claims) xs = refl

@@ -2,7 +2,7 @@
 use mathlib.Core.Path.{◌≡◌, refl, sym, ap, ◌∙◌}
 use mathlib.Core.Bool.{true}
 use mathlib.Core.List.{List, [], ◌∷◌, ◌++◌, append_assoc, append-nil}
-use Prim.Native.Nat.{ℕ, zero, suc, ◌+◌, ◌*◌, ◌-◌, ◌<◌, ◌≤◌}
+use Prim.Native.Nat.{ℕ, zero, suc, ◌+◌, ◌*◌, ◌<◌, ◌≤◌}
 use borrow.Author.Tests.{eqb-true, leb-true}
 use lib.Dec.{eqb}
 use lib.ListN.{length, get_or, take, drop, set}
@@ -16,7 +16,8 @@ use Rattle.boards.specs.Layout.{board_len, closed_at}
 use Rattle.rows.specs.Numbers.{sender_numbers, senders_numbers, encodes_sender, encodes_senders, encodes}
 
 -- each sender of those that pass
-each-ok : (n i : ℕ) (s : List ℕ) → encodes_senders n s ≡ true → i < n → encodes_sender (take 21 (drop (21 * i) s)) ≡ true
+each-ok : (n i : ℕ) (s : List ℕ) → encodes_senders n s ≡ true → i < n
+    → encodes_sender (take 21 (drop (21 * i) s)) ≡ true
 unfolding encodes_senders
 each-ok zero i s e h = absurd (omega arith)
 each-ok (suc n) zero s e h = (both {t = encodes_sender (take 21 s)} e).0

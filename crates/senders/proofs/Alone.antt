@@ -12,7 +12,6 @@ use lib.ListN.{length, get_or, drop, drop_of_length-le}
 use lib.Seq.{drop-cons}
 use Rattle.model.specs.Basics.{every}
 use Rattle.model.specs.Tables.{Table}
-use Rattle.model.specs.Boards.{Sender}
 use Rattle.model.specs.Sound.{owns, none_shared}
 use Rattle.state.specs.declared.Sender as DD
 use Rattle.state.specs.Views.{sender_in, idle_is, job_in}

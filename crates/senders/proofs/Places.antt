@@ -83,7 +83,8 @@ module _ (s : List ℕ) (accepts : table_refusal s ≡ 0) where
     chord-is : (ltb chord (length (table_of s).chords) && (is_in x (chord_at (table_of s) chord).channels
         && eqb (length (take (size (table_of s) chord) ns)) (size (table_of s) chord))) ≡ in_chord (table_of s) chord x
     unfolding in_chord
-    chord-is = and-spare (ltb chord (length (table_of s).chords)) (is_in x (chord_at (table_of s) chord).channels) _ (λ e.
+    chord-is = and-spare (ltb chord (length (table_of s).chords)) (is_in x (chord_at (table_of s) chord).channels) _
+        (λ e.
         let few = (table-ok s accepts).chord_few chord (ltb-true _ _ e) in
         eq-eqb _ _ (length-take-le (size (table_of s) chord) ns (omega arith)))
 

@@ -1,6 +1,7 @@
 -- What the test of senders sees of a board: its counts and its messages' channels. And the parts of that test (rules
 -- 3.4 to 3.6).
-use Rattle.std.specs.Prelude.{◌≡◌, Bool, true, ◌&&◌, ◌||◌, not, List, [], ◌∷◌, ℕ, ◌+◌, ◌<◌, ◌≤◌, eqb, ltb, length, get_or}
+use Rattle.std.specs.Prelude.{◌≡◌, Bool, true, ◌&&◌, ◌||◌, not, List, [], ◌∷◌, ℕ, ◌+◌, ◌<◌, ◌≤◌, eqb, ltb, length}
+use Rattle.std.specs.Prelude.{get_or}
 use Rattle.model.specs.Basics.{pick, is_in, every}
 use Rattle.model.specs.Tables.{Table, chord_at, is_sync}
 use Rattle.model.specs.Boards.{Board, channel_of}

@@ -4,7 +4,7 @@
 
 ghost use Rattle.std.specs.Prelude.{◌<◌, ◌≤◌};
 
-use libc::STDOUT_FILENO;
+use std::io::Stdout;
 use table::Equality;
 
 const P: [u8; 20] = [
@@ -16,16 +16,17 @@ struct Tally {
     counts: [u16; 8],
 }
 
-fn say(text: &[u8]) {
-    io::write_all(STDOUT_FILENO, text);
+// What cannot be written is missing from the printout, which goes on.
+fn say(stdout: Stdout, text: &[u8]) {
+    let _ = stdout.write_all(text);
 }
 
-fn say_number(n: usize) {
-    io::print_decimal(STDOUT_FILENO, n as u64);
+fn say_number(stdout: Stdout, n: usize) {
+    let _ = stdout.print(n);
 }
 
-fn say_count(n: u16) {
-    io::print_decimal(STDOUT_FILENO, n as u64);
+fn say_count(stdout: Stdout, n: u16) {
+    let _ = stdout.print(n);
 }
 
 // The tally with one more of a number.
@@ -89,28 +90,28 @@ fn is_same(a: Tally, b: Tally) -> bool {
 }
 
 // A line for bytes that fare alike: each number, and how many values give it.
-fn say_tally(from: usize, to: usize, t: Tally) {
-    say(b"bytes ");
-    say_number(from);
-    say(b" to ");
-    say_number(to);
-    say(b":");
+fn say_tally(stdout: Stdout, from: usize, to: usize, t: Tally) {
+    say(stdout, b"bytes ");
+    say_number(stdout, from);
+    say(stdout, b" to ");
+    say_number(stdout, to);
+    say(stdout, b":");
     let mut k: usize = 0;
     while k < 8 {
         let c = t.counts[k];
         if c != 0 {
-            say(b"  ");
-            say_number(k);
-            say(b" by ");
-            say_count(c);
+            say(stdout, b"  ");
+            say_number(stdout, k);
+            say(stdout, b" by ");
+            say_count(stdout, c);
         }
         k += 1;
     }
-    say(b"\n");
+    say(stdout, b"\n");
 }
 
 // A line for each run of bytes that fare alike.
-fn say_damage(bytes: [u8; 412], len: usize)
+fn say_damage(stdout: Stdout, bytes: [u8; 412], len: usize)
     requires { (1 ≤ len) × (len ≤ 412) }
 {
     let mut from: usize = 0;
@@ -119,27 +120,27 @@ fn say_damage(bytes: [u8; 412], len: usize)
     while at < len {
         let t = tally_of(bytes, len, at);
         if !is_same(last, t) {
-            say_tally(from, at - 1, last);
+            say_tally(stdout, from, at - 1, last);
             from = at;
             last = t;
         }
         at += 1;
     }
-    say_tally(from, len - 1, last);
+    say_tally(stdout, from, len - 1, last);
 }
 
 // The number of each beginning of the bytes.
-fn say_cuts(bytes: [u8; 412], len: usize)
+fn say_cuts(stdout: Stdout, bytes: [u8; 412], len: usize)
     requires { len ≤ 412 }
 {
     let mut n: usize = 0;
     while n <= len {
         let number = number_of(&bytes, n);
-        say(b" ");
-        say_number(number as usize);
+        say(stdout, b" ");
+        say_number(stdout, number as usize);
         n += 1;
     }
-    say(b"\n");
+    say(stdout, b"\n");
 }
 
 // The three equalities in turn.
@@ -199,10 +200,10 @@ fn full_table() -> codec::Table {
     }
 }
 
-fn say_written(number: u8) {
-    say(b"written, number ");
-    say_number(number as usize);
-    say(b"\n");
+fn say_written(stdout: Stdout, number: u8) {
+    say(stdout, b"written, number ");
+    say_number(stdout, number as usize);
+    say(stdout, b"\n");
 }
 
 // A value with its first chord of another length, or with another second channel.
@@ -249,76 +250,77 @@ fn with_lens(t: codec::Table, kinds: u8, chords: u8) -> codec::Table {
 }
 
 // The number of a value written to a buffer of some bytes, and whether the bytes stayed as they were.
-fn say_value(label: &[u8], t: codec::Table, room: usize)
+fn say_value(stdout: Stdout, label: &[u8], t: codec::Table, room: usize)
     requires { room ≤ 20 }
 {
     let mut out = [255u8; 20];
     let number = writer::write_table(t, &mut out[0..room]);
-    say(label);
-    say(b": ");
-    say_number(number as usize);
+    say(stdout, label);
+    say(stdout, b": ");
+    say_number(stdout, number as usize);
     if out[0] == 255 {
-        say(b", nothing written");
+        say(stdout, b", nothing written");
     }
-    say(b"\n");
+    say(stdout, b"\n");
 }
 
 // The last byte of table P's chord.
-fn say_last(label: &[u8], p: [u8; 20]) {
-    say(label);
-    say_number(p[17] as usize);
+fn say_last(stdout: Stdout, label: &[u8], p: [u8; 20]) {
+    say(stdout, label);
+    say_number(stdout, p[17] as usize);
 }
 
 // Table P's value with an equality: the number of its writing, its chord's last byte, and that byte once it is read and
 // written again.
-fn say_equal(label: &[u8], t: codec::Table, equal: Equality) {
+fn say_equal(stdout: Stdout, label: &[u8], t: codec::Table, equal: Equality) {
     let mut out = [255u8; 20];
     let number = writer::write_table(with_equal(t, equal), &mut out);
     let read = codec::read_table(&out);
     let table = read.table;
     let mut back = [255u8; 20];
     writer::write_table(table, &mut back);
-    say(label);
-    say(b": ");
-    say_number(number as usize);
-    say_last(b", last byte ", out);
-    say_last(b", back ", back);
-    say(b"\n");
+    say(stdout, label);
+    say(stdout, b": ");
+    say_number(stdout, number as usize);
+    say_last(stdout, b", last byte ", out);
+    say_last(stdout, b", back ", back);
+    say(stdout, b"\n");
 }
 
-fn say_equals(t: codec::Table) {
-    say_equal(b"any", t, Equality::Any);
-    say_equal(b"equal properties", t, Equality::Property);
-    say_equal(b"equal properties and units", t, Equality::Unit);
+fn say_equals(stdout: Stdout, t: codec::Table) {
+    say_equal(stdout, b"any", t, Equality::Any);
+    say_equal(stdout, b"equal properties", t, Equality::Property);
+    say_equal(stdout, b"equal properties and units", t, Equality::Unit);
 }
 
 // Table P's value with one field out of range.
-fn say_values(t: codec::Table) {
-    say_value(b"0 channels", with_lens(t, 0, 1), 20);
-    say_value(b"17 channels", with_lens(t, 17, 1), 20);
-    say_value(b"200 channels", with_lens(t, 200, 1), 20);
-    say_value(b"33 chords", with_lens(t, 2, 33), 20);
-    say_value(b"a chord of 0", with_len(t, 0), 20);
-    say_value(b"a chord of 9", with_len(t, 9), 20);
-    say_value(b"kind 7", with_kind(t, 7), 20);
-    say_value(b"channel 2", with_channel(t, 2), 20);
-    say_value(b"a buffer of 19", t, 19);
-    say_value(b"a buffer of 20", t, 20);
+fn say_values(stdout: Stdout, t: codec::Table) {
+    say_value(stdout, b"0 channels", with_lens(t, 0, 1), 20);
+    say_value(stdout, b"17 channels", with_lens(t, 17, 1), 20);
+    say_value(stdout, b"200 channels", with_lens(t, 200, 1), 20);
+    say_value(stdout, b"33 chords", with_lens(t, 2, 33), 20);
+    say_value(stdout, b"a chord of 0", with_len(t, 0), 20);
+    say_value(stdout, b"a chord of 9", with_len(t, 9), 20);
+    say_value(stdout, b"kind 7", with_kind(t, 7), 20);
+    say_value(stdout, b"channel 2", with_channel(t, 2), 20);
+    say_value(stdout, b"a buffer of 19", t, 19);
+    say_value(stdout, b"a buffer of 20", t, 20);
 }
 
-fn main() {
+fn main(rt: HostRuntime) {
+    let stdout = rt.stdout();
     let read = codec::read_table(&P);
     let table = read.table;
     let mut p = [255u8; 412];
-    say(b"table P, ");
-    say_written(writer::write_table(table, &mut p));
-    say(b"cut to 0, 1, .. 20 bytes:");
-    say_cuts(p, 20);
-    say_damage(p, 20);
-    say_values(table);
-    say_equals(table);
+    say(stdout, b"table P, ");
+    say_written(stdout, writer::write_table(table, &mut p));
+    say(stdout, b"cut to 0, 1, .. 20 bytes:");
+    say_cuts(stdout, p, 20);
+    say_damage(stdout, p, 20);
+    say_values(stdout, table);
+    say_equals(stdout, table);
     let mut full = [255u8; 412];
-    say(b"full table, ");
-    say_written(writer::write_table(full_table(), &mut full));
-    say_damage(full, 412);
+    say(stdout, b"full table, ");
+    say_written(stdout, writer::write_table(full_table(), &mut full));
+    say_damage(stdout, full, 412);
 }

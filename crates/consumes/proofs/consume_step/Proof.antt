@@ -17,20 +17,18 @@ use Rattle.consumes.proofs.consume_step.Tie as tie
 held : (s : tie.Start) → get_or s.args.d.job.chosen s.args.k 0 < s.args.n
 held s = s.requires.1.2.below s.args.k s.requires.1.1
 
-element-copy-out-x : tie.Need-element-copy-out-x
+element-copy-out-x : tie.Need-bounds-j-k
 element-copy-out-x c =
-    let s = c.before.before.before in
-    let a = s.args in
-    let l = (table-ok a.table.now s.requires.0.0).chord_few a.d.job.chord s.requires.0.1 in
-    omega (arith, s.requires.1.1)
+    let a = c.args in
+    let l = (table-ok a.table.now c.requires.0.0).chord_few a.d.job.chord c.requires.0.1 in
+    omega (arith, c.requires.1.1)
 
-noted-requires : tie.Need-noted-requires
+noted-requires : tie.Need-noted-e-requires
 noted-requires c κs = let s = c.before.before.before.before in omega (arith, held s)
 
-consumed-to-requires : tie.Need-consumed-to-requires
+consumed-to-requires : tie.Need-consumed_to-end-requires
 consumed-to-requires c κs =
-    let q = c.before in
-    rw q.noted.ensures q.before.before.before.before.before.requires
+    rw c.noted-e.ensures c.requires
 
 returns : tie.Need-returns
 returns c =
@@ -42,19 +40,19 @@ returns c =
     let t = table_of a.table.now in
     let x = get_or d.job.chosen a.k 0 in
     let u = consumes a.m in
-    let e = q.noted.ensures in
+    let e = q.noted-e.ensures in
     λ pr st o es ew eg.
     let col = columns_by a.channels.now pr st o in
     let b = board_by a.channels.now pr st a.n o in
     let few : x < length b.messages = rw (length-messages col 0 a.n) (held s) in
-    consumes-is t b d a.k a.m x q.noted.result c.consumed-to.result s.requires.1.0 s.requires.1.1 refl e
-    (c.consumed-to.ensures (messages_after (turn x u) b.messages)
+    consumes-is t b d a.k a.m x q.noted-e.result c.consumed_to-end.result s.requires.1.0 s.requires.1.1 refl e
+    (c.consumed_to-end.ensures (messages_after (turn x u) b.messages)
     (λ i h. channel-after b.messages x i u ∙ nth-channel col a.n i h)
     (rw (e, channel-after b.messages x (d.own - 1) u) es)
     (rw (e, channel-after b.messages x (d.waker - 1) u) ew)
-    (rw (e, consumed-after b.messages x (d.waker - 1) a.m few, eg, l.less.ensures)))
+    (rw (e, consumed-after b.messages x (d.waker - 1) a.m few, eg, l.less-v.ensures)))
 
-pub consume-step-spec : {M : Type 1} → statement M
-consume-step-spec =
+pub consume_step_spec : {M : Type 1} → statement M
+consume_step_spec =
     tie.close
     (tie.spec (λ c. search rules) element-copy-out-x noted-requires (λ c κs. search rules) consumed-to-requires returns)

@@ -8,45 +8,41 @@ use borrow.Author.Rules.{rules}
 use Rattle.lines.proofs.add_of.Statement.{statement}
 use Rattle.lines.proofs.add_of.Tie as tie
 
-abbrev start : tie.After-number5 → tie.Start
+abbrev start : tie.After-number-u → tie.Start
 start c = c.before.before.before.before.before.before.before.before.before.before.before.before
 
 -- what holds of the numbers of the six fields
-abbrev Of : (ℕ → ℕ → ℕ → ℕ → ℕ → ℕ → Type 0) → tie.After-number5 → Type 0
+abbrev Of : (ℕ → ℕ → ℕ → ℕ → ℕ → ℕ → Type 0) → tie.After-number-u → Type 0
 Of P c =
-    let e = c.before.before in
-    let f = e.before.before in
-    P f.before.number.result f.number2.result e.before.number3.result e.unsigned-cents.result
-    c.before.number4.result c.number5.result
+    P c.number-d.result c.number-t.result c.number-p.result c.unsigned_cents-c.result
+    c.number-y.result c.number-u.result
 
-read : (c : tie.After-number5) → let a = (start c).args in
+read : (c : tie.After-number-u) → let a = (start c).args in
     Of (Read a.sender.now a.channel.now a.property.now a.cents.now a.day.now a.unit.now) c
 read c =
-    let e = c.before.before in
-    let f = e.before.before in
     record {
-      sender = f.before.number.ensures.0;
-      channel = f.number2.ensures.0;
-      property = e.before.number3.ensures.0;
-      cents = e.unsigned-cents.ensures.0;
-      day = c.before.number4.ensures.0;
-      unit = c.number5.ensures.0;
+      sender = c.number-d.ensures.0;
+      channel = c.number-t.ensures.0;
+      property = c.number-p.ensures.0;
+      cents = c.unsigned_cents-c.ensures.0;
+      day = c.number-y.ensures.0;
+      unit = c.number-u.ensures.0;
     }
 
-some : (c : tie.Else1) → Of AllSome c.before
-some c = all-some _ _ _ _ _ _ (not-false _ c.if1.false)
+some : (c : tie.Else-not-all) → Of AllSome c.before
+some c = all-some _ _ _ _ _ _ (not-false _ c.if-not-all.false-raw)
 
-returns : tie.Need-returns
-returns c = no_add (read c.before) (not-true _ c.if1.true)
+returns : tie.Need-returns-then-not-all
+returns c = no_add (read c.before) (not-true _ c.if-not-all.true-raw)
 
-returns-2 : tie.Need-returns-2
+returns-2 : tie.Need-returns
 returns-2 c =
     let p = c.before.before in
-    let back = to_z-of_z w64 c.signed.result (record { sfits = c.signed.type-inv }) in
-    rw (back, c.signed.ensures, c.before.is-minus.ensures) (some-add (read p.before) (some p))
+    let back = to_z-of_z w64 c.signed-v.result (record { sfits = c.signed-v.type_inv }) in
+    rw (back, c.signed-v.ensures, c.is_minus.ensures) (some-add (read p.before) (some p))
 
-pub add-of-spec : {M : Type 1} → statement M
-add-of-spec =
+pub add_of_spec : {M : Type 1} → statement M
+add_of_spec =
     tie.close
     (tie.spec
     (λ c κs. search rules)

@@ -10,39 +10,38 @@ use borrow.Author.Rules.{rules}
 use Rattle.lines.proofs.read_step.Statement.{statement}
 use Rattle.lines.proofs.read_step.Tie as tie
 
-abbrev start : tie.Else1 → tie.Start
+abbrev start : tie.Else-byte_from-s → tie.Start
 start c = c.before.before.before
 
 -- what is left is one field
-whole : (c : tie.Else1) → fields_of (drop (start c).args.at (start c).args.s.now)
+whole : (c : tie.Else-byte_from-s) → fields_of (drop (start c).args.at (start c).args.s.now)
     ≡ drop (start c).args.at (start c).args.s.now ∷ []
 whole c =
     let a = (start c).args in
-    field-last a.s.now a.at _ (start c).requires c.before.byte-from.ensures.0 c.if1.false
+    field-last a.s.now a.at _ (start c).requires c.byte_from.ensures.0 c.if-byte_from-s.false
 
-returns : tie.Need-returns
+returns : tie.Need-returns-then-byte_from-s
 returns c =
-    let s = c.before.before.before in
-    let a = s.args in
-    let e = c.before.byte-from.ensures in
-    rw (field-more a.s.now a.at _ s.requires e.0 c.if1.true) (sym (step-more _ _))
+    let a = c.args in
+    let e = c.byte_from.ensures in
+    rw (field-more a.s.now a.at _ c.requires e.0 c.if-byte_from-s.true) (sym (step-more _ _))
 
-returns-2 : tie.Need-returns-2
+returns-2 : tie.Need-returns-then-d-eq0
 returns-2 c =
     let c1 = c.before.before.before in
     let a = (start c1).args in
-    let e = rw (to_end a.s.now a.at) at c.before.number.ensures.0 in
-    rw (whole c1) (step-none (drop a.at a.s.now) _ e c.if2.true)
+    let e = rw (to_end a.s.now a.at) at c.number-d.ensures.0 in
+    rw (whole c1) (step-none (drop a.at a.s.now) _ e c.if-d-eq0.true)
 
-returns-3 : tie.Need-returns-3
+returns-3 : tie.Need-returns
 returns-3 c =
     let c1 = c.before.before.before in
     let a = (start c1).args in
-    let e = rw (to_end a.s.now a.at) at c.before.number.ensures.0 in
-    rw (whole c1) (step-some (drop a.at a.s.now) _ e c.if2.false)
+    let e = rw (to_end a.s.now a.at) at c.number-d.ensures.0 in
+    rw (whole c1) (step-some (drop a.at a.s.now) _ e c.if-d-eq0.false)
 
-pub read-step-spec : {M : Type 1} → statement M
-read-step-spec =
+pub read_step_spec : {M : Type 1} → statement M
+read_step_spec =
     tie.close
     (tie.spec
     (λ c κs. search rules)

@@ -8,32 +8,31 @@ use borrow.Author.Rules.{rules}
 use Rattle.lines.proofs.unsigned_cents.Statement.{statement}
 use Rattle.lines.proofs.unsigned_cents.Tie as tie
 
-abbrev start : tie.Then1 → tie.Start
+abbrev start : tie.Then-is_minus → tie.Start
 start c = c.before.before.before
 
-yes : (c : tie.Then1) → is_minus (start c).args.s.now ≡ true
-yes c = sym c.before.is-minus.ensures ∙ c.if1.true
+yes : (c : tie.Then-is_minus) → is_minus (start c).args.s.now ≡ true
+yes c = sym c.is_minus.ensures ∙ c.if-is_minus.true
 
-sub-magnitude : tie.Need-overflow-sub-magnitude
+sub-magnitude : tie.Need-slice_bounds-magnitude-count
 sub-magnitude c = minus-some (start c).args.s.now (yes c)
 
-part-magnitude-start : tie.Need-slice-bounds-magnitude-start
+part-magnitude-start : tie.Need-slice_bounds-magnitude-start
 part-magnitude-start c = let m = minus-some (start c).args.s.now (yes c) in search rules
 
-returns : tie.Need-returns
+returns : tie.Need-returns-then-is_minus
 returns c =
     let t = c.before.before in
     let s = (start t).args.s.now in
     (rw (← cents-minus s (yes t)) (rw (to_end s 1) at c.magnitude.ensures.0), search rules)
 
-returns-2 : tie.Need-returns-2
+returns-2 : tie.Need-returns
 returns-2 c =
-    let q = c.before.before in
-    let s = q.before.before.args.s.now in
-    (c.magnitude2.ensures.0 ∙ cents-plain s (sym q.is-minus.ensures ∙ c.before.if1.false), search rules)
+    let s = c.args.s.now in
+    (c.magnitude-2.ensures.0 ∙ cents-plain s (sym c.is_minus.ensures ∙ c.if-is_minus.false), search rules)
 
-pub unsigned-cents-spec : {M : Type 1} → statement M
-unsigned-cents-spec =
+pub unsigned_cents_spec : {M : Type 1} → statement M
+unsigned_cents_spec =
     tie.close
     (tie.spec
     (λ c κs. search rules)

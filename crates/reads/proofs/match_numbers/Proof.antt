@@ -9,16 +9,16 @@ use borrow.Author.Rules.{rules}
 use Rattle.reads.proofs.match_numbers.Statement.{statement}
 use Rattle.reads.proofs.match_numbers.Tie as tie
 
-abbrev start : tie.After-shared-slice-known4 → tie.Start
+abbrev start : tie.After-shared_slice_known-4-1 → tie.Start
 start c = c.before.before.before.before
 
-len-few : (c : tie.After-chord-len) → c.chord-len.result ≤ 8
+len-few : (c : tie.After-chord_len-len) → c.chord_len-len.result ≤ 8
 len-few c =
     let s = start c.before in
-    rw c.chord-len.ensures
-    (size_few s.args.table.now (get_or s.args.chords.now s.args.k 0) s.pre.0 s.pre.1.chord_known)
+    rw c.chord_len-len.ensures
+    (size_few s.args.table.now (get_or s.args.chords.now s.args.k 0) s.requires.0 s.requires.1.chord_known)
 
-part-result-end : tie.Need-slice-bounds-result-end
+part-result-end : tie.Need-slice_bounds-result-end
 part-result-end c = omega (arith, len-few c, (start c.before).requires.1.numbers_in)
 
 returns : tie.Need-returns
@@ -26,12 +26,12 @@ unfolding match_in
 returns c =
     let n = c.before in
     let i = (start n.before).args.k in
-    let l = n.chord-len.result in
+    let l = n.chord_len-len.result in
     let e : 8 * i + l - 8 * i ≡ l = omega arith in
-    rw (e, n.chord-len.ensures)
+    rw (e, n.chord_len-len.ensures)
 
-pub match-numbers-spec : {M : Type 1} → statement M
-match-numbers-spec =
+pub match_numbers_spec : {M : Type 1} → statement M
+match_numbers_spec =
     tie.close
     (tie.spec
     (λ c. search rules)

@@ -12,14 +12,13 @@ use borrow.Author.Rules.{rules}
 use Rattle.reads.proofs.match_read.Statement.{statement}
 use Rattle.reads.proofs.match_read.Tie as tie
 
-len-few : (c : tie.After-match-numbers) → length c.match-numbers.result.now ≤ 8
+len-few : (c : tie.After-match_numbers-numbers) → length c.match_numbers-numbers.result.now ≤ 8
 len-few c =
-    let s = c.before.before.before.before in
-    let a = s.args in
-    rw c.match-numbers.ensures
-    (numbers-few a.table.now s.requires.0 (matches_of a.chords.now a.messages.now) a.k s.requires.1.held)
+    let a = c.args in
+    rw c.match_numbers-numbers.ensures
+    (numbers-few a.table.now c.requires.0 (matches_of a.chords.now a.messages.now) a.k c.requires.1.held)
 
-cast-t12 : tie.Need-overflow-cast-t12
+cast-t12 : tie.Need-overflow_cast-result-2
 cast-t12 c = record { fits = omega (arith, len-few c.before) }
 
 copied-requires : tie.Need-copied-requires
@@ -30,19 +29,19 @@ unfolding match_in
 returns c =
     let q = c.before in
     let p = q.before.before in
-    let ns = p.match-numbers.result.now in (
+    let ns = p.match_numbers-numbers.result.now in (
       λ b h. rw (
-        to_z-of_z w64 c.match-cents.result (record { sfits = c.match-cents.ok }),
+        to_z-of_z w64 c.match_cents.result (record { sfits = omega arith }),
         q.copied.ensures,
         paste-whole (replicate 8 0) ns,
-        p.match-numbers.ensures,
-        c.match-cents.ensures (λ i. (message_at b i).sent) h,
+        p.match_numbers-numbers.ensures,
+        c.match_cents.ensures (λ i. (message_at b i).sent) h,
       ),
       (len-few p, rw q.copied.ensures (paste-rest (replicate 8 0) ns)),
     )
 
-pub match-read-spec : {M : Type 1} → statement M
-match-read-spec =
+pub match_read_spec : {M : Type 1} → statement M
+match_read_spec =
     tie.close
     (tie.spec
     (λ c κs. search rules)

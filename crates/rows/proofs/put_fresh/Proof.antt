@@ -14,82 +14,81 @@ use Rattle.rows.proofs.FreshLaws.{Written, same_next, fresh-end}
 use Rattle.rows.proofs.put_fresh.Statement.{statement}
 use Rattle.rows.proofs.put_fresh.Tie as tie
 
-abbrev invariant-loop : tie.invariant-loop
+abbrev invariant-loop : tie.invariant-loop-i
 invariant-loop s₀ rests idle i₀ s i = (i ≤ 32) × (length s ≡ board_len) × Written idle s (take 2 s₀) i
 
-abbrev decreases-loop : tie.decreases-loop
+abbrev decreases-loop : tie.decreases-loop-i
 decreases-loop s₀ rests idle i₀ s i = 32 - i
 
-loop-holds : tie.Need-loop-init invariant-loop decreases-loop
-loop-holds c = (search rules, search rules, none_written (take 2 c.before.before.before.args.s.now))
+loop-holds : tie.Need-loop-i-init invariant-loop decreases-loop
+loop-holds c = (search rules, search rules, none_written (take 2 c.args.s.now))
 
-loop-again : tie.Need-loop-preserved invariant-loop decreases-loop
+loop-again : tie.Need-loop-i-preserved invariant-loop decreases-loop
 loop-again c =
-    let n = c.before.before in
-    let p = n.before.before.before in
-    let f = p.before in
-    let a = f.before.before.before.args in (
+    let a = c.args in (
       search rules,
       search rules,
-      same_next f.fresh-sender.result p.loop.s n.put-sender.new.1.0 (take 2 a.s.now) p.loop.i
-          (omega arith) p.loop.invariant.1 (sender-long _ n.put-sender.ensures.1) n.put-sender.ensures.0
-          p.loop.invariant.2,
+      same_next c.fresh_sender-idle.result c.loop-i.s c.put_sender.new.s (take 2 a.s.now) c.loop-i.i
+          (omega arith) c.loop-i.invariant.1 (sender-long _ c.put_sender.ensures.1) c.put_sender.ensures.0
+          c.loop-i.invariant.2,
     )
 
-abbrev start : tie.At-loop invariant-loop decreases-loop → tie.Start invariant-loop decreases-loop
+abbrev start : tie.At-loop-i invariant-loop decreases-loop → tie.Start invariant-loop decreases-loop
 start w = w.before.before.before.before
 
 -- the senders written, from the tallies on
-abbrev wrote : tie.After-clear-tallies-arg invariant-loop decreases-loop → tie.At-loop invariant-loop decreases-loop
+abbrev wrote : tie.After-clear_tallies-arg-1 invariant-loop decreases-loop → tie.At-loop-i invariant-loop decreases-loop
 wrote c = c.before.before
 
-long : (c : tie.After-clear-tallies-arg invariant-loop decreases-loop)
-    → length (set (set (set (wrote c).loop.s 0 0) 1 0) closed_at 0) ≡ board_len
+long : (c : tie.After-clear_tallies-arg-1 invariant-loop decreases-loop)
+    → length (set (set (set (wrote c).loop-i.s 0 0) 1 0) closed_at 0) ≡ board_len
 long c =
-    let s = (wrote c).loop.s in
-    length-set (set (set s 0 0) 1 0) closed_at 0 ∙ length-set (set s 0 0) 1 0 ∙ length-set s 0 0 ∙ (wrote c).loop.invariant.1
+    let s = (wrote c).loop-i.s in
+    length-set (set (set s 0 0) 1 0) closed_at 0 ∙ length-set (set s 0 0) 1 0 ∙ length-set s 0 0
+    ∙ (wrote c).loop-i.invariant.1
 
 -- the tallies written, from the table on
-abbrev cleared : tie.After-put-backoffs-arg invariant-loop decreases-loop → tie.After-clear-tallies invariant-loop decreases-loop
+abbrev cleared : tie.After-put_backoffs-arg-1 invariant-loop decreases-loop
+    → tie.After-clear_tallies invariant-loop decreases-loop
 cleared c = c.before.before.before
 
 -- what holds there
-ready : tie.Need-put-backoffs-requires invariant-loop decreases-loop
+ready : tie.Need-put_backoffs-requires invariant-loop decreases-loop
 ready c κs =
     let v = cleared c in
     let w = wrote v.before in
-    let s = set (set (set w.loop.s 0 0) 1 0) closed_at 0 in
+    let s = set (set (set w.loop-i.s 0 0) 1 0) closed_at 0 in
     let z : List ℕ = replicate 32 0 in (
-      ap length v.clear-tallies.ensures
+      ap length v.clear_tallies.ensures
           ∙ length-paste s tallies_at z 32 (omega (arith, long v.before))
           (omega (arith, length-replicate {A = ℕ} 32 0)) ∙ long v.before,
-      (start w).pre.1,
+      (start w).requires.1,
     )
 
-same_length : tie.Need-same-length invariant-loop decreases-loop
+same_length : tie.Need-shape_of-s invariant-loop decreases-loop
 same_length c =
     let b = c.before.before in
     let v = cleared b.before in
     let s = start (wrote v.before) in
     let h = ready b.before s.lifetimes in
-    ap length b.put-backoffs.ensures
-    ∙ length-paste v.clear-tallies.last.0 backoffs_at s.args.rests.now 16 (omega (arith, h.0))
+    ap length b.put_backoffs.ensures
+    ∙ length-paste v.clear_tallies.new.s backoffs_at s.args.rests.now 16 (omega (arith, h.0))
     (omega (arith, h.1))
-    ∙ h.0 ∙ sym s.pre.0
+    ∙ h.0 ∙ sym s.requires.0
 
 returns : tie.Need-returns invariant-loop decreases-loop
 returns c =
     let b = c.before.before in
     let v = cleared b.before in
     let w = wrote v.before in
-    let f = w.before in
     let s = start w in
-    fresh-end f.fresh-sender.result w.loop.s _ _ s.args.s.now s.args.rests.now w.loop.i
-    f.fresh-sender.ensures w.loop.inv.1 (omega (arith, s.pre.0)) s.pre.1 (omega arith) w.loop.inv.2
-    v.clear-tallies.ensures b.put-backoffs.ensures
+    fresh-end w.fresh_sender-idle.result w.loop-i.s _ _ s.args.s.now s.args.rests.now w.loop-i.i
+    w.fresh_sender-idle.ensures w.loop-i.invariant.1 (omega (arith, s.requires.0)) s.requires.1 (omega arith)
+    w.loop-i.invariant.2
+    v.clear_tallies.ensures b.put_backoffs.ensures
 
-pub put-fresh-spec : {M : Type 1} → statement M
-put-fresh-spec =
+pub put_fresh_spec : {M : Type 1} → statement M
+put_fresh_spec =
     tie.close
     (tie.spec
     invariant-loop

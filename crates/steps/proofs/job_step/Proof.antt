@@ -22,10 +22,10 @@ use Rattle.steps.proofs.job_step.Statement.{statement}
 use Rattle.steps.proofs.job_step.Tie as tie
 
 -- the start of the function, from the read of the subject's channel and from the match on the phase
-abbrev entry : tie.After-shared-slice-known7 → tie.Start
+abbrev entry : tie.After-shared_slice_known-7-1 → tie.Start
 entry c = c.before.before.before.before.before.before.before.before.before
 
-abbrev start : tie.After-shared-slice-known8 → tie.Start
+abbrev start : tie.After-shared_slice_known-8-1 → tie.Start
 start c = entry c.before
 
 abbrev tab : tie.Start → Table
@@ -81,222 +81,222 @@ channel_is : (s : tie.Start) (o : Others)
     → channel_of (board s o) s.args.d.job.subject ≡ get_or s.args.channels.now s.args.d.job.subject 0
 channel_is s o = R.channel-read _ _ _ o _ _ (subject_in s)
 
-shared-slice-read-channel : tie.Need-shared-slice-read-channel
+shared-slice-read-channel : tie.Need-bounds-channels-at
 shared-slice-read-channel c =
     let s = entry c in
     let h = subject_in s in
-    omega (arith, L.channels-in _ _ _ _ _ _ _ _ s.pre.1.0)
+    omega (arith, L.channels-in _ _ _ _ _ _ _ _ s.requires.1.0)
 
-shared-slice-read-opened : tie.Need-shared-slice-read-opened
+shared-slice-read-opened : tie.Need-bounds-statuses-at
 shared-slice-read-opened c =
     let s = start c in
     let h = subject_in s in
-    omega (arith, L.statuses-in _ _ _ _ _ _ _ _ s.pre.1.0)
+    omega (arith, L.statuses-in _ _ _ _ _ _ _ _ s.requires.1.0)
 
-look-step-requires : tie.Need-look-step-requires
+look-step-requires : tie.Need-look_step-requires
 look-step-requires c κs =
     let q = c.before in
     let s = start q.before.before in
-    let g = q.phase.given in
+    let g = q.phase-1.given in
     let p = place s (P.Look g.0.0) g.1 in
-    ((s.pre.0.0, p.0.chord-in), ((g.1, p.1), ((subject_in s, s.pre.1.0.lent), s.pre.1.1)))
+    ((s.requires.0.0, p.0.chord-in), ((g.1, p.1), ((subject_in s, s.requires.1.0.lent), s.requires.1.1)))
 
-returns : tie.Need-returns
+returns : tie.Need-returns-in-Look
 returns c =
     let q = c.before.before in
     let s = start q.before.before in
-    let g = q.phase.given in
+    let g = q.phase-1.given in
     λ o em eb eu. step_is s o (P.Look g.0.0) g.1
-    (c.look-step.ensures o eu)
+    (c.look_step.ensures o eu)
 
-is-pending-requires : tie.Need-is-pending-requires
+is-pending-requires : tie.Need-is_pending-requires
 is-pending-requires c κs =
     let q = c.before in
     let s = start q.before.before in
-    let g = q.phase2.given in
+    let g = q.phase-in-Claim-1.given in
     let p = place s (P.Claim g.0.0) g.1 in
     let l = few s p.0.chord-in in
-    let h = L.chosen_in _ _ _ _ _ _ _ _ s.pre.1.0 s.pre.0.1 (all s (P.Claim g.0.0) g.1 refl) p.0
+    let h = L.chosen_in _ _ _ _ _ _ _ _ s.requires.1.0 s.requires.0.1 (all s (P.Claim g.0.0) g.1 refl) p.0
     g.0.0 p.1 in
-    (omega (arith, p.1), omega (arith, L.statuses-in _ _ _ _ _ _ _ _ s.pre.1.0))
+    (omega (arith, p.1), omega (arith, L.statuses-in _ _ _ _ _ _ _ _ s.requires.1.0))
 
-claim-step-requires : tie.Need-claim-step-requires
+claim-step-requires : tie.Need-claim_step-requires
 claim-step-requires c κs =
     let q = c.before.before in
     let s = start q.before.before in
-    let g = q.phase2.given in
+    let g = q.phase-in-Claim-1.given in
     let p = place s (P.Claim g.0.0) g.1 in
-    ((s.pre.0.0, p.0.chord-in), ((g.1, p.1), (s.pre.1.0.known _ (subject_in s), s.pre.1.0.few)))
+    ((s.requires.0.0, p.0.chord-in), ((g.1, p.1), (s.requires.1.0.known _ (subject_in s), s.requires.1.0.few)))
 
-returns-2 : tie.Need-returns-2
+returns-2 : tie.Need-returns-in-Claim
 returns-2 c =
     let q = c.before.before.before in
     let s = start q.before.before in
-    let g = q.phase2.given in
+    let g = q.phase-in-Claim-1.given in
     λ o em eb eu. step_is s o (P.Claim g.0.0) g.1
-    (c.claim-step.ensures (board s o) (channel_is s o)
-    (L.pending-chosen _ _ _ _ _ _ _ _ s.pre.1.0 s.pre.0.1 (all s (P.Claim g.0.0) g.1 refl)
+    (c.claim_step.ensures (board s o) (channel_is s o)
+    (L.pending-chosen _ _ _ _ _ _ _ _ s.requires.1.0 s.requires.0.1 (all s (P.Claim g.0.0) g.1 refl)
     (place s (P.Claim g.0.0) g.1).0 o g.0.0 (place s (P.Claim g.0.0) g.1).1
-    ∙ sym c.before.is-pending.ensures) em)
+    ∙ sym c.is_pending.ensures) em)
 
-revert-step-requires : tie.Need-revert-step-requires
+revert-step-requires : tie.Need-revert_step-requires
 revert-step-requires c κs =
     let q = c.before in
     let s = start q.before.before in
-    let g = q.phase3.given in
+    let g = q.phase-in-Revert-1.given in
     let p = place s (P.Revert g.0.0 g.0.1.0) g.1 in
-    ((s.pre.0.0, p.0.chord-in), (g.1, omega (arith, p.1, p.2)))
+    ((s.requires.0.0, p.0.chord-in), (g.1, omega (arith, p.1, p.2)))
 
-returns-3 : tie.Need-returns-3
+returns-3 : tie.Need-returns-in-Revert
 returns-3 c =
     let q = c.before.before in
     let s = start q.before.before in
-    let g = q.phase3.given in
+    let g = q.phase-in-Revert-1.given in
     λ o em eb eu. step_is s o (P.Revert g.0.0 g.0.1.0) g.1
-    (c.revert-step.ensures (board s o) (channel_is s o))
+    (c.revert_step.ensures (board s o) (channel_is s o))
 
-sees-requires : tie.Need-sees-requires
+sees-requires : tie.Need-sees-v-requires
 sees-requires c κs = sees-asks (start c.before.before.before)
 
-consume-step-requires : tie.Need-consume-step-requires
+consume-step-requires : tie.Need-consume_step-requires
 consume-step-requires c κs =
     let q = c.before.before in
     let s = start q.before.before in
-    let g = q.phase4.given in
+    let g = q.phase-in-Consume-1.given in
     let p = place s (P.Consume g.0.0 g.0.1.0) g.1 in (
-      (s.pre.0.0, p.0.chord-in),
+      (s.requires.0.0, p.0.chord-in),
       (
         g.1,
         p.1,
-        L.held _ _ _ _ _ _ _ _ s.pre.1.0 s.pre.0.1
+        L.held _ _ _ _ _ _ _ _ s.requires.1.0 s.requires.0.1
             (all s (P.Consume g.0.0 g.0.1.0) g.1 refl) p.0,
       ),
     )
 
-returns-4 : tie.Need-returns-4
+returns-4 : tie.Need-returns-in-Consume
 returns-4 c =
     let v = c.before in
     let q = v.before.before in
     let s = start q.before.before in
-    let g = q.phase4.given in
-    let saw = v.sees.ensures s.args.keys.now in
+    let g = q.phase-in-Consume-1.given in
+    let saw = v.sees-v.ensures s.args.keys.now in
     λ o em eb eu. step_is s o (P.Consume g.0.0 g.0.1.0) g.1
-    (c.consume-step.ensures s.args.keys.now s.args.statuses.now o
+    (c.consume_step.ensures s.args.keys.now s.args.statuses.now o
     (saw o).sync_is (saw o).channel_is (saw o).consumed_is)
 
-sees-requires-2 : tie.Need-sees-requires-2
+sees-requires-2 : tie.Need-sees-v-requires-in-Tell
 sees-requires-2 c κs = sees-asks (start c.before.before.before)
 
-tell-step-requires : tie.Need-tell-step-requires
+tell-step-requires : tie.Need-tell_step-requires
 tell-step-requires c κs =
     let q = c.before.before in
     let s = start q.before.before in
-    let g = q.phase5.given in
+    let g = q.phase-in-Tell-1.given in
     let p = place s (P.Tell g.0.0) g.1 in
     let a = all s (P.Tell g.0.0) g.1 refl in (
-      (s.pre.0.0, p.0.chord-in),
+      (s.requires.0.0, p.0.chord-in),
       (
         g.1,
-        L.held _ _ _ _ _ _ _ _ s.pre.1.0 s.pre.0.1 a p.0,
-        L.left _ _ _ _ _ _ _ _ s.pre.1.0 s.pre.0.1 a p.0 g.0.0 p,
+        L.held _ _ _ _ _ _ _ _ s.requires.1.0 s.requires.0.1 a p.0,
+        L.left _ _ _ _ _ _ _ _ s.requires.1.0 s.requires.0.1 a p.0 g.0.0 p,
       ),
     )
 
-returns-5 : tie.Need-returns-5
+returns-5 : tie.Need-returns-in-Tell
 returns-5 c =
     let v = c.before in
     let q = v.before.before in
     let s = start q.before.before in
-    let g = q.phase5.given in
-    let saw = v.sees2.ensures s.args.keys.now in
+    let g = q.phase-in-Tell-1.given in
+    let saw = v.sees-v-in-Tell.ensures s.args.keys.now in
     λ o em eb eu. step_is s o (P.Tell g.0.0) g.1
-    (c.tell-step.ensures s.args.keys.now s.args.statuses.now o
+    (c.tell_step.ensures s.args.keys.now s.args.statuses.now o
     (saw o).sync_is (saw o).channel_is (saw o).consumed_is)
 
-wake-step-requires : tie.Need-wake-step-requires
+wake-step-requires : tie.Need-wake_step-requires
 wake-step-requires c κs =
     let s = start c.before.before in
-    let g = c.enum_told.given in
+    let g = c.enum_told-1.given in
     let p = place s P.Wake g.1 in
     let f = (wakes-first (tab s) s.args.d.job.chord (channel_of (ready s) s.args.d.job.subject) p.1).0 in
-    ((s.pre.0.0, p.0.chord-in), (g.1, f))
+    ((s.requires.0.0, p.0.chord-in), (g.1, f))
 
-returns-6 : tie.Need-returns-6
+returns-6 : tie.Need-returns-in-Wake
 returns-6 c =
     let q = c.before in
     let s = start q.before.before in
-    let g = q.enum_told.given in
+    let g = q.enum_told-1.given in
     λ o em eb eu. step_is s o P.Wake g.1
-    (c.wake-step.ensures (board s o))
+    (c.wake_step.ensures (board s o))
 
-free-step-requires : tie.Need-free-step-requires
+free-step-requires : tie.Need-free_step-requires
 free-step-requires c κs =
     let q = c.before in
     let s = start q.before.before in
-    let g = q.phase6.given in
+    let g = q.phase-in-Free-1.given in
     let p = place s (P.Free g.0.0) g.1 in
     let f = (wakes-first (tab s) s.args.d.job.chord (channel_of (ready s) s.args.d.job.subject) p.1).0 in
-    ((s.pre.0.0, p.0.chord-in), (g.1, omega (arith, p.2), f))
+    ((s.requires.0.0, p.0.chord-in), (g.1, omega (arith, p.2), f))
 
-returns-7 : tie.Need-returns-7
+returns-7 : tie.Need-returns-in-Free
 returns-7 c =
     let q = c.before.before in
     let s = start q.before.before in
-    let g = q.phase6.given in
+    let g = q.phase-in-Free-1.given in
     λ o em eb eu. step_is s o (P.Free g.0.0) g.1
     (c.free_step.ensures (board s o))
 
-sees-requires-3 : tie.Need-sees-requires-3
+sees-requires-3 : tie.Need-sees-v-requires-in-Signal
 sees-requires-3 c κs = sees-asks (start c.before.before)
 
-signal-step-requires : tie.Need-signal-step-requires
+signal-step-requires : tie.Need-signal_step-requires
 signal-step-requires c κs =
     let q = c.before in
     let s = start q.before.before in
-    let g = q.enum-told2.given in
+    let g = q.enum_told-in-Signal-1.given in
     let p = place s P.Signal g.1 in
     let f = (wakes-first (tab s) s.args.d.job.chord (channel_of (ready s) s.args.d.job.subject) p.1).0 in
-    ((s.pre.0.0, p.0.chord-in), (g.1, f))
+    ((s.requires.0.0, p.0.chord-in), (g.1, f))
 
-returns-8 : tie.Need-returns-8
+returns-8 : tie.Need-returns-in-Signal
 returns-8 c =
     let v = c.before in
     let q = v.before in
     let s = start q.before.before in
-    let g = q.enum-told2.given in
-    let saw = v.sees3.ensures s.args.keys.now in
+    let g = q.enum_told-in-Signal-1.given in
+    let saw = v.sees-v-in-Signal.ensures s.args.keys.now in
     λ o em eb eu. step_is s o P.Signal g.1
-    (c.signal-step.ensures (board s o)
+    (c.signal_step.ensures (board s o)
     (saw o).sync_is (saw o).channel_is (saw o).consumed_is)
 
-sees-requires-4 : tie.Need-sees-requires-4
+sees-requires-4 : tie.Need-sees-v-requires-in-PassEnd
 sees-requires-4 c κs = sees-asks (start c.before.before)
 
-pass-end-requires : tie.Need-pass-end-requires
-pass-end-requires c κs = let s = start c.before.before.before in (s.pre.0.0, s.pre.0.2)
+pass-end-requires : tie.Need-pass_end-requires
+pass-end-requires c κs = let s = start c.before.before.before in (s.requires.0.0, s.requires.0.2)
 
-returns-9 : tie.Need-returns-9
+returns-9 : tie.Need-returns-in-PassEnd
 returns-9 c =
     let v = c.before in
     let q = v.before in
     let s = start q.before.before in
-    let g = q.enum-told3.given in
-    let saw = v.sees4.ensures s.args.keys.now in
+    let g = q.enum_told-in-PassEnd-1.given in
+    let saw = v.sees-v-in-PassEnd.ensures s.args.keys.now in
     λ o em eb eu. step_is s o P.PassEnd g.1
-    (c.pass-end.ensures (board s o) eb (channel_is s o)
+    (c.pass_end.ensures (board s o) eb (channel_is s o)
     (R.open-read _ _ _ o _ _ (subject_in s))
     (saw o).sync_is (saw o).channel_is (saw o).consumed_is)
 
-returns-10 : tie.Need-returns-10
+returns-10 : tie.Need-returns-in-Backoff
 returns-10 c =
     let q = c.before.before in
     let s = start q.before.before in
-    let g = q.phase7.given in
+    let g = q.phase-in-Backoff-1.given in
     λ o em eb eu. step_is s o (P.Backoff g.0.0) g.1
-    (c.backoff-step.ensures (board s o) (channel_is s o))
+    (c.backoff_step.ensures (board s o) (channel_is s o))
 
-pub job-step-spec : {M : Type 1} → statement M
-job-step-spec =
+pub job_step_spec : {M : Type 1} → statement M
+job_step_spec =
     tie.close
     (tie.spec
     (λ c. search rules)
