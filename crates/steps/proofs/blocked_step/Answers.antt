@@ -5,7 +5,6 @@ use native.Mathlib.Omega.{arith}
 use lib.ListN.{get_or}
 use Rattle.columns.specs.Columns.{board_by, status_of}
 use Rattle.steps.proofs.MessageReads.{channel-read, status-read, match-read, waker-read}
-use borrow.Author.Rules.{rules}
 use Rattle.steps.proofs.blocked_step.Goals as goal
 
 pub returns : goal.returns

@@ -83,216 +83,216 @@ channel_is s o = R.channel-read _ _ _ o _ _ (subject_in s)
 
 shared-slice-read-channel : tie.Need-bounds-channels-at
 shared-slice-read-channel c =
-    let s = entry c in
+    let s = c.before.before.before.before.before.before.before.before.before in
     let h = subject_in s in
     omega (arith, L.channels-in _ _ _ _ _ _ _ _ s.requires.1.0)
 
 shared-slice-read-opened : tie.Need-bounds-statuses-at
 shared-slice-read-opened c =
-    let s = start c in
+    let s = entry c.before in
     let h = subject_in s in
     omega (arith, L.statuses-in _ _ _ _ _ _ _ _ s.requires.1.0)
 
 look-step-requires : tie.Need-look_step-requires
 look-step-requires c κs =
-    let q = c.before in
-    let s = start q.before.before in
-    let g = q.phase-1.given in
-    let p = place s (P.Look g.0.0) g.1 in
-    ((s.requires.0.0, p.0.chord-in), ((g.1, p.1), ((subject_in s, s.requires.1.0.lent), s.requires.1.1)))
+    let q = c in
+    let s = start q.before in
+    let g = q.in-Look in
+    let p = place s (P.Look g.k) g.is in
+    ((s.requires.0.0, p.0.chord-in), ((g.is, p.1), ((subject_in s, s.requires.1.0.lent), s.requires.1.1)))
 
 returns : tie.Need-returns-in-Look
 returns c =
-    let q = c.before.before in
-    let s = start q.before.before in
-    let g = q.phase-1.given in
-    λ o em eb eu. step_is s o (P.Look g.0.0) g.1
+    let q = c.before in
+    let s = start q.before in
+    let g = q.in-Look in
+    λ o em eb eu. step_is s o (P.Look g.k) g.is
     (c.look_step.ensures o eu)
 
 is-pending-requires : tie.Need-is_pending-requires
 is-pending-requires c κs =
-    let q = c.before in
-    let s = start q.before.before in
-    let g = q.phase-in-Claim-1.given in
-    let p = place s (P.Claim g.0.0) g.1 in
+    let q = c in
+    let s = start q.before in
+    let g = q.in-Claim in
+    let p = place s (P.Claim g.k) g.is in
     let l = few s p.0.chord-in in
-    let h = L.chosen_in _ _ _ _ _ _ _ _ s.requires.1.0 s.requires.0.1 (all s (P.Claim g.0.0) g.1 refl) p.0
-    g.0.0 p.1 in
+    let h = L.chosen_in _ _ _ _ _ _ _ _ s.requires.1.0 s.requires.0.1 (all s (P.Claim g.k) g.is refl) p.0
+    g.k p.1 in
     (omega (arith, p.1), omega (arith, L.statuses-in _ _ _ _ _ _ _ _ s.requires.1.0))
 
 claim-step-requires : tie.Need-claim_step-requires
 claim-step-requires c κs =
-    let q = c.before.before in
-    let s = start q.before.before in
-    let g = q.phase-in-Claim-1.given in
-    let p = place s (P.Claim g.0.0) g.1 in
-    ((s.requires.0.0, p.0.chord-in), ((g.1, p.1), (s.requires.1.0.known _ (subject_in s), s.requires.1.0.few)))
+    let q = c.before in
+    let s = start q.before in
+    let g = q.in-Claim in
+    let p = place s (P.Claim g.k) g.is in
+    ((s.requires.0.0, p.0.chord-in), ((g.is, p.1), (s.requires.1.0.known _ (subject_in s), s.requires.1.0.few)))
 
 returns-2 : tie.Need-returns-in-Claim
 returns-2 c =
-    let q = c.before.before.before in
-    let s = start q.before.before in
-    let g = q.phase-in-Claim-1.given in
-    λ o em eb eu. step_is s o (P.Claim g.0.0) g.1
+    let q = c.before.before in
+    let s = start q.before in
+    let g = q.in-Claim in
+    λ o em eb eu. step_is s o (P.Claim g.k) g.is
     (c.claim_step.ensures (board s o) (channel_is s o)
-    (L.pending-chosen _ _ _ _ _ _ _ _ s.requires.1.0 s.requires.0.1 (all s (P.Claim g.0.0) g.1 refl)
-    (place s (P.Claim g.0.0) g.1).0 o g.0.0 (place s (P.Claim g.0.0) g.1).1
+    (L.pending-chosen _ _ _ _ _ _ _ _ s.requires.1.0 s.requires.0.1 (all s (P.Claim g.k) g.is refl)
+    (place s (P.Claim g.k) g.is).0 o g.k (place s (P.Claim g.k) g.is).1
     ∙ sym c.is_pending.ensures) em)
 
 revert-step-requires : tie.Need-revert_step-requires
 revert-step-requires c κs =
-    let q = c.before in
-    let s = start q.before.before in
-    let g = q.phase-in-Revert-1.given in
-    let p = place s (P.Revert g.0.0 g.0.1.0) g.1 in
-    ((s.requires.0.0, p.0.chord-in), (g.1, omega (arith, p.1, p.2)))
+    let q = c in
+    let s = start q.before in
+    let g = q.in-Revert in
+    let p = place s (P.Revert g.k g.m) g.is in
+    ((s.requires.0.0, p.0.chord-in), (g.is, omega (arith, p.1, p.2)))
 
 returns-3 : tie.Need-returns-in-Revert
 returns-3 c =
-    let q = c.before.before in
-    let s = start q.before.before in
-    let g = q.phase-in-Revert-1.given in
-    λ o em eb eu. step_is s o (P.Revert g.0.0 g.0.1.0) g.1
+    let q = c.before in
+    let s = start q.before in
+    let g = q.in-Revert in
+    λ o em eb eu. step_is s o (P.Revert g.k g.m) g.is
     (c.revert_step.ensures (board s o) (channel_is s o))
 
 sees-requires : tie.Need-sees-v-requires
-sees-requires c κs = sees-asks (start c.before.before.before)
+sees-requires c κs = sees-asks (start c.before)
 
 consume-step-requires : tie.Need-consume_step-requires
 consume-step-requires c κs =
-    let q = c.before.before in
-    let s = start q.before.before in
-    let g = q.phase-in-Consume-1.given in
-    let p = place s (P.Consume g.0.0 g.0.1.0) g.1 in (
+    let q = c.before in
+    let s = start q.before in
+    let g = q.in-Consume in
+    let p = place s (P.Consume g.k g.m) g.is in (
       (s.requires.0.0, p.0.chord-in),
       (
-        g.1,
+        g.is,
         p.1,
         L.held _ _ _ _ _ _ _ _ s.requires.1.0 s.requires.0.1
-            (all s (P.Consume g.0.0 g.0.1.0) g.1 refl) p.0,
+            (all s (P.Consume g.k g.m) g.is refl) p.0,
       ),
     )
 
 returns-4 : tie.Need-returns-in-Consume
 returns-4 c =
     let v = c.before in
-    let q = v.before.before in
-    let s = start q.before.before in
-    let g = q.phase-in-Consume-1.given in
+    let q = v.before in
+    let s = start q.before in
+    let g = q.in-Consume in
     let saw = v.sees-v.ensures s.args.keys.now in
-    λ o em eb eu. step_is s o (P.Consume g.0.0 g.0.1.0) g.1
+    λ o em eb eu. step_is s o (P.Consume g.k g.m) g.is
     (c.consume_step.ensures s.args.keys.now s.args.statuses.now o
     (saw o).sync_is (saw o).channel_is (saw o).consumed_is)
 
 sees-requires-2 : tie.Need-sees-v-requires-in-Tell
-sees-requires-2 c κs = sees-asks (start c.before.before.before)
+sees-requires-2 c κs = sees-asks (start c.before)
 
 tell-step-requires : tie.Need-tell_step-requires
 tell-step-requires c κs =
-    let q = c.before.before in
-    let s = start q.before.before in
-    let g = q.phase-in-Tell-1.given in
-    let p = place s (P.Tell g.0.0) g.1 in
-    let a = all s (P.Tell g.0.0) g.1 refl in (
+    let q = c.before in
+    let s = start q.before in
+    let g = q.in-Tell in
+    let p = place s (P.Tell g.k) g.is in
+    let a = all s (P.Tell g.k) g.is refl in (
       (s.requires.0.0, p.0.chord-in),
       (
-        g.1,
+        g.is,
         L.held _ _ _ _ _ _ _ _ s.requires.1.0 s.requires.0.1 a p.0,
-        L.left _ _ _ _ _ _ _ _ s.requires.1.0 s.requires.0.1 a p.0 g.0.0 p,
+        L.left _ _ _ _ _ _ _ _ s.requires.1.0 s.requires.0.1 a p.0 g.k p,
       ),
     )
 
 returns-5 : tie.Need-returns-in-Tell
 returns-5 c =
     let v = c.before in
-    let q = v.before.before in
-    let s = start q.before.before in
-    let g = q.phase-in-Tell-1.given in
+    let q = v.before in
+    let s = start q.before in
+    let g = q.in-Tell in
     let saw = v.sees-v-in-Tell.ensures s.args.keys.now in
-    λ o em eb eu. step_is s o (P.Tell g.0.0) g.1
+    λ o em eb eu. step_is s o (P.Tell g.k) g.is
     (c.tell_step.ensures s.args.keys.now s.args.statuses.now o
     (saw o).sync_is (saw o).channel_is (saw o).consumed_is)
 
 wake-step-requires : tie.Need-wake_step-requires
 wake-step-requires c κs =
-    let s = start c.before.before in
-    let g = c.enum_told-1.given in
-    let p = place s P.Wake g.1 in
+    let s = start c.before in
+    let g = c.in-Wake in
+    let p = place s P.Wake g.is in
     let f = (wakes-first (tab s) s.args.d.job.chord (channel_of (ready s) s.args.d.job.subject) p.1).0 in
-    ((s.requires.0.0, p.0.chord-in), (g.1, f))
+    ((s.requires.0.0, p.0.chord-in), (g.is, f))
 
 returns-6 : tie.Need-returns-in-Wake
 returns-6 c =
     let q = c.before in
-    let s = start q.before.before in
-    let g = q.enum_told-1.given in
-    λ o em eb eu. step_is s o P.Wake g.1
+    let s = start q.before in
+    let g = q.in-Wake in
+    λ o em eb eu. step_is s o P.Wake g.is
     (c.wake_step.ensures (board s o))
 
 free-step-requires : tie.Need-free_step-requires
 free-step-requires c κs =
-    let q = c.before in
-    let s = start q.before.before in
-    let g = q.phase-in-Free-1.given in
-    let p = place s (P.Free g.0.0) g.1 in
+    let q = c in
+    let s = start q.before in
+    let g = q.in-Free in
+    let p = place s (P.Free g.k) g.is in
     let f = (wakes-first (tab s) s.args.d.job.chord (channel_of (ready s) s.args.d.job.subject) p.1).0 in
-    ((s.requires.0.0, p.0.chord-in), (g.1, omega (arith, p.2), f))
+    ((s.requires.0.0, p.0.chord-in), (g.is, omega (arith, p.2), f))
 
 returns-7 : tie.Need-returns-in-Free
 returns-7 c =
-    let q = c.before.before in
-    let s = start q.before.before in
-    let g = q.phase-in-Free-1.given in
-    λ o em eb eu. step_is s o (P.Free g.0.0) g.1
+    let q = c.before in
+    let s = start q.before in
+    let g = q.in-Free in
+    λ o em eb eu. step_is s o (P.Free g.k) g.is
     (c.free_step.ensures (board s o))
 
 sees-requires-3 : tie.Need-sees-v-requires-in-Signal
-sees-requires-3 c κs = sees-asks (start c.before.before)
+sees-requires-3 c κs = sees-asks (start c.before)
 
 signal-step-requires : tie.Need-signal_step-requires
 signal-step-requires c κs =
     let q = c.before in
-    let s = start q.before.before in
-    let g = q.enum_told-in-Signal-1.given in
-    let p = place s P.Signal g.1 in
+    let s = start q.before in
+    let g = q.in-Signal in
+    let p = place s P.Signal g.is in
     let f = (wakes-first (tab s) s.args.d.job.chord (channel_of (ready s) s.args.d.job.subject) p.1).0 in
-    ((s.requires.0.0, p.0.chord-in), (g.1, f))
+    ((s.requires.0.0, p.0.chord-in), (g.is, f))
 
 returns-8 : tie.Need-returns-in-Signal
 returns-8 c =
     let v = c.before in
     let q = v.before in
-    let s = start q.before.before in
-    let g = q.enum_told-in-Signal-1.given in
+    let s = start q.before in
+    let g = q.in-Signal in
     let saw = v.sees-v-in-Signal.ensures s.args.keys.now in
-    λ o em eb eu. step_is s o P.Signal g.1
+    λ o em eb eu. step_is s o P.Signal g.is
     (c.signal_step.ensures (board s o)
     (saw o).sync_is (saw o).channel_is (saw o).consumed_is)
 
 sees-requires-4 : tie.Need-sees-v-requires-in-PassEnd
-sees-requires-4 c κs = sees-asks (start c.before.before)
+sees-requires-4 c κs = sees-asks (start c.before)
 
 pass-end-requires : tie.Need-pass_end-requires
-pass-end-requires c κs = let s = start c.before.before.before in (s.requires.0.0, s.requires.0.2)
+pass-end-requires c κs = let s = start c.before.before in (s.requires.0.0, s.requires.0.2)
 
 returns-9 : tie.Need-returns-in-PassEnd
 returns-9 c =
     let v = c.before in
     let q = v.before in
-    let s = start q.before.before in
-    let g = q.enum_told-in-PassEnd-1.given in
+    let s = start q.before in
+    let g = q.in-PassEnd in
     let saw = v.sees-v-in-PassEnd.ensures s.args.keys.now in
-    λ o em eb eu. step_is s o P.PassEnd g.1
+    λ o em eb eu. step_is s o P.PassEnd g.is
     (c.pass_end.ensures (board s o) eb (channel_is s o)
     (R.open-read _ _ _ o _ _ (subject_in s))
     (saw o).sync_is (saw o).channel_is (saw o).consumed_is)
 
 returns-10 : tie.Need-returns-in-Backoff
 returns-10 c =
-    let q = c.before.before in
-    let s = start q.before.before in
-    let g = q.phase-in-Backoff-1.given in
-    λ o em eb eu. step_is s o (P.Backoff g.0.0) g.1
+    let q = c.before in
+    let s = start q.before in
+    let g = q.in-Backoff in
+    λ o em eb eu. step_is s o (P.Backoff g.rests) g.is
     (c.backoff_step.ensures (board s o) (channel_is s o))
 
 pub job_step_spec : {M : Type 1} → statement M

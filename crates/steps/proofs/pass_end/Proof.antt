@@ -1,5 +1,5 @@
 -- `steps::pass_end` meets its contract: the rests are those that the board's table has for one retry more.
-use mathlib.Core.Path.{◌≡◌, ap, sym, ◌∙◌}
+use mathlib.Core.Path.{ap, sym, ◌∙◌}
 use mathlib.Core.List.{List}
 use Prim.Native.Nat.{ℕ}
 use Rattle.model.specs.Boards.{backoff_at}

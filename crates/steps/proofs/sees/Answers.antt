@@ -2,12 +2,11 @@
 use native.Mathlib.Omega.{arith}
 use Rattle.model.specs.Layout.{table_of}
 use Rattle.steps.proofs.MessageReads.{saw-is}
-use borrow.Author.Rules.{rules}
 use Rattle.steps.proofs.sees.Goals as goal
 
 pub is_sync-sync-requires : goal.is_sync-sync-requires
 is_sync-sync-requires c =
-    (c.requires.table_value.0, c.requires.n_in_bounds.1 _ (omega (arith, c.less-own.ensures, c.requires.table_value.1, c.requires.table_value.2)))
+    (c.requires.table_value.0, c.requires.by_index _ (omega (arith, c.less-own.ensures, c.requires.table_value.1, c.requires.table_value.2)))
 
 pub returns : goal.returns
 returns c =
