@@ -96,7 +96,8 @@ example() {
 want cc gcc
 want c++ g++
 want valgrind valgrind
-try "the library" rt staticlib host
+. tests/fresh.sh
+try "the library" library host "$work/library"
 
 try "the header in C++" c++ -fsyntax-only -Wall -Wextra -Werror -x c++ bindings/c/gevnyusto.h
 try "the version of header and crate" versions

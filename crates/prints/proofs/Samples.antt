@@ -8,7 +8,8 @@ use lib.IntN.{pos, negsuc}
 use Rattle.model.specs.Boards.{woken}
 use Rattle.model.specs.Effects.{Item, Looked, Claimed, Lost, Reverted, Matched, Consumed, Told, Woke, Freed}
 use Rattle.model.specs.Effects.{Signalled, Answered, Refused, Missed, Again, Ended, Rested, Resumed, Closed}
-use Rattle.model.specs.Printing.{bytes, words, digits_by, decimal, signed, answer_line, match_line, open_line, quiet_line}
+use Rattle.model.specs.Printing.{bytes, words, digits_by, decimal, signed}
+use Rattle.model.specs.Printing.{answer_line, match_line, open_line, quiet_line}
 
 record Sample : Type 0 where
   pub text : List ℕ
