@@ -14,7 +14,8 @@ use Rattle.model.specs.Boards.{Board, Sender, Job}
 use Rattle.model.specs.Sound.{state_ok, job_ok, sender_ok}
 use Rattle.model.proofs.Tests.{both, never, tested, all-four}
 use Rattle.state.specs.declared.State.TheVariants as S
-use Rattle.state.specs.Views.{job_in, idle_is, state_in}
+use Rattle.state.specs.declared.Sender as DD
+use Rattle.state.specs.Views.{job_in, idle_is, state_in, sender_in}
 use Rattle.soundness.specs.Tests.{each_below}
 use Rattle.soundness.proofs.Each.{each_at}
 use Rattle.senders.specs.Seen.{Seen, mark_by}
@@ -66,7 +67,8 @@ module _ (t : Table) (b : Board) (a : List ℕ) where
   idle-ok e = rw e
 
   pub ownless : get_or a 0 0 ≢ 0 → get_or a 2 0 ≡ 0 → state_test ≡ false
-  ownless e o = rw (ne_eqb (get_or a 0 0) 0 e) (go (eqb (get_or a 0 0) 1) _ _ o)
+  ownless e o =
+      rw (ne_eqb (get_or a 0 0) 0 e) (go (eqb (get_or a 0 0) 1) (row_sender t a) (job_in t (sender_from a).job) o)
     where
       go : (u : Bool) (d : Sender) (w : Job) → d.own ≡ 0
           → state_ok t b d (state_in (pick u S.Working S.Blocked) w) ≡ false
@@ -79,6 +81,10 @@ module _ (t : Table) (b : Board) (a : List ℕ) where
   pub working-ok : get_or a 2 0 ≢ 0 → get_or a 0 0 ≡ 1
       → state_test ≡ job_ok t b (row_sender t a) (job_in t (sender_from a).job)
   working-ok o e = rw (e, le-leb 1 (get_or a 2 0) (omega arith))
+
+  pub working-by : {d : DD.Sender} → d ≡ sender_from a → get_or a 2 0 ≢ 0 → get_or a 0 0 ≡ 1
+      → job_ok t b (sender_in t d) (job_in t d.job) ≡ state_test
+  working-by e o z = rw e (sym (working-ok o z))
 
   -- the row by its limits, its phase and its state
   pub phase-no : encodes_phase (get_or a 8 0) (get_or a 9 0) (get_or a 10 0) ≡ false → row_ok t b a ≡ false

@@ -13,7 +13,7 @@ use borrow.Author.Rules.{rules}
 use Rattle.refusals.proofs.counts_ok.Statement.{statement}
 use Rattle.refusals.proofs.counts_ok.Tie as tie
 
-abbrev start : tie.After-passes → tie.Start
+abbrev start : tie.After-passes-rests → tie.Start
 start c = c.before.before.before.before.before.before.before
 
 counted : (s : List ℕ) (shared rests : Bool) → shared ≡ shares_ok (tallies_in s) (get_or s 0 0)
@@ -23,15 +23,13 @@ counted s shared rests e f = rw (e, f)
 
 returns : tie.Need-returns
 returns c =
-    let r = c.before in
-    let s = r.before in
     let n = (start c).args.board.now in
-    counted n s.shares-ok.result c.passes.result
-    (s.shares-ok.ensures ∙ ap (λ (ks : List ℕ). shares_ok ks (get_or n 0 0)) s.before.tallies.ensures.0)
-    (c.passes.ensures ∙ ap backoffs_pass r.backoffs.ensures.0)
+    counted n c.shares_ok-shared.result c.passes-rests.result
+    (c.shares_ok-shared.ensures ∙ ap (λ (ks : List ℕ). shares_ok ks (get_or n 0 0)) c.tallies.ensures.0)
+    (c.passes-rests.ensures ∙ ap backoffs_pass c.backoffs.ensures.0)
 
-pub counts-ok-spec : {M : Type 1} → statement M
-counts-ok-spec =
+pub counts_ok_spec : {M : Type 1} → statement M
+counts_ok_spec =
     tie.close
     (tie.spec
     (λ c. search rules)
