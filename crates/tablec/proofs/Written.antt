@@ -3,7 +3,7 @@ use mathlib.Core.Path.{◌≡◌, sym, ◌∙◌}
 use mathlib.Core.List.{List, ◌++◌}
 use Prim.Native.Nat.{ℕ}
 use lib.ListN.{length, take, drop}
-use Rattle.io.specs.Counts.{IsPrefixLen}
+use Rattle.texts.specs.Counts.{IsPrefixLen}
 use Rattle.model.specs.Tables.{Table}
 use Rattle.model.specs.Layout.{table_refusal, table_bytes, write_refusal, written}
 use Rattle.model.proofs.Tests.{first-none}
@@ -17,7 +17,8 @@ accepts : (v : Table) (out : List ℕ) → write_refusal v out ≡ 0 → table_r
 unfolding write_refusal
 accepts v out e = (first-none (table_refusal (table_bytes v)) _ e).0
 
-pub encoded : (t : DT.Table) (out s : List ℕ) (n : ℕ) → write_refusal (table_in t) out ≡ 0 → s ≡ written (table_in t) out
+pub encoded : (t : DT.Table) (out s : List ℕ) (n : ℕ) → write_refusal (table_in t) out ≡ 0
+    → s ≡ written (table_in t) out
     → ((v : Table) (rest : List ℕ) → s ≡ table_bytes v ++ rest → n ≡ length (table_bytes v))
     → IsPrefixLen n s × Encoded t (take n s)
 encoded t out s n z e f =

@@ -4,12 +4,14 @@
 #![tactic(auto)]
 
 ghost use Rattle.std.specs.Prelude.{◌≡◌, ◌<◌, ◌≤◌, length, take};
-ghost use Rattle.io.specs.Counts.{IsPrefixLen};
+ghost use Rattle.texts.specs.Counts.{IsPrefixLen};
 ghost use Rattle.tablec.specs.Encoded.{Encoded};
 
-use libc::{STDIN_FILENO, STDOUT_FILENO};
+use std::io;
+use std::io::Read;
+use std::rt::Env;
 use table::Equality;
-use texts::{complain, complain_number, is_same, least, past, table_refused, word_at};
+use texts::{complain, complain_number, has_arg, is_same, least, past, table_refused, word_at};
 
 // A name, with zeros past it; one of no bytes is no name.
 #[derive(Clone, Copy)]
@@ -53,26 +55,26 @@ struct Input {
     text: Text,
 }
 
-// Text to standard output; whether it could be written, here and in what follows.
-fn say(text: &[u8]) -> bool {
-    io::write_all(STDOUT_FILENO, text)
+// Text to standard output, to which `out` prints; whether it could be written, here and in what follows.
+fn say(out: &impl Print, text: &[u8]) -> bool {
+    out.write_all(text).is_ok()
 }
 
-fn say_number(n: usize) -> bool {
-    io::print_decimal(STDOUT_FILENO, n as u64)
+fn say_number(out: &impl Print, n: usize) -> bool {
+    out.print(n).is_ok()
 }
 
 // The one line on standard error, about a word that stands between two texts.
-fn wrong_word(number: u64, ahead: &[u8], word: &[u8], behind: &[u8]) {
-    complain_number(b"line ", number, b": ");
-    complain(ahead);
-    complain(word);
-    complain(behind);
-    complain(b"\n");
+fn wrong_word(err: &impl Print, number: u64, ahead: &[u8], word: &[u8], behind: &[u8]) {
+    complain_number(err, b"line ", number, b": ");
+    complain(err, ahead);
+    complain(err, word);
+    complain(err, behind);
+    complain(err, b"\n");
 }
 
-fn wrong(number: u64, reason: &[u8]) {
-    wrong_word(number, reason, b"", b"");
+fn wrong(err: &impl Print, number: u64, reason: &[u8]) {
+    wrong_word(err, number, reason, b"", b"");
 }
 
 fn failed(t: Text) -> Text {
@@ -188,26 +190,32 @@ fn with_name(names: Names, name: Name) -> Names {
 }
 
 // Whether a name can be declared; if not, that was said.
-fn is_new(names: Names, number: u64, label: &[u8], word: &[u8]) -> bool {
+fn is_new(err: &impl Print, names: Names, number: u64, label: &[u8], word: &[u8]) -> bool {
     let name = name_of(word);
     if name.len == 0 {
-        wrong(number, b"a name is 1 to 24 letters, digits, - or _");
+        wrong(err, number, b"a name is 1 to 24 letters, digits, - or _");
         return false;
     }
     if number_of(names, name) < 32 {
-        wrong_word(number, label, word, b" is declared already");
+        wrong_word(err, number, label, word, b" is declared already");
         return false;
     }
     true
 }
 
 // Whether a line has no further word; if it has, that was said.
-fn is_end(line: &[u8], at: usize, number: u64) -> bool {
+fn is_end(err: &impl Print, line: &[u8], at: usize, number: u64) -> bool {
     let word = word_at(line, at);
     if word.len() == 0 {
         return true;
     }
-    wrong_word(number, b"expected the end of the line, not ", word, b"");
+    wrong_word(
+        err,
+        number,
+        b"expected the end of the line, not ",
+        word,
+        b"",
+    );
     false
 }
 
@@ -241,23 +249,23 @@ fn kind_of(word: &[u8]) -> u8 {
 }
 
 // `NAME leave` or `NAME waiting` from a place on.
-fn tray_line(t: Text, number: u64, line: &[u8], at: usize) -> Text {
+fn tray_line(err: &impl Print, t: Text, number: u64, line: &[u8], at: usize) -> Text {
     let word = word_at(line, at);
     let second = past(line, at);
     let trays = t.trays;
-    if !is_new(trays, number, b"tray ", word) {
+    if !is_new(err, trays, number, b"tray ", word) {
         return failed(t);
     }
     if 16 <= trays.count {
-        wrong(number, b"more than 16 trays");
+        wrong(err, number, b"more than 16 trays");
         return failed(t);
     }
     let kind = kind_of(word_at(line, second));
     if 1 < kind {
-        wrong(number, b"expected leave or waiting");
+        wrong(err, number, b"expected leave or waiting");
         return failed(t);
     }
-    if !is_end(line, past(line, second), number) {
+    if !is_end(err, line, past(line, second), number) {
         return failed(t);
     }
     with_tray(t, name_of(word), kind)
@@ -300,16 +308,23 @@ fn with_channel(c: codec::Chord, channel: u8) -> codec::Chord {
 }
 
 // The name of one tray, at the place where the text goes on.
-fn member(r: Reading, trays: Names, number: u64, line: &[u8], missing: &[u8]) -> Reading {
+fn member(
+    err: &impl Print,
+    r: Reading,
+    trays: Names,
+    number: u64,
+    line: &[u8],
+    missing: &[u8],
+) -> Reading {
     let at = r.at;
     let word = word_at(line, at);
     if word.len() == 0 {
-        wrong(number, missing);
+        wrong(err, number, missing);
         return stopped(r);
     }
     let channel = number_of(trays, name_of(word));
     if 32 <= channel {
-        wrong_word(number, b"no tray is called ", word, b"");
+        wrong_word(err, number, b"no tray is called ", word, b"");
         return stopped(r);
     }
     let c = r.chord;
@@ -321,7 +336,7 @@ fn member(r: Reading, trays: Names, number: u64, line: &[u8], missing: &[u8]) ->
 }
 
 // A `+` and a tray, if the next word is `+`.
-fn next_member(r: Reading, trays: Names, number: u64, line: &[u8]) -> Reading {
+fn next_member(err: &impl Print, r: Reading, trays: Names, number: u64, line: &[u8]) -> Reading {
     let at = r.at;
     if r.failed {
         return r;
@@ -331,11 +346,11 @@ fn next_member(r: Reading, trays: Names, number: u64, line: &[u8]) -> Reading {
     }
     let mut next = r;
     next.at = past(line, at);
-    member(next, trays, number, line, b"expected a tray after +")
+    member(err, next, trays, number, line, b"expected a tray after +")
 }
 
 // The trays of a rule, at most eight.
-fn members(trays: Names, number: u64, line: &[u8], at: usize) -> Reading {
+fn members(err: &impl Print, trays: Names, number: u64, line: &[u8], at: usize) -> Reading {
     let none = codec::Chord {
         channels: [0; 8],
         len: 0,
@@ -346,10 +361,10 @@ fn members(trays: Names, number: u64, line: &[u8], at: usize) -> Reading {
         at: at,
         failed: false,
     };
-    let mut r = member(start, trays, number, line, b"a rule has 1 to 8 trays");
+    let mut r = member(err, start, trays, number, line, b"a rule has 1 to 8 trays");
     let mut k: u8 = 1;
     while k < 8 {
-        r = next_member(r, trays, number, line);
+        r = next_member(err, r, trays, number, line);
         k += 1;
     }
     r
@@ -373,24 +388,24 @@ fn with_equal(c: codec::Chord, equal: Equality) -> codec::Chord {
 }
 
 // What follows the trays: nothing, `same property`, or `same unit`.
-fn rule_end(r: Reading, number: u64, line: &[u8]) -> Reading {
+fn rule_end(err: &impl Print, r: Reading, number: u64, line: &[u8]) -> Reading {
     let at = r.at;
     let word = word_at(line, at);
     if word.len() == 0 {
         return r;
     }
     if is_same(word, b"+") {
-        wrong(number, b"a rule has 1 to 8 trays");
+        wrong(err, number, b"a rule has 1 to 8 trays");
         return stopped(r);
     }
     let second = past(line, at);
     let last = word_at(line, second);
     let known = is_same(last, b"property") | is_same(last, b"unit");
     if !(is_same(word, b"same") & known) {
-        wrong(number, b"expected +, same property or same unit");
+        wrong(err, number, b"expected +, same property or same unit");
         return stopped(r);
     }
-    if !is_end(line, past(line, second), number) {
+    if !is_end(err, line, past(line, second), number) {
         return stopped(r);
     }
     let c = r.chord;
@@ -402,27 +417,27 @@ fn rule_end(r: Reading, number: u64, line: &[u8]) -> Reading {
 }
 
 // `NAME = A + B` from a place on.
-fn rule_line(t: Text, number: u64, line: &[u8], at: usize) -> Text {
+fn rule_line(err: &impl Print, t: Text, number: u64, line: &[u8], at: usize) -> Text {
     let word = word_at(line, at);
     let second = past(line, at);
     let rules = t.rules;
     let trays = t.trays;
-    if !is_new(rules, number, b"rule ", word) {
+    if !is_new(err, rules, number, b"rule ", word) {
         return failed(t);
     }
     if 32 <= rules.count {
-        wrong(number, b"more than 32 rules");
+        wrong(err, number, b"more than 32 rules");
         return failed(t);
     }
     if !is_same(word_at(line, second), b"=") {
-        wrong(number, b"expected =");
+        wrong(err, number, b"expected =");
         return failed(t);
     }
-    let r = members(trays, number, line, past(line, second));
+    let r = members(err, trays, number, line, past(line, second));
     if r.failed {
         return failed(t);
     }
-    let whole = rule_end(r, number, line);
+    let whole = rule_end(err, r, number, line);
     if whole.failed {
         return failed(t);
     }
@@ -433,26 +448,26 @@ fn rule_line(t: Text, number: u64, line: &[u8], at: usize) -> Text {
 // Lines.
 
 // The text with one line more, whose comment is cut.
-fn with_line(t: Text, number: u64, line: &[u8]) -> Text {
+fn with_line(err: &impl Print, t: Text, number: u64, line: &[u8]) -> Text {
     let word = word_at(line, 0);
     let at = past(line, 0);
     if word.len() == 0 {
         return t;
     }
     if is_same(word, b"tray") {
-        return tray_line(t, number, line, at);
+        return tray_line(err, t, number, line, at);
     }
     if is_same(word, b"rule") {
-        return rule_line(t, number, line, at);
+        return rule_line(err, t, number, line, at);
     }
-    wrong_word(number, b"expected tray or rule, not ", word, b"");
+    wrong_word(err, number, b"expected tray or rule, not ", word, b"");
     failed(t)
 }
 
 // The same with the first bytes of a buffer.
-fn with_bytes(t: Text, number: u64, buf: &[u8], len: usize) -> Text {
+fn with_bytes(err: &impl Print, t: Text, number: u64, buf: &[u8], len: usize) -> Text {
     let n = bare_len(buf, len);
-    with_line(t, number, &buf[..n])
+    with_line(err, t, number, &buf[..n])
 }
 
 fn no_text() -> Text {
@@ -493,21 +508,21 @@ fn no_input() -> Input {
 }
 
 // The text with the line in hand.
-fn text_with(input: Input) -> Text {
+fn text_with(err: &impl Print, input: Input) -> Text {
     let t = input.text;
     let number = input.number;
     if input.long {
-        wrong(number, b"longer than 1024 bytes");
+        wrong(err, number, b"longer than 1024 bytes");
         return failed(t);
     }
     let bytes = input.bytes;
     let len = input.len;
-    with_bytes(t, number, &bytes, len)
+    with_bytes(err, t, number, &bytes, len)
 }
 
 // The line in hand is whole: it is read, and the next one begins.
-fn line_done(input: Input) -> Input {
-    let t = text_with(input);
+fn line_done(err: &impl Print, input: Input) -> Input {
+    let t = text_with(err, input);
     let n = input.number;
     let mut next = input;
     next.text = t;
@@ -533,61 +548,59 @@ fn with_byte(input: Input, b: u8) -> Input {
     next
 }
 
-fn taken(input: Input, b: u8) -> Input {
+fn taken(err: &impl Print, input: Input, b: u8) -> Input {
     if !input.more {
         return input;
     }
     if b == b'\n' {
-        return line_done(input);
+        return line_done(err, input);
     }
     with_byte(input, b)
 }
 
-fn taken_all(input: Input, s: &[u8]) -> Input {
+fn taken_all(err: &impl Print, input: Input, s: &[u8]) -> Input {
     let mut next = input;
     let mut i: usize = 0;
     while i < s.len() {
-        next = taken(next, s[i]);
+        next = taken(err, next, s[i]);
         i += 1;
     }
     next
 }
 
 // The input ends: bytes after the last line feed are a line too.
-fn ended(input: Input) -> Input {
+fn ended(err: &impl Print, input: Input) -> Input {
     let mut last = input;
     if 0 < input.len {
-        last = line_done(input);
+        last = line_done(err, input);
     }
     last.more = false;
     last
 }
 
 // One read of standard input.
-fn read_some(input: Input) -> Input {
+fn read_some(err: &impl Print, reader: &mut impl Read, input: Input) -> Input {
     let mut buf = [0u8; 4096];
-    let got = libc::read(STDIN_FILENO, &mut buf);
-    if got == 0 {
-        return ended(input);
+    match reader.read(&mut buf) {
+        Ok(0) => ended(err, input),
+        Ok(n) => taken_all(err, input, &buf[..n]),
+        Err(_) => {
+            complain(err, b"cannot read the text\n");
+            let t = input.text;
+            let mut last = input;
+            let bad = failed(t);
+            last.text = bad;
+            last.more = false;
+            last
+        }
     }
-    if got < 0 {
-        complain(b"cannot read the text\n");
-        let t = input.text;
-        let mut last = input;
-        let bad = failed(t);
-        last.text = bad;
-        last.more = false;
-        return last;
-    }
-    let n = io::count(got, &buf);
-    taken_all(input, &buf[..n])
 }
 
-fn read_text() -> Text {
+fn read_text(err: &impl Print, reader: &mut impl Read) -> Text {
     let mut input = no_input();
     let mut turns = u64::MAX;
     while turns > 0 {
-        input = read_some(input);
+        input = read_some(err, reader, input);
         if !input.more {
             return input.text;
         }
@@ -612,44 +625,44 @@ fn encode(table: codec::Table, out: &mut [u8; 412]) -> usize
 }
 
 // From text to bytes.
-fn compile() {
-    let t = read_text();
+fn compile(rt: &(impl io::Input + Print), err: &impl Print) {
+    let t = read_text(err, &mut rt.reader());
     if t.failed {
         return;
     }
     let table = t.table;
     if table.kinds_len == 0 {
-        complain(b"the table has no tray\n");
+        complain(err, b"the table has no tray\n");
         return;
     }
     let mut out = [0u8; 412];
     let n = encode(table, &mut out);
     if n == 0 {
-        complain(b"the table cannot be written\n");
+        complain(err, b"the table cannot be written\n");
         return;
     }
-    if !io::write_all(STDOUT_FILENO, &out[..n]) {
-        complain(b"cannot write the table\n");
+    if !say(rt, &out[..n]) {
+        complain(err, b"cannot write the table\n");
     }
 }
 
 // From bytes to text.
 
-fn say_tray(table: codec::Table, i: usize) -> bool
+fn say_tray(out: &impl Print, table: codec::Table, i: usize) -> bool
     requires { i < 16 }
 {
     let n = table.kinds_len as usize;
     if n <= i {
         return true;
     }
-    let named = say(b"tray t") & say_number(i);
+    let named = say(out, b"tray t") & say_number(out, i);
     if table.kinds[i] == 0 {
-        return named & say(b" leave\n");
+        return named & say(out, b" leave\n");
     }
-    named & say(b" waiting\n")
+    named & say(out, b" waiting\n")
 }
 
-fn say_member(chord: codec::Chord, k: usize) -> bool
+fn say_member(out: &impl Print, chord: codec::Chord, k: usize) -> bool
     requires { k < 8 }
 {
     let n = chord.len as usize;
@@ -658,94 +671,113 @@ fn say_member(chord: codec::Chord, k: usize) -> bool
     }
     let channel = chord.channels[k];
     if 0 < k {
-        return say(b" + t") & say_number(channel as usize);
+        return say(out, b" + t") & say_number(out, channel as usize);
     }
-    say(b" t") & say_number(channel as usize)
+    say(out, b" t") & say_number(out, channel as usize)
 }
 
-fn say_end(equal: Equality) -> bool {
+fn say_end(out: &impl Print, equal: Equality) -> bool {
     match equal {
-        Equality::Any => say(b"\n"),
-        Equality::Property => say(b" same property\n"),
-        Equality::Unit => say(b" same unit\n"),
+        Equality::Any => say(out, b"\n"),
+        Equality::Property => say(out, b" same property\n"),
+        Equality::Unit => say(out, b" same unit\n"),
     }
 }
 
-fn say_chord(chord: codec::Chord) -> bool {
+fn say_chord(out: &impl Print, chord: codec::Chord) -> bool {
     let mut said = true;
     let mut k: usize = 0;
     while k < 8 {
-        said = said & say_member(chord, k);
+        said = said & say_member(out, chord, k);
         k += 1;
     }
     let equal = chord.equal;
-    said & say_end(equal)
+    said & say_end(out, equal)
 }
 
-fn say_rule(table: codec::Table, i: usize) -> bool
+fn say_rule(out: &impl Print, table: codec::Table, i: usize) -> bool
     requires { i < 32 }
 {
     let n = table.chords_len as usize;
     if n <= i {
         return true;
     }
-    let named = say(b"rule r") & (say_number(i) & say(b" ="));
+    let named = say(out, b"rule r") & (say_number(out, i) & say(out, b" ="));
     let chord = table.chords[i];
-    named & say_chord(chord)
+    named & say_chord(out, chord)
 }
 
-fn say_trays(table: codec::Table) -> bool {
+fn say_trays(out: &impl Print, table: codec::Table) -> bool {
     let mut said = true;
     let mut i: usize = 0;
     while i < 16 {
-        said = said & say_tray(table, i);
+        said = said & say_tray(out, table, i);
         i += 1;
     }
     said
 }
 
-fn say_rules(table: codec::Table) -> bool {
+fn say_rules(out: &impl Print, table: codec::Table) -> bool {
     let mut said = true;
     let mut i: usize = 0;
     while i < 32 {
-        said = said & say_rule(table, i);
+        said = said & say_rule(out, table, i);
         i += 1;
     }
     said
 }
 
+// Reads until a buffer is full, the input ends or a read fails; how many of its bytes were read.
+fn read_full(reader: &mut impl Read, buf: &mut [u8]) -> usize
+    ensures { IsPrefixLen result buf.new }
+{
+    let mut n: usize = 0;
+    while n < buf.len() {
+        match reader.read(&mut buf[n..]) {
+            Ok(more) if 0 < more => n += more,
+            _ => return n,
+        }
+    }
+    n
+}
+
 // One byte more than the longest table is read, so that longer input is refused.
-fn decompile() {
+fn decompile(rt: &(impl io::Input + Print), err: &impl Print) {
     let mut bytes = [0u8; 413];
-    let n = io::read_full(STDIN_FILENO, &mut bytes);
+    let n = read_full(&mut rt.reader(), &mut bytes);
     let read = codec::read_table(&bytes[..n]);
     if read.number != 0 {
-        table_refused(read.number, b"");
+        table_refused(err, read.number, b"");
         return;
     }
     let table = read.table;
-    if !(say_trays(table) & say_rules(table)) {
-        complain(b"cannot write the text\n");
+    if !(say_trays(rt, table) & say_rules(rt, table)) {
+        complain(err, b"cannot write the text\n");
     }
 }
 
-fn is_back() -> bool {
+fn is_back(env: &impl Env) -> bool {
     let mut word = [0u8; 3];
-    let n = os::arg(1, &mut word);
-    is_same(&word[..n], b"-r")
+    match env.arg(1, &mut word) {
+        Ok(n) => is_same(&word[..n], b"-r"),
+        Err(_) => false,
+    }
 }
 
-fn main() {
-    let n = os::arg_count();
-    if n <= 1 {
-        compile();
+fn main(rt: HostRuntime) {
+    let err = rt.stderr();
+    if !has_arg(&rt, 1) {
+        compile(&rt, &err);
         return;
     }
-    if n == 2 {
-        if is_back() {
-            decompile();
+    if !has_arg(&rt, 2) {
+        if is_back(&rt) {
+            decompile(&rt, &err);
             return;
         }
     }
-    complain(b"usage: tablec < table.txt > rules.bin, or tablec -r < rules.bin > table.txt\n");
+    complain(
+        &err,
+        b"usage: tablec < table.txt > rules.bin, or tablec -r < rules.bin > table.txt\n",
+    );
 }

@@ -7,7 +7,7 @@ use native.Mathlib.Omega.{arith}
 use borrow.Author.Tests.{le-leb, leb-true}
 use lib.Dec.{leb}
 use lib.ListN.{length, take, drop}
-use Rattle.io.specs.Counts.{IsPrefixLen}
+use Rattle.texts.specs.Counts.{IsPrefixLen}
 use Rattle.model.specs.Basics.{unless, first_of}
 use Rattle.model.specs.Tables.{Table}
 use Rattle.model.specs.Layout.{table_bytes, written_members}

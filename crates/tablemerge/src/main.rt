@@ -5,11 +5,14 @@
 
 ghost use Rattle.std.specs.Prelude.{◌≡◌, take};
 ghost use Rattle.merging.specs.Merges.{merge_refusal};
-ghost use Rattle.io.specs.Counts.{IsPrefixLen};
+ghost use Rattle.texts.specs.Counts.{IsPrefixLen};
 ghost use Rattle.tablemerge.specs.Merged.{Merged};
 
-use libc::STDOUT_FILENO;
-use texts::{Loaded, complain, complain_number, none_loaded};
+use std::fs::File;
+use std::io::Read;
+use std::rt::{Env, Files};
+use std::str;
+use texts::{Loaded, complain, complain_number, has_arg, none_loaded};
 
 // The number of a merge, and how many bytes of a buffer hold the merged table.
 #[derive(Clone, Copy)]
@@ -21,58 +24,62 @@ struct Outcome {
 // Files.
 
 // The bytes of an open file, as many as a buffer holds.
-fn read_all(fd: i32, buf: &mut [u8]) -> Loaded
+fn read_all(file: &mut impl Read, buf: &mut [u8]) -> Loaded
     ensures { IsPrefixLen result.len buf.new }
 {
     let mut n: usize = 0;
     while n < buf.len() {
-        let got = libc::read(fd, &mut buf[n..]);
-        if got < 0 {
-            return none_loaded();
+        match file.read(&mut buf[n..]) {
+            Ok(0) => return Loaded { len: n, ok: true },
+            Ok(more) => n += more,
+            Err(_) => return none_loaded(),
         }
-        let more = io::count(got, &buf[n..]);
-        if more == 0 {
-            return Loaded { len: n, ok: true };
-        }
-        n += more;
     }
     Loaded { len: n, ok: true }
 }
 
-fn cannot_read(path: &[u8]) {
-    complain(b"cannot read ");
-    complain(path);
-    complain(b"\n");
-}
-
-// The bytes of the file at a path.
-fn load(path: &[u8], buf: &mut [u8]) -> Loaded
+// The bytes of the file at a path; not `ok` where it cannot be opened, as where the path is no text, or read.
+fn read_at(files: &impl Files, path: &[u8], buf: &mut [u8]) -> Loaded
     ensures { IsPrefixLen result.len buf.new }
 {
-    let fd = os::open_read(path);
-    if fd < 0 {
-        cannot_read(path);
+    let Ok(text) = str::from_utf8(path) else {
         return none_loaded();
+    };
+    match File::open(files, text) {
+        Ok(mut file) => read_all(&mut file, buf),
+        Err(_) => none_loaded(),
     }
-    let read = read_all(fd, buf);
-    libc::close(fd);
+}
+
+fn cannot_read(err: &impl Print, path: &[u8]) {
+    complain(err, b"cannot read ");
+    complain(err, path);
+    complain(err, b"\n");
+}
+
+// The bytes of the file at a path; where it cannot be read, that is said.
+fn load(files: &impl Files, err: &impl Print, path: &[u8], buf: &mut [u8]) -> Loaded
+    ensures { IsPrefixLen result.len buf.new }
+{
+    let read = read_at(files, path, buf);
     if !read.ok {
-        cannot_read(path);
+        cannot_read(err, path);
     }
     read
 }
 
 // The bytes of the file that an argument names.
-fn load_arg(i: usize, buf: &mut [u8]) -> Loaded
+fn load_arg<R: Env + Files>(rt: &R, err: &impl Print, i: usize, buf: &mut [u8]) -> Loaded
     ensures { IsPrefixLen result.len buf.new }
 {
     let mut path = [0u8; 4095];
-    let n = os::arg(i, &mut path);
-    if os::errno() != 0 {
-        complain_number(b"argument ", i as u64, b" is longer than 4095 bytes\n");
-        return none_loaded();
+    match rt.arg(i, &mut path) {
+        Ok(n) => load(rt, err, &path[..n], buf),
+        Err(_) => {
+            complain_number(err, b"argument ", i as u64, b" is longer than 4095 bytes\n");
+            none_loaded()
+        }
     }
-    load(&path[..n], buf)
 }
 
 // The merge.
@@ -99,62 +106,70 @@ fn merge(first: &[u8], second: &[u8], map: &[u8], out: &mut [u8; 412]) -> Outcom
 
 // The program.
 
-fn write_merged(first: &[u8], second: &[u8], map: &[u8], text: &[u8]) {
-    let mut out = [0u8; 412];
-    let merged = merge(first, second, map, &mut out);
+fn write_merged(
+    out: &impl Print,
+    err: &impl Print,
+    first: &[u8],
+    second: &[u8],
+    map: &[u8],
+    text: &[u8],
+) {
+    let mut bytes = [0u8; 412];
+    let merged = merge(first, second, map, &mut bytes);
     if merged.number != 0 {
-        maps::explain(first, second, map, text, merged.number);
+        maps::explain(err, first, second, map, text, merged.number);
         return;
     }
     let n = merged.len;
-    if !io::write_all(STDOUT_FILENO, &out[..n]) {
-        complain(b"cannot write the table\n");
+    if out.write_all(&bytes[..n]).is_err() {
+        complain(err, b"cannot write the table\n");
     }
 }
 
 // A text of 4,096 bytes has at most 2,048 words.
-fn merge_by_text(first: &[u8], second: &[u8], text: &mut [u8]) {
+fn merge_by_text(out: &impl Print, err: &impl Print, first: &[u8], second: &[u8], text: &mut [u8]) {
     maps::bare_all(text);
     let mut map = [0u8; 2048];
-    let read = maps::read_map(text, &mut map);
+    let read = maps::read_map(err, text, &mut map);
     if !read.ok {
         return;
     }
     let n = read.len;
-    write_merged(first, second, &map[..n], text);
+    write_merged(out, err, first, second, &map[..n], text);
 }
 
-fn merge_by_file(first: &[u8], second: &[u8]) {
+fn merge_by_file<R: Env + Files + Print>(rt: &R, err: &impl Print, first: &[u8], second: &[u8]) {
     let mut text = [0u8; 4097];
-    let read = load_arg(3, &mut text);
+    let read = load_arg(rt, err, 3, &mut text);
     if !read.ok {
         return;
     }
     let n = read.len;
     if 4096 < n {
-        complain(b"the map is longer than 4096 bytes\n");
+        complain(err, b"the map is longer than 4096 bytes\n");
         return;
     }
-    merge_by_text(first, second, &mut text[..n]);
+    merge_by_text(rt, err, first, second, &mut text[..n]);
 }
 
 // One byte more than the longest table is read, so that a longer file is refused.
-fn main() {
-    if os::arg_count() != 4 {
-        complain(b"usage: tablemerge FIRST SECOND MAP > rules.bin\n");
+fn main(rt: HostRuntime) {
+    let err = rt.stderr();
+    if !has_arg(&rt, 3) | has_arg(&rt, 4) {
+        complain(&err, b"usage: tablemerge FIRST SECOND MAP > rules.bin\n");
         return;
     }
     let mut first = [0u8; 413];
-    let a = load_arg(1, &mut first);
+    let a = load_arg(&rt, &err, 1, &mut first);
     if !a.ok {
         return;
     }
     let mut second = [0u8; 413];
-    let b = load_arg(2, &mut second);
+    let b = load_arg(&rt, &err, 2, &mut second);
     if !b.ok {
         return;
     }
     let n = a.len;
     let m = b.len;
-    merge_by_file(&first[..n], &second[..m]);
+    merge_by_file(&rt, &err, &first[..n], &second[..m]);
 }

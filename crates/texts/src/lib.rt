@@ -112,7 +112,7 @@ pub fn table_len(buf: &[u8]) -> usize
     two(buf[10], buf[11]) + two(buf[4], buf[5])
 }
 
-// Standard error, which is passed as what prints to it.
+// Standard error, to which `err` prints.
 
 pub fn complain(err: &impl Print, text: &[u8]) {
     let _ = err.write_all(text);

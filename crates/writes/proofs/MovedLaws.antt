@@ -7,7 +7,6 @@ use Prim.Native.Nat.{ℕ, zero, suc, ◌+◌, ◌-◌, ◌*◌, ◌<◌}
 use lib.ListN.{get_or, set, length-set}
 use lib.Seq.{paste}
 use native.Mathlib.Omega.{arith}
-use Rattle.model.specs.Basics.{flag}
 use Rattle.state.specs.declared.Sender as DD
 use Rattle.boards.specs.Boards.{HeldBoard, with_senders}
 use Rattle.writes.specs.Writes.{signal_by, signalled_by, matches_by}

@@ -8,7 +8,7 @@ use lib.ListN.{length, get_or, take, drop, set}
 use lib.Seq.{set-get_or, get_or-append-add}
 use native.Mathlib.Numerals.{add-one}
 use native.Mathlib.Omega.{arith}
-use Rattle.model.specs.Basics.{pick, flag}
+use Rattle.model.specs.Basics.{pick}
 use Rattle.model.proofs.Parts.{set-behind}
 use Rattle.model.proofs.Walks.{in-place-step, in-place-end}
 use Rattle.state.specs.declared.State as DS
