@@ -7,25 +7,25 @@ use Rattle.moves.proofs.MoveLaws.{add-move}
 use Rattle.moves.proofs.add_move.Statement.{statement}
 use Rattle.moves.proofs.add_move.Tie as tie
 
-abbrev start : tie.After-struct-known → tie.Start
+abbrev start : tie.After-struct_known-1 → tie.Start
 start c = c.before.before
 
-low : (c : tie.After-struct-known) → (start c).args.x.channel < 256
-low c = let s = start c in omega (arith, s.pre.1, (table-ok _ s.pre.0).kinds_few)
+low : (c : tie.After-struct_known-1) → (start c).args.x.channel < 256
+low c = let s = start c in omega (arith, s.requires.1, (table-ok _ s.requires.0).kinds_few)
 
-cast-low : tie.Need-overflow-cast-low
+cast-low : tie.Need-overflow_cast-low
 cast-low c = omega (arith, low c)
 
-new-sender-requires : tie.Need-new-sender-requires
-new-sender-requires c κs = let s = start c in (s.pre.0, s.pre.2)
+new-sender-requires : tie.Need-new_sender-requires
+new-sender-requires c κs = let s = start c in (s.requires.0, s.requires.2)
 
 returns : tie.Need-returns
 returns c =
     let s = start c.before in
     let a = s.args in (
-      λ h i z e r. add-move a.table.now h z a.n e i a.x _ s.pre.2 r c.new-sender.ensures,
-      (λ k. record { room = λ _. s.pre.2; low = λ _. omega (arith, low c.before); sure = tt }, refl),
+      λ h i z e r. add-move a.table.now h z a.n e i a.x _ s.requires.2 r c.new_sender.ensures,
+      (λ k. record { room = λ _. s.requires.2; low = λ _. omega (arith, low c.before); sure = tt }, refl),
     )
 
-pub add-move-spec : {M : Type 1} → statement M
-add-move-spec = tie.close (tie.spec cast-low new-sender-requires returns)
+pub add_move_spec : {M : Type 1} → statement M
+add_move_spec = tie.close (tie.spec cast-low new-sender-requires returns)

@@ -26,27 +26,27 @@ use Rattle.moves.proofs.call_refusal.Statement.{statement}
 use Rattle.moves.proofs.call_refusal.Tie as tie
 
 -- where the function starts, for an add
-abbrev start : tie.After-is-idle → tie.Start
+abbrev start : tie.After-is_idle-idle → tie.Start
 start c = c.before.before.before.before.before.before.before.before
 
-idle-is : (c : tie.After-is-idle)
+idle-is : (c : tie.After-is_idle-idle)
     → let b = board_from (start c).args.board.now in
-    let i = c.before.before.before.call.given.0.0 in
-    c.is-idle.result ≡ idle_is (get_or b.senders (place_of i) zero_sender).state
+    let i = c.call-1.given.0.0 in
+    c.is_idle-idle.result ≡ idle_is (get_or b.senders (place_of i) zero_sender).state
 idle-is c =
     let b = board_from (start c).args.board.now in
-    c.is-idle.ensures ∙ ap (λ j. idle_is (get_or b.senders j zero_sender).state) c.before.place_of.ensures.0
+    c.is_idle-idle.ensures ∙ ap (λ j. idle_is (get_or b.senders j zero_sender).state) c.place_of-place.ensures.0
 
-room-is : (c : tie.After-has-room)
+room-is : (c : tie.After-has_room-room)
     → let d = c.before.before.before.before.before in
-    let i = d.before.before.before.call.given.0.0 in
-    c.has_room.result ≡ has_room (board_from (start d).args.board.now).tallies (place_of i)
+    let i = d.call-1.given.0.0 in
+    c.has_room-room.result ≡ has_room (board_from (start d).args.board.now).tallies (place_of i)
 unfolding board_from
 room-is c =
     let d = c.before.before.before.before.before in
-    let at = d.before.place_of in
-    c.has_room.ensures
-    ∙ ap (λ (ks : List ℕ). has_room ks at.result) c.before.tallies.ensures.0
+    let at = d.place_of-place in
+    c.has_room-room.ensures
+    ∙ ap (λ (ks : List ℕ). has_room ks at.result) c.tallies.ensures.0
     ∙ ap (has_room (tallies_in (start d).args.board.now)) at.ensures.0
 
 -- an add is refused by what is read
@@ -60,42 +60,40 @@ by-add t b keys i x idle timely room number e d k r = r ∙ add-by t b keys i x 
 numbers : (s : tie.Start) → length s.args.board.now ≡ board_len
 numbers s = (all-numbers s.args.board.now s.requires.1).0
 
-shared-slice-read-day-open : tie.Need-shared-slice-read-day-open
+shared-slice-read-day-open : tie.Need-bounds-board-674
 shared-slice-read-day-open c = omega (arith, numbers (start c.before))
 
-shared-slice-read-day-open-2 : tie.Need-shared-slice-read-day-open-2
+shared-slice-read-day-open-2 : tie.Need-bounds-keys-2048
 shared-slice-read-day-open-2 c = omega (arith, (start c.before.before).requires.2)
 
 tallies-requires : tie.Need-tallies-requires
 tallies-requires c κs = numbers (start c.before.before.before)
 
-returns : tie.Need-returns
+returns : tie.Need-returns-in-Add
 unfolding board_from
 returns c =
     let o = c.before.before.before in
     let d = o.before.before.before in
-    let k = d.before.before.before in
     let s = start d in
     let a = s.args in
     let t = table_of a.table.now in
     let b = board_from a.board.now in
-    let g = k.call.given in
-    subst (λ (x : DC.Call). c.add-refusal.result ≡ call_refusal t b a.keys.now (call_in x)) (sym g.1)
-    (by-add t b a.keys.now g.0.0 (sent_in g.0.1.0) d.is-idle.result o.day-open.result
-    c.before.has_room.result c.add-refusal.result (idle-is d) o.day-open.ensures (room-is c.before)
-    c.add-refusal.ensures)
+    let g = d.call-1.given in
+    subst (λ (x : DC.Call). c.add_refusal.result ≡ call_refusal t b a.keys.now (call_in x)) (sym g.1)
+    (by-add t b a.keys.now g.0.0 (sent_in g.0.1.0) d.is_idle-idle.result o.day_open-timely.result
+    c.has_room-room.result c.add_refusal.result (idle-is d) o.day_open-timely.ensures (room-is c.before)
+    c.add_refusal.ensures)
 
-returns-2 : tie.Need-returns-2
+returns-2 : tie.Need-returns-in-Step
 returns-2 c =
-    let k = c.before.before in
-    let a = k.before.before.before.before.before.args in
+    let a = c.args in
     let t = table_of a.table.now in
     let b = board_from a.board.now in
-    subst (λ (x : DC.Call). c.step-refusal.result ≡ call_refusal t b a.keys.now (call_in x))
-    (sym k.call2.given.1) (c.step-refusal.ensures t a.keys.now)
+    subst (λ (x : DC.Call). c.step_refusal.result ≡ call_refusal t b a.keys.now (call_in x))
+    (sym c.call-in-Step-1.given.1) (c.step_refusal.ensures t a.keys.now)
 
-pub call-refusal-spec : {M : Type 1} → statement M
-call-refusal-spec =
+pub call_refusal_spec : {M : Type 1} → statement M
+call_refusal_spec =
     tie.close
     (tie.spec
     (λ c. search rules)

@@ -40,35 +40,35 @@ accepted : (s : tie.Start) → refusal_of s.args.table.now (view s) ≡ 0
 accepted s = s.requires.0.accepted
 
 -- the places, from the start on
-abbrev start : tie.After-sender-at → tie.Start
+abbrev start : tie.After-sender_at-d → tie.Start
 start c = c.before.before.before.before.before.before
 
-abbrev caught : tie.After-statuses → tie.After-sender-at
+abbrev caught : tie.After-statuses → tie.After-sender_at-d
 caught c = c.before.before.before.before
 
 -- the sender that steps
-is-sender : (c : tie.After-sender-at) → SenderIs (view (start c)).board (start c).args.i c.sender-at.result
-is-sender c = let s = start c in sender-is s.args.table.now (view s) (accepted s) _ _ c.sender-at.ensures
+is-sender : (c : tie.After-sender_at-d) → SenderIs (view (start c)).board (start c).args.i c.sender_at-d.result
+is-sender c = let s = start c in sender-is s.args.table.now (view s) (accepted s) _ _ c.sender_at-d.ensures
 
 numbers : (s : tie.Start) → length s.args.board.now ≡ board_len
 numbers s = (all-numbers _ s.requires.0.numbers).0
 
-shared-slice-read-effect-of : tie.Need-shared-slice-read-effect-of
+shared-slice-read-effect-of : tie.Need-bounds-board-0
 shared-slice-read-effect-of c = omega (arith, numbers (start c.before))
 
-shared-slice-read-effect-of-2 : tie.Need-shared-slice-read-effect-of-2
+shared-slice-read-effect-of-2 : tie.Need-bounds-board-1
 shared-slice-read-effect-of-2 c = omega (arith, numbers (start c.before.before))
 
 -- the columns that the step is lent are those of the lists
 columns-are : (c : tie.After-statuses)
     → let l = lent (start (caught c)) in
-    (c.before.channels.result.now ≡ (columns_in l).channels) × (c.statuses.result.now ≡ (columns_in l).statuses)
-columns-are c = (c.before.channels.ensures.0, c.statuses.ensures.0)
+    (c.channels.result.now ≡ (columns_in l).channels) × (c.statuses.result.now ≡ (columns_in l).statuses)
+columns-are c = (c.channels.ensures.0, c.statuses.ensures.0)
 
 backoffs-requires : tie.Need-backoffs-requires
 backoffs-requires c κs = numbers (start (caught c))
 
-effect-of-requires : tie.Need-effect-of-requires
+effect-of-requires : tie.Need-effect_of-e-requires
 unfolding board_from
 effect-of-requires c κs =
     let f = caught c.before in
@@ -78,25 +78,25 @@ effect-of-requires c κs =
     let z = accepted s in (
       (
         table-accepted _ _ _ _ z,
-        ap sender_steps f.sender-at.ensures ∙ s.pre.1.0.1,
-        s.pre.0.sized.links-len,
+        ap sender_steps f.sender_at-d.ensures ∙ s.requires.1.0.1,
+        s.requires.0.sized.links-len,
         ap backoffs_pass c.backoffs.ensures.0 ∙ board-rests _ _ _ _ z,
       ),
       (
         ready_by a.keys.now e.0 e.1
-            (is-ready _ (view s).board (view s).columns (view s).matches z a.i f.sender-at.result
+            (is-ready _ (view s).board (view s).columns (view s).matches z a.i f.sender_at-d.result
             (is-sender f)),
-        subst (Passed a.start (get_or a.board.now 0 0)) (sym e.1) s.pre.1.1,
+        subst (Passed a.start (get_or a.board.now 0 0)) (sym e.1) s.requires.1.1,
       ),
     )
 
 -- the effect is the model's
-by-effect : (c : tie.After-effect-of)
+by-effect : (c : tie.After-effect_of-e)
     → let w = c.before.before in
     let s = start (caught w) in
     let t = table_of s.args.table.now in
-    let d = sender_in t (caught w).sender-at.result in
-    state_step t (board_of s.args.table.now (view s)) d d.state ≡ does (effect_in t c.effect_of.result)
+    let d = sender_in t (caught w).sender_at-d.result in
+    state_step t (board_of s.args.table.now (view s)) d d.state ≡ does (effect_in t c.effect_of-e.result)
 unfolding board_from
 by-effect c =
     let w = c.before.before in
@@ -106,12 +106,12 @@ by-effect c =
     let e = columns-are w in
     let o = others t g.board g.columns g.matches (accepted s) in
     sym (state-by s.args.keys.now e.0 e.1 (table_of t) (get_or s.args.board.now 0 0) o
-    (sender_in (table_of t) (caught w).sender-at.result))
-    ∙ c.effect_of.ensures o (length_from (match_in (table_of t) g.matches) 0 g.board.matches)
-    (sym c.before.backoffs.ensures.0) refl refl refl
+    (sender_in (table_of t) (caught w).sender_at-d.result))
+    ∙ c.effect_of-e.ensures o (length_from (match_in (table_of t) g.matches) 0 g.board.matches)
+    (sym c.backoffs.ensures.0) refl refl refl
 
-eight : (c : tie.After-effect-of) → length c.effect_of.result.sender.job.chosen ≡ 8
-eight c = simp length-map at c.effect_of.type-inv.1.1.1.1.0.1.1.1.1.1.1.1.1.0.1.1.1.1.1.0.1.0.1
+eight : (c : tie.After-effect_of-e) → length c.effect_of-e.result.sender.job.chosen ≡ 8
+eight c = simp length-map at c.effect_of-e.type_inv.1.1.1.1.0.1.1.1.1.1.1.1.1.0.1.1.1.1.1.0.1.0.1
 
 -- the message of a move that adds none
 abbrev none : DS.Sent
@@ -127,21 +127,21 @@ returns c =
     let t = a.table.now in
     let h = view s in
     let z = accepted s in
-    let x = q.effect_of.result in
-    let d = f.sender-at.result in
-    let is = does-it t h.board h.columns h.matches z a.i d (is-sender f) x s.pre.1.0.0
+    let x = q.effect_of-e.result in
+    let d = f.sender_at-d.result in
+    let is = does-it t h.board h.columns h.matches z a.i d (is-sender f) x s.requires.1.0.0
     (by-effect q) in
-    let sure = is-sure t h.board h.columns h.matches z a.i d (is-sender f) x s.pre.1.0.0
+    let sure = is-sure t h.board h.columns h.matches z a.i d (is-sender f) x s.requires.1.0.0
     (by-effect q) in (
-      step_move t h z a.i x none is sure (eight q) s.pre.1.0.0,
+      step_move t h z a.i x none is sure (eight q) s.requires.1.0.0,
       (
         record { room = λ e. never e; low = λ e. never e; sure = sure },
         effect-accepted (table_of t) (board_of t h) a.i _ is,
       ),
     )
 
-pub step-move-spec : {M : Type 1} → statement M
-step-move-spec =
+pub step_move_spec : {M : Type 1} → statement M
+step_move_spec =
     tie.close
     (tie.spec
     (λ c κs. search rules)
