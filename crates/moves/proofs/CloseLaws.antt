@@ -10,7 +10,7 @@ use Rattle.model.specs.Layout.{table_of}
 use Rattle.model.specs.Closes.{close_refusal, closed_to}
 use Rattle.model.specs.Pools.{closes}
 use Rattle.model.proofs.Tests.{never}
-use Rattle.columns.specs.Columns.{Columns, days_at, message_in}
+use Rattle.columns.specs.Columns.{days_at, message_in}
 use Rattle.columns.proofs.ListFrom.{same_from}
 use Rattle.boards.specs.Calls.{Held}
 use Rattle.boards.specs.Layout.{close_day_at}

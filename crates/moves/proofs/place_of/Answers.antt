@@ -1,7 +1,6 @@
 -- `moves::place_of` meets its contract.
 use mathlib.Core.Path.{sym}
 use native.Mathlib.Omega.{arith}
-use borrow.Author.Rules.{rules}
 use borrow.Author.Tests.{le-ltb}
 use Rattle.moves.proofs.RefusedLaws.{place_in}
 use Rattle.moves.proofs.place_of.Goals as goal

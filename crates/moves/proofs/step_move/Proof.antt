@@ -3,7 +3,7 @@ use mathlib.Core.Path.{◌≡◌, refl, sym, ap, subst, ◌∙◌}
 use native.Mathlib.Omega.{arith}
 use borrow.Author.Rules.{rules}
 use lib.IntN.{pos}
-use lib.ListN.{length, get_or, length-map}
+use lib.ListN.{length, get_or}
 use Rattle.model.specs.Boards.{backoffs_pass}
 use Rattle.model.specs.Effects.{does}
 use Rattle.model.specs.Layout.{table_of}
@@ -111,7 +111,7 @@ by-effect c =
     (sym c.backoffs.ensures.0) refl refl refl
 
 eight : (c : tie.After-effect_of-e) → length c.effect_of-e.result.sender.job.chosen ≡ 8
-eight c = simp length-map at c.effect_of-e.type_inv.1.1.1.1.0.1.1.1.1.1.1.1.1.0.1.1.1.1.1.0.1.0.1
+eight c = search rules
 
 -- the message of a move that adds none
 abbrev none : DS.Sent

@@ -1,7 +1,6 @@
 -- `moves::step_refusal` meets its contract: each return is the first test that fails.
 use mathlib.Core.Path.{sym, ◌∙◌}
 use native.Mathlib.Omega.{arith}
-use borrow.Author.Rules.{rules}
 use borrow.Author.Tests.{not-true, not-false}
 use Rattle.rows.specs.Decoded.{board_from}
 use Rattle.moves.proofs.RefusedLaws.{step-8, step-13, step-0}
