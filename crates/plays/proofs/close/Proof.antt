@@ -17,43 +17,43 @@ use Rattle.plays.proofs.close.Statement.{statement}
 use Rattle.plays.proofs.close.Tie as tie
 
 -- where the function starts
-abbrev start : tie.After-close-refusal → tie.Start
+abbrev start : tie.After-close_refusal-refusal → tie.Start
 start c = c.before.before.before.before.before
 
 numbers : (s : tie.Start) → length s.args.board.now ≡ board_len
 numbers s = (all-numbers s.args.board.now s.requires.0).0
 
 -- the refusal is the call's, whatever the table
-refusal_is : (c : tie.After-close-refusal) (t : List ℕ)
+refusal_is : (c : tie.After-close_refusal-refusal) (t : List ℕ)
     → let a = (start c).args in
-    c.close-refusal.result ≡ call_refusal (table_of t) (board_from a.board.now) a.keys.now (closes a.day)
+    c.close_refusal-refusal.result ≡ call_refusal (table_of t) (board_from a.board.now) a.keys.now (closes a.day)
 unfolding board_from
-refusal_is c t = c.close-refusal.ensures
+refusal_is c t = c.close_refusal-refusal.ensures
 
-slice-read-close-refusal : tie.Need-slice-read-close-refusal
+slice-read-close-refusal : tie.Need-bounds-board-674
 slice-read-close-refusal c = omega (arith, numbers c.before.before.before)
 
-returns : tie.Need-returns
+returns : tie.Need-returns-then-refusal-ne0
 returns c =
     let r = c.before in
     let a = (start r).args in (
       λ s bytes links cents ok.
           play-refused s (lists a.board.now bytes links a.keys.now cents) (closes a.day) ok _
-          (refusal_is r s) c.if1.true,
+          (refusal_is r s) c.if-refusal-ne0.true,
       refl,
     )
 
-returns-2 : tie.Need-returns-2
+returns-2 : tie.Need-returns
 unfolding board_from
 returns-2 c =
     let p = c.before.before.before.before in
     let f = p.before.before.before in
     let r = f.before in
     let a = (start r).args in
-    let e = p.put-close.ensures in (
+    let e = p.put_close.ensures in (
       λ s bytes links cents ok.
           closed-lists s (lists a.board.now bytes links a.keys.now cents) a.day ok
-          (sym (refusal_is r s) ∙ f.if1.false) _ _ e.0 e.1 e.2,
+          (sym (refusal_is r s) ∙ f.if-refusal-ne0.false) _ _ e.0 e.1 e.2,
       ap (λ (b : HeldBoard). b.messages) e.1,
     )
 

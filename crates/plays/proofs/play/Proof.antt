@@ -31,38 +31,38 @@ accepted : (s : tie.Start) → Accepted s.args.table.now (lent s)
 accepted s = s.requires.0
 
 -- the places, from the start on
-abbrev start : tie.After-call-refusal → tie.Start
+abbrev start : tie.After-call_refusal-refusal → tie.Start
 start c = c.before.before.before.before.before.before.before.before
 
-abbrev free : tie.After-move-of → tie.Else1
+abbrev free : tie.After-move_of-m → tie.Else-refusal-ne0
 free c = c.before.before.before.before.before.before
 
-abbrev called : tie.After-write-move → tie.After-caller-of
+abbrev called : tie.After-write_move → tie.After-caller_of-i
 called c = c.before.before.before.before.before.before
 
-abbrev decided : tie.After-write-move → tie.After-move-of
+abbrev decided : tie.After-write_move → tie.After-move_of-m
 decided c = (called c).before
 
-abbrev written : tie.After-cents → tie.After-write-move
+abbrev written : tie.After-cents-1 → tie.After-write_move
 written c = c.before.before.before.before.before.before.before.before.before
 
-abbrev begun : tie.After-move-of → tie.Start
+abbrev begun : tie.After-move_of-m → tie.Start
 begun c = start (free c).before
 
 -- a call that is not refused has a caller
-unrefused : (c : tie.Else1)
+unrefused : (c : tie.Else-refusal-ne0)
     → let s = start c.before in
     call_refusal (table_of s.args.table.now) (board_from s.args.board.now) s.args.keys.now
     (call_in s.args.call) ≡ 0
-unrefused c = sym c.before.call-refusal.ensures ∙ c.if1.false
+unrefused c = sym c.call_refusal-refusal.ensures ∙ c.if-refusal-ne0.false
 
-caller-few : (c : tie.After-caller-of) → c.caller-of.result < 32
+caller-few : (c : tie.After-caller_of-i) → c.caller_of-i.result < 32
 caller-few c =
     let f = free c.before in
     let s = start f.before in
     omega (
       arith,
-      c.caller-of.ensures,
+      c.caller_of-i.ensures,
       caller-in (table_of s.args.table.now) (board_from s.args.board.now) s.args.keys.now s.args.call
           (unrefused f),
     )
@@ -81,68 +81,68 @@ tally-few s i l =
     )
 
 -- the lists once the move is written
-abbrev left : tie.After-write-move → Lists
+abbrev left : tie.After-write_move → Lists
 left c =
-    let w = c.write-move.new.1.1 in
+    let w = c.write_move.new.1.1 in
     lists w.0 w.1.0 w.1.1.0 w.1.1.1.0 w.1.1.1.1.0
 
-plays : (c : tie.After-write-move)
+plays : (c : tie.After-write_move)
     → let s = begun (decided c) in
-    PlaysIn s.args.table.now (lent s) (call_in s.args.call) (said_in (decided c).move-of.result.said) (left c)
+    PlaysIn s.args.table.now (lent s) (call_in s.args.call) (said_in (decided c).move_of-m.result.said) (left c)
 plays c =
     let d = decided c in
     let s = begun d in
-    let e = d.move-of.ensures in
-    let w = c.write-move.ensures in
-    played s.args.table.now (lent s) (call_in s.args.call) (left c) _ d.move-of.result _ _
-    (called c).caller-of.ensures e.0 e.1.1 w.0 w.1 w.2
+    let e = d.move_of-m.ensures in
+    let w = c.write_move.ensures in
+    played s.args.table.now (lent s) (call_in s.args.call) (left c) _ d.move_of-m.result _ _
+    (called c).caller_of-i.ensures e.0 e.1.1 w.0 w.1 w.2
 
-left-few : (c : tie.After-write-move) → get_or (left c).board 0 0 ≤ 1024
+left-few : (c : tie.After-write_move) → get_or (left c).board 0 0 ≤ 1024
 unfolding board_from
 left-few c =
     let s = begun (decided c) in
     messages_few _ _ _ _ (accepted-after s.args.table.now (lent s) _ (accepted s) _ _ (plays c)).accepted
 
-call-refusal-requires : tie.Need-call-refusal-requires
+call-refusal-requires : tie.Need-call_refusal-refusal-requires
 call-refusal-requires c κs =
     let s = c.before.before.before.before.before.before.before in
     (table-accepted _ _ _ _ (accepted s).accepted, (accepted s).numbers, (accepted s).sized.keys-len)
 
-returns : tie.Need-returns
+returns : tie.Need-returns-then-refusal-ne0
 returns c =
     let k = c.before.before in
     let s = start k in (
-      play-refused s.args.table.now (lent s) (call_in s.args.call) (accepted s) _ k.call-refusal.ensures
-          c.before.if1.true,
-      (c.answer-number.ensures, s.pre.1),
+      play-refused s.args.table.now (lent s) (call_in s.args.call) (accepted s) _ k.call_refusal-refusal.ensures
+          c.if-refusal-ne0.true,
+      (c.answer_number.ensures, s.requires.1),
     )
 
-move-of-requires : tie.Need-move-of-requires
+move-of-requires : tie.Need-move_of-m-requires
 move-of-requires c κs =
     let f = c.before.before.before.before.before in
     let s = start f.before in
-    (accepted s, (unrefused f, s.pre.1))
+    (accepted s, (unrefused f, s.requires.1))
 
-cast-i : tie.Need-overflow-cast-i
+cast-i : tie.Need-overflow_cast-i
 cast-i c = omega (arith, caller-few c)
 
-write-move-requires : tie.Need-write-move-requires
+write-move-requires : tie.Need-write_move-requires
 write-move-requires c κs =
     let k = c.before.before.before.before.before in
     let s = begun k.before in
     let a = accepted s in
     let i = caller-few k in
-    (a.numbers, i, a.sized, (few s).0, (few s).1, tally-few s _ i, k.before.move-of.ensures.1.0)
+    (a.numbers, i, a.sized, (few s).0, (few s).1, tally-few s _ i, k.move_of-m.ensures.1.0)
 
-slice-read-start-after : tie.Need-slice-read-start-after
+slice-read-start-after : tie.Need-bounds-board-0
 slice-read-start-after c =
     let w = written c.before in
     omega (arith, (all-numbers _ (plays w).numbers).0)
 
-start-after-requires : tie.Need-start-after-requires
+start-after-requires : tie.Need-start_after-next-requires
 start-after-requires c κs = let w = written c.before.before in (left-few w, (plays w).sized.bytes-len)
 
-returns-2 : tie.Need-returns-2
+returns-2 : tie.Need-returns
 unfolding board_from
 returns-2 c =
     let n = c.before in
@@ -151,15 +151,15 @@ returns-2 c =
     let s = begun d in (
       plays w,
       (
-        c.answer-number2.ensures,
-        n.start-after.ensures (get_or s.args.board.now 0 0) d.move-of.result.adds
-            (statuses_in s.args.bytes.now) s.pre.1 (plays w).plays.beyond.messages_grow
-            (ap (λ (h : Held). h.columns.statuses) w.write-move.ensures.0),
+        c.answer_number-2.ensures,
+        n.start_after-next.ensures (get_or s.args.board.now 0 0) d.move_of-m.result.adds
+            (statuses_in s.args.bytes.now) s.requires.1 (plays w).plays.beyond.messages_grow
+            (ap (λ (h : Held). h.columns.statuses) w.write_move.ensures.0),
       ),
     )
 
-pub play-spec : {M : Type 1} → statement M
-play-spec =
+pub play_spec : {M : Type 1} → statement M
+play_spec =
     tie.close
     (tie.spec
     call-refusal-requires
