@@ -15,7 +15,7 @@ use Rattle.model.proofs.Tests.{never}
 use Rattle.columns.specs.Columns.{list_from}
 use Rattle.state.specs.declared.Sender as DD
 use Rattle.boards.specs.Calls.{Held}
-use Rattle.refusals.specs.Calls.{board_of, refusal_of, SameFrom, SameTo, Beyond, caller_of, row_at, SameRow, Plays}
+use Rattle.refusals.specs.Calls.{board_of, refusal_of, SameFrom, SameTo, Beyond, caller_of, row_at, SameRow}
 use Rattle.refusals.proofs.CallLaws.{beyond-same, row_same}
 use Rattle.plays.specs.Replays.{answer_number, answer_numbers, PlaysInTurn}
 
