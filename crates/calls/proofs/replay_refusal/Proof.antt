@@ -12,37 +12,37 @@ use Rattle.calls.proofs.replay_refusal.Tie as tie
 abbrev given : tie.Start → CallRows
 given s = let a = s.args in call_rows a.calls.now a.numbers.now a.amounts.now
 
-abbrev start : tie.After-rows-fit → tie.Start
+abbrev start : tie.After-rows_fit → tie.Start
 start c = c.before.before.before.before
 
-fits : (c : tie.Else2) → rows_fit (given (start c.before)) ≡ true
-fits c = sym c.before.rows_fit.ensures ∙ not-false _ c.if2.false
+fits : (c : tie.Else-not-rows_fit) → rows_fit (given (start c.before)) ≡ true
+fits c = sym c.rows_fit.ensures ∙ not-false _ c.if-not-rows_fit.false-raw
 
-returns : tie.Need-returns
+returns : tie.Need-returns-then-number-ne0
 returns c =
     let s = c.before.before.before in
-    refused-board s.args.number (given s) s.args.room s.args.number c.if1.true refl
+    refused-board s.args.number (given s) s.args.room s.args.number c.if-number-ne0.true refl
 
-returns-2 : tie.Need-returns-2
+returns-2 : tie.Need-returns-then-not-rows_fit
 returns-2 c =
     let k = c.before in
     let s = start k in
-    refused-rows s.args.number (given s) s.args.room k.before.if1.false
-    (sym k.rows_fit.ensures ∙ not-true _ c.if2.true)
+    refused-rows s.args.number (given s) s.args.room k.if-number-ne0.false
+    (sym k.rows_fit.ensures ∙ not-true _ c.if-not-rows_fit.true-raw)
 
-returns-3 : tie.Need-returns-3
+returns-3 : tie.Need-returns-then-room-amounts
 returns-3 c =
     let e = c.before in
     let s = start e.before in
-    refused-room s.args.number (given s) s.args.room e.before.before.if1.false (fits e)
-    (omega (arith, c.if3.true))
+    refused-room s.args.number (given s) s.args.room e.if-number-ne0.false (fits e)
+    (omega (arith, c.if-room-amounts.true))
 
-returns-4 : tie.Need-returns-4
+returns-4 : tie.Need-returns
 returns-4 c =
     let e = c.before in
     let s = start e.before in
-    refused_none s.args.number (given s) s.args.room e.before.before.if1.false (fits e)
-    (omega (arith, c.if3.false))
+    refused_none s.args.number (given s) s.args.room e.if-number-ne0.false (fits e)
+    (omega (arith, c.if-room-amounts.false))
 
-pub replay-refusal-spec : {M : Type 1} → statement M
-replay-refusal-spec = tie.close (tie.spec returns (λ c κs. search rules) returns-2 returns-3 returns-4)
+pub replay_refusal_spec : {M : Type 1} → statement M
+replay_refusal_spec = tie.close (tie.spec returns (λ c κs. search rules) returns-2 returns-3 returns-4)

@@ -11,27 +11,27 @@ use Rattle.sessions.proofs.serve_kept.Tie as tie
 -- no more bytes are kept than there are places
 held : (s : tie.Start) → s.args.kept.len ≤ length s.args.kept.bytes
 held s =
-    let l : length s.args.kept.bytes ≡ 81 = simp length-map at s.well-formed.1.1.1.1.1.1.0.1.1.0.1.0.1 in
+    let l : length s.args.kept.bytes ≡ 81 = omega arith in
     omega (arith, s.requires.1.1.0)
 
-abbrev start : tie.After-line → tie.Start
+abbrev start : tie.After-line-1 → tie.Start
 start c = c.before.before.before.before.before.before.before
 
-array-share-prefix-line : tie.Need-array-share-prefix-line
+array-share-prefix-line : tie.Need-slice_bounds-line-end
 array-share-prefix-line c = held (start c.before.before.before.before.before)
 
-slice-aggregate-serve-line : tie.Need-slice-aggregate-serve-line
+slice-aggregate-serve-line : tie.Need-slice_bounds-serve_line-end
 slice-aggregate-serve-line c =
     let s = start c.before.before.before.before.before.before in
     sym (length-take-le s.args.kept.len s.args.kept.bytes (held s))
 
-serve-line-requires : tie.Need-serve-line-requires
+serve-line-requires : tie.Need-serve_line-requires
 serve-line-requires c κs =
     let s = start c.before.before.before.before.before.before.before in
-    (s.pre.0, (s.pre.1.0, s.pre.1.1.1))
+    (s.requires.0, (s.requires.1.0, s.requires.1.1.1))
 
-pub serve-kept-spec : {M : Type 1} → statement M
-serve-kept-spec =
+pub serve_kept_spec : {M : Type 1} → statement M
+serve_kept_spec =
     tie.close
     (tie.spec
     array-share-prefix-line

@@ -6,32 +6,32 @@ use borrow.Author.Rules.{rules}
 use Rattle.sessions.proofs.serve_line.Statement.{statement}
 use Rattle.sessions.proofs.serve_line.Tie as tie
 
-abbrev start : tie.After-read-line → tie.Start
+abbrev start : tie.After-read_line-l → tie.Start
 start c = c.before.before.before.before.before.before.before.before
 
-returns : tie.Need-returns
+returns : tie.Need-returns-in_default
 returns c =
     let w = c.before.before in
     let t = w.before.before in
     let l = t.before.before in
     let s = start l in
-    let e = sym l.read-line.ensures ∙ ap line_in t.enum_told.given.1 in
-    let r = w.put-answer.ensures in
-    (serves-unread _ _ _ _ _ _ _ s.pre.0 r.1 e r.0, s.pre.1.0)
+    let e = sym l.read_line-l.ensures ∙ ap line_in t.enum_told-1.given.1 in
+    let r = w.put_answer-e.ensures in
+    (serves-unread _ _ _ _ _ _ _ s.requires.0 r.1 e r.0, s.requires.1.0)
 
-returns-2 : tie.Need-returns-2
+returns-2 : tie.Need-returns
 returns-2 c =
     let w = c.before.before in
     let y = w.before.before.before.before.before.before.before.before.before.before.before in
     let k = y.before.before.before.before.before.before.before in
     let l = k.before.before in
-    let e = sym l.read-line.ensures ∙ ap line_in k.l.given.1 in
-    let r = w.put-answer2.ensures in
-    let p = y.play.ensures in
+    let e = sym l.read_line-l.ensures ∙ ap line_in k.l-1.given.1 in
+    let r = w.put_answer-e-2.ensures in
+    let p = y.play-a.ensures in
     (serves-read _ _ _ _ _ _ _ (start l).requires.0 r.1 _ _ _ e p.0 r.0, p.1.1)
 
-pub serve-line-spec : {M : Type 1} → statement M
-serve-line-spec =
+pub serve_line_spec : {M : Type 1} → statement M
+serve_line_spec =
     tie.close
     (tie.spec
     (λ c κs. search rules)

@@ -1,0 +1,16 @@
+use mathlib.Core.Path.{◌≡◌, refl, sym, ap, ◌∙◌}
+use mathlib.Core.List.{◌++◌}
+use Prim.Native.Nat.{◌-◌, ◌<◌, ◌≤◌}
+use native.Mathlib.Omega.{arith}
+use lib.ListN.{length, take, drop, length-map}
+use Rattle.model.proofs.Walks.{carry-next, carry-full, carry-all}
+use borrow.Author.Rules.{rules}
+use Rattle.sessions.proofs.with_bytes.Given as goal
+
+abbrev pub invariant-loop-i : goal.invariant-loop-i
+invariant-loop-i l =
+    (l.n ≤ 81) × (l.i ≤ length l.s) × (length l.bytes ≡ 81)
+    × (take 81 (take l.initial.n l.initial.bytes ++ l.s) ≡ take 81 (take l.n l.bytes ++ drop l.i l.s))
+
+abbrev pub decreases-loop-i : goal.decreases-loop-i
+decreases-loop-i l = length l.s - l.i
