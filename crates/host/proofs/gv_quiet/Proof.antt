@@ -16,7 +16,7 @@ use Rattle.host.proofs.gv_quiet.Statement.{statement}
 use Rattle.host.proofs.gv_quiet.Tie as tie
 
 -- where the function starts, and what the lent lists hold
-abbrev start : tie.After-read-quiet → tie.Start
+abbrev start : tie.After-read_quiet-read → tie.Start
 start c = c.before.before.before.before.before.before
 
 abbrev given : tie.Start → Held
@@ -24,22 +24,22 @@ given s =
     let a = s.args in
     held_in (lists a.board.now a.bytes.now a.links.now a.keys.now a.cents.now)
 
-returns : tie.Need-returns
+returns : tie.Need-returns-then-number-ne0
 returns c =
     let q = c.before in
     let s = start q in
     read-refused s.args.table.now (given s) of_quiet s.args.out.now _
-    q.read-quiet.ensures.0 c.if1.true
+    q.read_quiet-read.ensures.0 c.if-number-ne0.true
 
-returns-2 : tie.Need-returns-2
+returns-2 : tie.Need-returns-then-out-lt1
 returns-2 c =
     let i = c.before in
     let q = i.before in
     let s = start q in
     read_short s.args.table.now (given s) of_quiet s.args.out.now
-    (sym i.if1.false ∙ q.read-quiet.ensures.0) c.if2.true
+    (sym i.if-number-ne0.false ∙ q.read_quiet-read.ensures.0) c.if-out-lt1.true
 
-returns-3 : tie.Need-returns-3
+returns-3 : tie.Need-returns
 returns-3 c =
     let p = c.before in
     let j = p.before.before.before in
@@ -47,13 +47,13 @@ returns-3 c =
     let q = i.before in
     let s = start q in
     read-given s.args.table.now (given s) of_quiet s.args.out.now _
-    (sym i.if1.false ∙ q.read-quiet.ensures.0) (omega (arith, j.if2.false))
+    (sym i.if-number-ne0.false ∙ q.read_quiet-read.ensures.0) (omega (arith, j.if-out-lt1.false))
     (p.put_one.ensures
     ∙ ap (λ (x : ℕ). stored_in (pos x ∷ []) s.args.out.now)
-    (byte_flag q.read-quiet.result.quiet ∙ ap flag q.read-quiet.ensures.1))
+    (byte_flag q.read_quiet-read.result.quiet ∙ ap flag q.read_quiet-read.ensures.1))
 
-pub gv-quiet-spec : {M : Type 1} → statement M
-gv-quiet-spec =
+pub gv_quiet_spec : {M : Type 1} → statement M
+gv_quiet_spec =
     tie.close
     (tie.spec
     (λ c κs. search rules)

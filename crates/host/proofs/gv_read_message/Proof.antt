@@ -12,7 +12,7 @@ use Rattle.host.proofs.gv_read_message.Statement.{statement}
 use Rattle.host.proofs.gv_read_message.Tie as tie
 
 -- where the function starts, and what the lent lists hold
-abbrev start : tie.After-read-message → tie.Start
+abbrev start : tie.After-read_message-read → tie.Start
 start c = c.before.before.before.before.before.before
 
 abbrev given : tie.Start → Held
@@ -20,22 +20,22 @@ given s =
     let a = s.args in
     held_in (lists a.board.now a.bytes.now a.links.now a.keys.now a.cents.now)
 
-returns : tie.Need-returns
+returns : tie.Need-returns-then-number-ne0
 returns c =
     let q = c.before in
     let s = start q in
     read-refused s.args.table.now (given s) (of_message s.args.n) s.args.out.now _
-    q.read-message.ensures.0 c.if1.true
+    q.read_message-read.ensures.0 c.if-number-ne0.true
 
-returns-2 : tie.Need-returns-2
+returns-2 : tie.Need-returns-then-out-lt8
 returns-2 c =
     let i = c.before in
     let q = i.before in
     let s = start q in
     read_short s.args.table.now (given s) (of_message s.args.n) s.args.out.now
-    (sym i.if1.false ∙ q.read-message.ensures.0) c.if2.true
+    (sym i.if-number-ne0.false ∙ q.read_message-read.ensures.0) c.if-out-lt8.true
 
-returns-3 : tie.Need-returns-3
+returns-3 : tie.Need-returns
 returns-3 c =
     let p = c.before in
     let j = p.before.before.before in
@@ -43,11 +43,11 @@ returns-3 c =
     let q = i.before in
     let s = start q in
     read-given s.args.table.now (given s) (of_message s.args.n) s.args.out.now _
-    (sym i.if1.false ∙ q.read-message.ensures.0) (omega (arith, j.if2.false))
-    (p.put-message.ensures
-    ∙ ap (λ (x : Message). stored_in (message_numbers x) s.args.out.now) q.read-message.ensures.1.0)
+    (sym i.if-number-ne0.false ∙ q.read_message-read.ensures.0) (omega (arith, j.if-out-lt8.false))
+    (p.put_message.ensures
+    ∙ ap (λ (x : Message). stored_in (message_numbers x) s.args.out.now) q.read_message-read.ensures.1.0)
 
-pub gv-read-message-spec : {M : Type 1} → statement M
-gv-read-message-spec =
+pub gv_read_message_spec : {M : Type 1} → statement M
+gv_read_message_spec =
     tie.close
     (tie.spec (λ c κs. search rules) returns returns-2 (λ c κs. search rules) (λ c. search rules) returns-3)

@@ -14,7 +14,7 @@ use Rattle.host.proofs.gv_read_reply.Statement.{statement}
 use Rattle.host.proofs.gv_read_reply.Tie as tie
 
 -- where the function starts, and what the lent lists hold
-abbrev start : tie.After-read-reply → tie.Start
+abbrev start : tie.After-read_reply-read → tie.Start
 start c = c.before.before.before.before.before.before
 
 abbrev given : tie.Start → Held
@@ -22,22 +22,22 @@ given s =
     let a = s.args in
     held_in (lists a.board.now a.bytes.now a.links.now a.keys.now a.cents.now)
 
-returns : tie.Need-returns
+returns : tie.Need-returns-then-number-ne0
 returns c =
     let q = c.before in
     let s = start q in
     read-refused s.args.table.now (given s) (of_reply s.args.sender) s.args.out.now _
-    q.read-reply.ensures.0 c.if1.true
+    q.read_reply-read.ensures.0 c.if-number-ne0.true
 
-returns-2 : tie.Need-returns-2
+returns-2 : tie.Need-returns-then-out-lt1
 returns-2 c =
     let i = c.before in
     let q = i.before in
     let s = start q in
     read_short s.args.table.now (given s) (of_reply s.args.sender) s.args.out.now
-    (sym i.if1.false ∙ q.read-reply.ensures.0) c.if2.true
+    (sym i.if-number-ne0.false ∙ q.read_reply-read.ensures.0) c.if-out-lt1.true
 
-returns-3 : tie.Need-returns-3
+returns-3 : tie.Need-returns
 returns-3 c =
     let p = c.before in
     let j = p.before.before in
@@ -45,10 +45,10 @@ returns-3 c =
     let q = i.before in
     let s = start q in
     read-given s.args.table.now (given s) (of_reply s.args.sender) s.args.out.now _
-    (sym i.if1.false ∙ q.read-reply.ensures.0) (omega (arith, j.if2.false))
-    (p.put_one.ensures ∙ ap (λ (x : ℕ). stored_in (pos x ∷ []) s.args.out.now) q.read-reply.ensures.1)
+    (sym i.if-number-ne0.false ∙ q.read_reply-read.ensures.0) (omega (arith, j.if-out-lt1.false))
+    (p.put_one.ensures ∙ ap (λ (x : ℕ). stored_in (pos x ∷ []) s.args.out.now) q.read_reply-read.ensures.1)
 
-pub gv-read-reply-spec : {M : Type 1} → statement M
-gv-read-reply-spec =
+pub gv_read_reply_spec : {M : Type 1} → statement M
+gv_read_reply_spec =
     tie.close
     (tie.spec (λ c κs. search rules) returns returns-2 (λ c κs. search rules) (λ c. search rules) returns-3)

@@ -19,23 +19,23 @@ status s =
     let a = s.args in
     get_d_part 1024 1024 a.bytes.now (1024 + a.n) a.n 0 (omega arith) s.requires.1
 
-returns : tie.Need-returns
+returns : tie.Need-returns-then-status-ge3
 returns c =
     let s = c.before.before.before.before in
     let a = s.args in
-    let e = item-none a.n (get_or a.bytes.now (1024 + a.n) 0) (omega (arith, c.if1.true)) in
+    let e = item-none a.n (get_or a.bytes.now (1024 + a.n) 0) (omega (arith, c.if-status-ge3.true)) in
     (rw (status s, e) (none a.out.now a.at), omega arith)
 
-returns-2 : tie.Need-returns-2
+returns-2 : tie.Need-returns
 returns-2 c =
     let p = c.before.before in
     let i = p.before.before in
     let s = i.before.before.before.before in
     let a = s.args in
-    let e = item-line a.n (get_or a.bytes.now (1024 + a.n) 0) (omega (arith, i.if1.false)) in
-    (rw (status s, e) p.put-open.ensures.0, p.put-open.ensures.1)
+    let e = item-line a.n (get_or a.bytes.now (1024 + a.n) 0) (omega (arith, i.if-status-ge3.false)) in
+    (rw (status s, e) p.put_open.ensures.0, p.put_open.ensures.1)
 
-pub put-open-line-spec : {M : Type 1} → statement M
-put-open-line-spec =
+pub put_open_line_spec : {M : Type 1} → statement M
+put_open_line_spec =
     tie.close
     (tie.spec (λ c. search rules) (λ c. search rules) returns (λ c κs. search rules) (λ c. search rules) returns-2)

@@ -3,11 +3,7 @@ use borrow.Author.Rules.{rules}
 use lib.IntN.{pos}
 use native.Mathlib.Omega.{arith}
 use Rattle.host.proofs.ReadLaws.{number-back, one-put}
-use Rattle.host.proofs.put_one.Statement.{statement}
-use Rattle.host.proofs.put_one.Tie as tie
+use Rattle.host.proofs.put_one.Goals as goal
 
-returns : tie.Need-returns
+pub returns : goal.returns
 returns c = rw (number-back c.args.n (omega arith)) (one-put c.args.out.now (pos c.args.n) c.requires)
-
-pub put-one-spec : {M : Type 1} → statement M
-put-one-spec = tie.close (tie.spec (λ c. search rules) (λ c. search rules) (λ c. search rules) returns)

@@ -11,8 +11,7 @@ use Rattle.boards.specs.Layout.{Lists}
 use Rattle.boards.specs.Calls.{sent}
 use Rattle.calls.specs.Calls.{Calls}
 use borrow.Author.Rules.{rules}
-use Rattle.host.proofs.gv_add.Statement.{statement}
-use Rattle.host.proofs.gv_add.Tie as tie
+use Rattle.host.proofs.gv_add.Goals as goal
 
 -- cents as the machine holds them
 cents-as : {s : List ℕ} {l l' : Lists} {w : Said} (i channel property : ℕ) (x y : ℤ) (day unit : ℕ) → x ≡ y
@@ -21,27 +20,12 @@ cents-as : {s : List ℕ} {l l' : Lists} {w : Said} (i channel property : ℕ) (
 cents-as {s} {l} {l'} {w} i channel property x y day unit e p =
     subst (λ (z : ℤ). Calls s l (adds i (sent channel property z day unit)) w l') e p
 
-returns : tie.Need-returns
+pub returns : goal.returns
 returns c =
-    let p = c.before.before.before.before.before.before.before.before.before.before in
-    let s = p.before.before.before.before.before.before.before.before.before.before.before in
-    let a = s.args in
+    let a = c.args in
     record {
       said = _;
-      number = c.answer-number.ensures;
+      number = c.answer_number.ensures;
       calls = cents-as a.sender a.channel a.property _ a.amount a.day a.unit
-          (to_z-of_z w64 a.amount s.ranges.amount) p.add.ensures;
+          (to_z-of_z w64 a.amount c.ranges.amount) c.add-said.ensures;
     }
-
-pub gv-add-spec : {M : Type 1} → statement M
-gv-add-spec =
-    tie.close
-    (tie.spec
-    (λ c κs. search rules)
-    (λ c κs. search rules)
-    (λ c. search rules)
-    (λ c. search rules)
-    (λ c. search rules)
-    (λ c. search rules)
-    (λ c. search rules)
-    returns)

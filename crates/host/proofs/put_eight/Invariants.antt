@@ -1,0 +1,16 @@
+use mathlib.Core.Path.{◌≡◌, subst}
+use mathlib.Core.List.{map}
+use Prim.Native.Nat.{ℕ, ◌-◌, ◌≤◌}
+use borrow.Author.Rules.{rules}
+use lib.Seq.{paste, paste-zero}
+use lib.IntN.{pos}
+use lib.ListN.{length}
+use native.Mathlib.Omega.{arith}
+use Rattle.host.proofs.ReadLaws.{eight-next}
+use Rattle.host.proofs.put_eight.Given as goal
+
+abbrev pub invariant-loop-i : goal.invariant-loop-i
+invariant-loop-i l = (l.i ≤ 8) × (l.out ≡ paste l.initial.out 3 (map pos l.messages) l.i) × (length l.out ≡ length l.initial.out)
+
+abbrev pub decreases-loop-i : goal.decreases-loop-i
+decreases-loop-i l = 8 - l.i
