@@ -1,6 +1,7 @@
 // Replays (rule 6.7): the first calls of the run of table P, and the rows of a part.
 use crate::script::Part;
 use crate::{say, script};
+use std::io::Stdout;
 
 // The lists of twenty calls.
 #[derive(Clone, Copy)]
@@ -100,21 +101,22 @@ fn lens(p: Part) -> [usize; 4] {
 const NONE: u32 = 4294967295;
 
 // The answers that were written; a dash where the last was not, though the replay was taken.
-fn say_answers(answers: [u32; 20], number: u8) {
+fn say_answers(stdout: Stdout, answers: [u32; 20], number: u8) {
     let mut k: usize = 0;
     while k < 20 {
         if answers[k] != NONE {
-            say::answer(answers[k]);
+            say::answer(stdout, answers[k]);
         }
         k += 1;
     }
     if (number == 0) & (answers[19] == NONE) {
-        say::answer(NONE);
+        say::answer(stdout, NONE);
     }
 }
 
 // A replay of the first numbers of the rows.
 fn played(
+    stdout: Stdout,
     table: &[u8],
     board: &mut [u16],
     bytes: &mut [u8],
@@ -143,13 +145,14 @@ fn played(
         &amounts[0..a],
         &mut answers[0..room],
     );
-    say::next(number);
-    say_answers(answers, number);
+    say::next(stdout, number);
+    say_answers(stdout, answers, number);
     number
 }
 
 // A part's replay.
 pub fn replayed(
+    stdout: Stdout,
     table: &[u8],
     board: &mut [u16],
     bytes: &mut [u8],
@@ -163,6 +166,7 @@ pub fn replayed(
     let numbers = r.numbers;
     let amounts = r.amounts;
     played(
+        stdout,
         table,
         board,
         bytes,

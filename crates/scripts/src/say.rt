@@ -1,8 +1,8 @@
 // Words and numbers on standard output.
 ghost use Rattle.std.specs.Prelude.{◌≤◌};
 
-use libc::STDOUT_FILENO;
 use state::Said;
+use std::io::Stdout;
 
 // The words by their numbers, sixteen bytes each, a letter for the length first: b for 2, and so on, a
 // capital where the word says no number.
@@ -12,29 +12,30 @@ const WORDS: [u8; 304] =
     isignalled      Eagain          Eended          Frested         hanswered       Gresumed        \
     grefused        Fclosed         ";
 
-pub fn text(t: &[u8]) {
-    io::write_all(STDOUT_FILENO, t);
+// What cannot be written is missing from the printout, which goes on.
+pub fn text(stdout: Stdout, t: &[u8]) {
+    let _ = stdout.write_all(t);
 }
 
-pub fn word(word: &[u8], n: u16) {
-    text(word);
-    text(b" ");
-    io::print_decimal(STDOUT_FILENO, n as u64);
+pub fn word(stdout: Stdout, word: &[u8], n: u16) {
+    text(stdout, word);
+    text(stdout, b" ");
+    let _ = stdout.print(n);
 }
 
-pub fn next(n: u8) {
-    word(b"", n as u16);
+pub fn next(stdout: Stdout, n: u8) {
+    word(stdout, b"", n as u16);
 }
 
 // Whether all is as it was.
-pub fn kept(yes: bool) {
+pub fn kept(stdout: Stdout, yes: bool) {
     if yes {
-        text(b" kept");
+        text(stdout, b" kept");
     }
 }
 
 // A word by its number; whether it says a number.
-fn name(word: usize) -> bool
+fn name(stdout: Stdout, word: usize) -> bool
     requires { word ≤ 18 }
 {
     let words = WORDS;
@@ -42,28 +43,28 @@ fn name(word: usize) -> bool
     let len = (words[at] % 16) as usize;
     let from = at + 1;
     let to = from + len;
-    text(&words[from..to]);
+    text(stdout, &words[from..to]);
     b'a' <= words[at]
 }
 
 // An answer by its number; a dash where there is none.
-pub fn answer(a: u32) {
+pub fn answer(stdout: Stdout, a: u32) {
     let number = (a / 65536) as usize;
-    text(b" ");
+    text(stdout, b" ");
     if 18 < number {
-        text(b"-");
+        text(stdout, b"-");
         return;
     }
-    if name(number) {
-        word(b"", (a % 65536) as u16);
+    if name(stdout, number) {
+        word(stdout, b"", (a % 65536) as u16);
     }
 }
 
-pub fn said(said: Said) {
-    answer(plays::answer_number(said));
+pub fn said(stdout: Stdout, said: Said) {
+    answer(stdout, plays::answer_number(said));
 }
 
 // The number of a refusal; 0 for any other answer.
-pub fn refusal(said: Said) {
-    next(state::number_of(said));
+pub fn refusal(stdout: Stdout, said: Said) {
+    next(stdout, state::number_of(said));
 }

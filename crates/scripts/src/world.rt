@@ -4,6 +4,7 @@ ghost use Rattle.std.specs.Prelude.{◌≤◌};
 use crate::script::Part;
 use crate::{replays, script, shown};
 use state::Said;
+use std::io::Stdout;
 
 // Each list has a number past it, and is lent at a length.
 #[derive(Clone, Copy)]
@@ -92,8 +93,8 @@ fn open_with(table: &[u8], w: World, mut board: [u16; 724], len: usize, p: Part)
     }
 }
 
-pub fn opened(table: &[u8], x: u8) -> World {
-    let a = asked(table, filled(x), script::ask(b'o', 0));
+pub fn opened(stdout: Stdout, table: &[u8], x: u8) -> World {
+    let a = asked(stdout, table, filled(x), script::ask(b'o', 0));
     a.world
 }
 
@@ -128,6 +129,7 @@ fn called(
 
 // A part's call on lent lists; a replay and a read are printed.
 fn lent(
+    stdout: Stdout,
     table: &[u8],
     board: &mut [u16],
     bytes: &mut [u8],
@@ -141,14 +143,15 @@ fn lent(
         return called(table, board, bytes, links, keys, cents, p);
     }
     if script::is_replay(kind) {
-        return Said::Refused(replays::replayed(table, board, bytes, links, keys, cents, p));
+        return Said::Refused(replays::replayed(stdout, table, board, bytes, links, keys, cents, p));
     }
-    shown::reads(table, board, bytes, links, keys, cents, p);
+    shown::reads(stdout, table, board, bytes, links, keys, cents, p);
     Said::Refused(0)
 }
 
 // The same, with each list at its length.
 fn lend(
+    stdout: Stdout,
     table: &[u8],
     mut board: [u16; 724],
     mut bytes: [u8; 3073],
@@ -164,6 +167,7 @@ fn lend(
     let n3 = lens[3] % 2051;
     let n4 = lens[4] % 1026;
     let said = lent(
+        stdout,
         table,
         &mut board[0..n0],
         &mut bytes[0..n1],
@@ -185,7 +189,7 @@ fn lend(
     }
 }
 
-pub fn asked(table: &[u8], w: World, p: Part) -> After {
+pub fn asked(stdout: Stdout, table: &[u8], w: World, p: Part) -> After {
     let board = w.board;
     let bytes = w.bytes;
     let links = w.links;
@@ -198,5 +202,5 @@ pub fn asked(table: &[u8], w: World, p: Part) -> After {
     if p.kind == b'O' {
         return open_with(table, w, board, lens[0], p);
     }
-    lend(table, board, bytes, links, keys, cents, lens, p)
+    lend(stdout, table, board, bytes, links, keys, cents, lens, p)
 }

@@ -60,8 +60,9 @@ module _ (t : Table) where
           let w = answer_line a.said in
           let ls = ended (c.0 ∷ c.1) in
           let step : fed t (session text b p) (x ∷ xs) ≡ fed t (session (text ++ w) a.board []) xs = rw e in
+          let cut : cut_at 10 (x ∷ xs) ≡ [] ∷ c.0 ∷ c.1 = rw (e, c.2) in
           let parts : ended (after p (cut_at 10 (x ∷ xs))) ≡ p ∷ ls
-          = rw (e, append-nil p, c.2) (ended-more p c.0 c.1) in
+          = ap (λ ps. ended (after p ps)) cut ∙ ap (λ q. ended (q ∷ c.0 ∷ c.1)) (append-nil p) ∙ ended-more p c.0 c.1 in
           ap finish step ∙ all (text ++ w) a.board []
           ∙ ap (λ ps. told (text ++ w) a.board (ended (after [] ps))) c.2
           ∙ ap (λ v. session v (after_lines t a.board ls) []) (append_assoc text w (answers_text t a.board ls))

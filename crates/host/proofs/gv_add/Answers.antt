@@ -10,7 +10,6 @@ use Rattle.model.specs.Pools.{adds}
 use Rattle.boards.specs.Layout.{Lists}
 use Rattle.boards.specs.Calls.{sent}
 use Rattle.calls.specs.Calls.{Calls}
-use borrow.Author.Rules.{rules}
 use Rattle.host.proofs.gv_add.Goals as goal
 
 -- cents as the machine holds them

@@ -1,11 +1,10 @@
 -- `host::put_eight` meets its contract: each turn writes one message more.
 use mathlib.Core.Path.{◌≡◌, subst}
 use mathlib.Core.List.{map}
-use Prim.Native.Nat.{ℕ, ◌-◌, ◌≤◌}
+use Prim.Native.Nat.{ℕ}
 use borrow.Author.Rules.{rules}
 use lib.Seq.{paste, paste-zero}
 use lib.IntN.{pos}
-use lib.ListN.{length}
 use native.Mathlib.Omega.{arith}
 use Rattle.host.proofs.ReadLaws.{eight-next}
 use Rattle.host.proofs.put_eight.Goals as goal

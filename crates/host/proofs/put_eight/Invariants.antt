@@ -1,12 +1,9 @@
-use mathlib.Core.Path.{◌≡◌, subst}
+use mathlib.Core.Path.{◌≡◌}
 use mathlib.Core.List.{map}
-use Prim.Native.Nat.{ℕ, ◌-◌, ◌≤◌}
-use borrow.Author.Rules.{rules}
-use lib.Seq.{paste, paste-zero}
+use Prim.Native.Nat.{◌-◌, ◌≤◌}
+use lib.Seq.{paste}
 use lib.IntN.{pos}
 use lib.ListN.{length}
-use native.Mathlib.Omega.{arith}
-use Rattle.host.proofs.ReadLaws.{eight-next}
 use Rattle.host.proofs.put_eight.Given as goal
 
 abbrev pub invariant-loop-i : goal.invariant-loop-i

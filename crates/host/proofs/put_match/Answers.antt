@@ -1,8 +1,7 @@
 -- `host::put_match` meets its contract: the eight messages, then the three numbers before them.
 use mathlib.Core.Path.{◌≡◌}
 use mathlib.Core.List.{map}
-use borrow.Author.Rules.{rules}
-use lib.ListN.{length, length-map}
+use lib.ListN.{length}
 use lib.IntN.{pos}
 use lib.ListN.{length-set}
 use lib.Seq.{paste}
@@ -20,9 +19,8 @@ pub returns : goal.returns
 returns c =
     let a = c.args in
     let m = a.m in
-    let g = c.well_formed.1.0.1.1 in
-    let all : length m.messages ≡ 8 = simp length-map at g.1.1.0.1.0.1 in
+    let all : length m.messages ≡ 8 = omega arith in
     let e : c.put_eight.new.out ≡ paste a.out.now 3 (map pos m.messages) 8 = c.put_eight.ensures in
     rw e
-    (match-put m all c.requires.len_bound.0 c.requires.len_bound.1 a.out.now c.requires.in_bounds (omega (arith, g.0.1))
-    (omega (arith, g.1.1.1.0.1)))
+    (match-put m all c.requires.len_bound.0 c.requires.len_bound.1 a.out.now c.requires.in_bounds (omega arith)
+    (omega arith))

@@ -1,6 +1,5 @@
 -- `host::put_message` meets its contract: eight stores are the eight numbers.
 use mathlib.Core.Path.{refl}
-use borrow.Author.Rules.{rules}
 use lib.ListN.{length-set}
 use native.Mathlib.Omega.{arith}
 use Rattle.host.proofs.ReadLaws.{message-put}

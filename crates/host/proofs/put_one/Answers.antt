@@ -1,5 +1,4 @@
 -- `host::put_one` meets its contract: one store.
-use borrow.Author.Rules.{rules}
 use lib.IntN.{pos}
 use native.Mathlib.Omega.{arith}
 use Rattle.host.proofs.ReadLaws.{number-back, one-put}

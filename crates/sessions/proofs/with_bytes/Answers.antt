@@ -1,10 +1,9 @@
 -- `sessions::with_bytes` meets its contract: the bytes put so far, and those left, are cut as all of them are.
 -- The measure is the number of bytes left.
-use mathlib.Core.Path.{◌≡◌, refl, sym, ap, ◌∙◌}
-use mathlib.Core.List.{◌++◌}
-use Prim.Native.Nat.{◌-◌, ◌<◌, ◌≤◌}
+use mathlib.Core.Path.{refl, sym, ap, ◌∙◌}
+use Prim.Native.Nat.{◌<◌, ◌≤◌}
 use native.Mathlib.Omega.{arith}
-use lib.ListN.{length, take, drop, length-map}
+use lib.ListN.{length, take}
 use Rattle.model.proofs.Walks.{carry-next, carry-full, carry-all}
 use borrow.Author.Rules.{rules}
 use Rattle.sessions.proofs.with_bytes.Goals as goal
