@@ -3,6 +3,7 @@ use scripts::script::Part;
 use scripts::world::World;
 use scripts::{say, script, world};
 use state::Said;
+use std::io::Stdout;
 
 // A number at its place in the list of a letter.
 fn set(w: World, kind: u8, at: usize, x: u16) -> World {
@@ -79,14 +80,14 @@ fn is_edit(kind: u8) -> bool {
 }
 
 // What was said: in words, or as the number of a refusal.
-fn say_said(kind: u8, said: Said) {
+fn say_said(stdout: Stdout, kind: u8, said: Said) {
     match kind {
-        b't' => say::refusal(said),
-        b'u' => say::refusal(said),
-        b'Z' => say::refusal(said),
-        b'o' => say::refusal(said),
-        b'O' => say::refusal(said),
-        _ => say::said(said),
+        b't' => say::refusal(stdout, said),
+        b'u' => say::refusal(stdout, said),
+        b'Z' => say::refusal(stdout, said),
+        b'o' => say::refusal(stdout, said),
+        b'O' => say::refusal(stdout, said),
+        _ => say::said(stdout, said),
     }
 }
 
@@ -101,35 +102,35 @@ fn left(w: World, p: Part, said: Said) -> World {
 }
 
 // A part's call: what was said, and whether all but what it closed is as it was.
-fn hear(table: &[u8], w: World, p: Part) -> World {
+fn hear(stdout: Stdout, table: &[u8], w: World, p: Part) -> World {
     let kind = p.kind;
-    let a = world::asked(table, w, p);
+    let a = world::asked(stdout, table, w, p);
     let said = a.said;
     let v = a.world;
     if script::is_call(kind) {
-        say_said(kind, said);
+        say_said(stdout, kind, said);
     }
     if script::is_call(kind) | script::is_replay(kind) {
-        say::kept(world::is_same(left(w, p, said), v));
+        say::kept(stdout, world::is_same(left(w, p, said), v));
     }
     v
 }
 
 // A step of sender i, an add of sender j after it, a close of day j, and the reads, as numbers; or the close and the
 // reads on the lists before these.
-fn calls(table: &[u8], w: World, i: u16, j: u16, each: bool) -> World {
-    let a = hear(table, w, script::ask(b't', i));
-    let b = hear(table, a, script::ask(b'u', j));
-    let c = hear(table, pick(each, w, b), script::ask(b'Z', j));
-    hear(table, pick(each, w, c), script::ask(b'v', j))
+fn calls(stdout: Stdout, table: &[u8], w: World, i: u16, j: u16, each: bool) -> World {
+    let a = hear(stdout, table, w, script::ask(b't', i));
+    let b = hear(stdout, table, a, script::ask(b'u', j));
+    let c = hear(stdout, table, pick(each, w, b), script::ask(b'Z', j));
+    hear(stdout, table, pick(each, w, c), script::ask(b'v', j))
 }
 
 // The steps of a sender while it rests, each with answer 917504: how many, which is 256 at most.
-fn rest(table: &[u8], w: World, i: u16) -> World {
+fn rest(stdout: Stdout, table: &[u8], w: World, i: u16) -> World {
     let mut v = w;
     let mut n: u16 = 0;
     while n < 300 {
-        let a = world::asked(table, v, script::ask(b's', i));
+        let a = world::asked(stdout, table, v, script::ask(b's', i));
         let said = a.said;
         if plays::answer_number(said) != 917504 {
             break;
@@ -137,41 +138,41 @@ fn rest(table: &[u8], w: World, i: u16) -> World {
         v = a.world;
         n += 1;
     }
-    say::word(b" rests", n);
+    say::word(stdout, b" rests", n);
     v
 }
 
-fn act(table: &[u8], w: World, p: Part) -> World {
+fn act(stdout: Stdout, table: &[u8], w: World, p: Part) -> World {
     let kind = p.kind;
     if is_edit(kind) {
         return edit(w, p);
     }
     let i = script::small(p, 0);
     match kind {
-        b'x' => calls(table, w, i, 31, false),
-        b'y' => calls(table, w, i, i, true),
-        b'R' => rest(table, w, i),
-        _ => hear(table, w, p),
+        b'x' => calls(stdout, table, w, i, 31, false),
+        b'y' => calls(stdout, table, w, i, i, true),
+        b'R' => rest(stdout, table, w, i),
+        _ => hear(stdout, table, w, p),
     }
 }
 
-fn say_label(label: &[u8]) {
+fn say_label(stdout: Stdout, label: &[u8]) {
     if 0 < label.len() {
-        say::text(label);
-        say::text(b":");
+        say::text(stdout, label);
+        say::text(stdout, b":");
     }
 }
 
-fn say_end(label: usize) {
+fn say_end(stdout: Stdout, label: usize) {
     if 0 < label {
-        say::text(b"\n");
+        say::text(stdout, b"\n");
     }
 }
 
 // A line of a script; nothing is printed of one without a label.
-fn line(table: &[u8], w: World, text: &[u8]) -> World {
+fn line(stdout: Stdout, table: &[u8], w: World, text: &[u8]) -> World {
     let bar = script::find(text, 0, b'|');
-    say_label(&text[0..bar]);
+    say_label(stdout, &text[0..bar]);
     let mut v = w;
     let mut k = bar;
     while k < text.len() {
@@ -180,10 +181,10 @@ fn line(table: &[u8], w: World, text: &[u8]) -> World {
             break;
         }
         let p = script::read(text, from);
-        v = act(table, v, p);
+        v = act(stdout, table, v, p);
         k = p.next;
     }
-    say_end(bar);
+    say_end(stdout, bar);
     v
 }
 
@@ -195,19 +196,19 @@ fn pick(yes: bool, a: World, b: World) -> World {
 }
 
 // The lines of a script, one after another, or each on the lists as they are.
-pub fn lines(table: &[u8], w: World, text: &[u8], after: bool) -> World {
+pub fn lines(stdout: Stdout, table: &[u8], w: World, text: &[u8], after: bool) -> World {
     let mut v = w;
     let mut start: usize = 0;
     while start < text.len() {
         let end = script::find(text, start, b'\n');
-        v = pick(after, line(table, v, &text[start..end]), v);
+        v = pick(after, line(stdout, table, v, &text[start..end]), v);
         start = end + 1;
     }
     v
 }
 
 // From an empty board: a script, and then lines, each on the board that the script leaves.
-pub fn section(table: &[u8], first: &[u8], text: &[u8]) {
-    let w = lines(table, world::opened(table, 0), first, true);
-    lines(table, w, text, false);
+pub fn section(stdout: Stdout, table: &[u8], first: &[u8], text: &[u8]) {
+    let w = lines(stdout, table, world::opened(stdout, table, 0), first, true);
+    lines(stdout, table, w, text, false);
 }

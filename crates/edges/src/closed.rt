@@ -1,10 +1,12 @@
 // Messages of days that were closed once they were added: they match as before, and a close in between changes nothing.
 use crate::acts;
 use crate::tables::{P, Q, TWO};
+use std::io::Stdout;
 
 // Which message a look takes, among closed days and others.
-fn looks() {
+fn looks(stdout: Stdout) {
     acts::section(
+        stdout,
         &TWO,
         b"",
         b"days 9 and 3, closed|a 0 0 7 1 9;a 1 0 7 1 3;a 2 1 7 1 5;z 9;s 2;s 2;s 2;s 2;s 2;s 2;k 0;m 1 0 7 1 3\n\
@@ -15,8 +17,9 @@ fn looks() {
 }
 
 // The run of table P: both messages closed at once, and a close after each call.
-fn run() {
+fn run(stdout: Stdout) {
     acts::section(
+        stdout,
         &P,
         b"",
         b"the run of P, closed|a 0 1 7 1 3;s 0;s 0;a 1 0 7 1 4;z 9;a 2 0 7 1 9;s 1;s 1;s 1;s 1;s 1;s 1;s 1\
@@ -27,27 +30,30 @@ fn run() {
 }
 
 // Signals that were set before a close: of a woken message, and of one that another sender's match consumed.
-fn signals() {
+fn signals(stdout: Stdout) {
     acts::section(
+        stdout,
         &P,
         b"desk 0 signalled|a 0 1 7 1 3;s 0;s 0;a 1 0 7 1 4;s 1;s 1;s 1;s 1;s 1;s 1;s 1\n",
         b"woken, closed|q;z 9;q;s 0;s 0\n\
         woken, closed, refused|z 9;z 8;a 1 0 7 1 9;q;s 0;s 0\n",
     );
     acts::section(
+        stdout,
         &Q,
         b"desk 0 told|a 0 1 7 1 3;s 0;s 0;s 0;s 0;a 1 0 7 1 4;a 2 2 7 1 5;s 2;s 2;s 2;s 2;s 2;s 2;s 2;s 2;s 2;s 2\n",
         b"told, closed|r 0;z 9;q;r 0;s 0;r 0\n",
     );
     acts::section(
+        stdout,
         &P,
         b"desk 0 blocks, closed|a 0 1 7 1 3;s 0;s 0;z 9\n",
         b"no signal|s 0;q\n",
     );
 }
 
-pub fn lines() {
-    looks();
-    run();
-    signals();
+pub fn lines(stdout: Stdout) {
+    looks(stdout);
+    run(stdout);
+    signals(stdout);
 }

@@ -1,10 +1,12 @@
 // Closed days: the adds and the closes that are refused for them, in their order.
 use crate::acts;
 use crate::tables::{ONE, P};
+use std::io::Stdout;
 
 // Adds on an empty board, none closed, and after a close.
-fn days() {
+fn days(stdout: Stdout) {
     acts::section(
+        stdout,
         &ONE,
         b"",
         b"none closed, day 0|a 0 0 7 1\n\
@@ -28,8 +30,9 @@ fn days() {
 }
 
 // Closes one after another, and adds of the last close day and the day after.
-fn again() {
+fn again(stdout: Stdout) {
     acts::section(
+        stdout,
         &ONE,
         b"",
         b"5, then 4|z 5;z 4;a 0 0 7 1 5;a 0 0 7 1 6\n\
@@ -49,8 +52,9 @@ fn again() {
 }
 
 // Refusals in their order, where sender 0 is blocked; then what a close does not refuse.
-fn order() {
+fn order(stdout: Stdout) {
     acts::section(
+        stdout,
         &P,
         b"desk 0 blocks, 5 closed|a 0 1 7 1;s 0;s 0;z 5\n",
         b"8 before 19|a 32 0 7 1 5\n\
@@ -76,12 +80,23 @@ fn order() {
 }
 
 // Every call on an empty board with day 33 closed, under tables that are refused: by the first number and the last.
-fn tables() {
+fn tables(stdout: Stdout) {
     let mut table = P;
     table[18] = 2;
-    acts::section(b"", b"", b"1 before 19 and 20|n 674 1;K 2048 33;y 32\n");
-    acts::section(&table, b"", b"7 before 19 and 20|n 674 1;K 2048 33;y 32\n");
     acts::section(
+        stdout,
+        b"",
+        b"",
+        b"1 before 19 and 20|n 674 1;K 2048 33;y 32\n",
+    );
+    acts::section(
+        stdout,
+        &table,
+        b"",
+        b"7 before 19 and 20|n 674 1;K 2048 33;y 32\n",
+    );
+    acts::section(
+        stdout,
         &P,
         b"",
         b"30 before 19 and 20|n 674 1;K 2048 33;L 4 1023;y 0\n\
@@ -90,8 +105,9 @@ fn tables() {
 }
 
 // A close day that is not read, as its flag is 0: it stays, also when a board is opened anew.
-fn unread() {
+fn unread(stdout: Stdout) {
     acts::section(
+        stdout,
         &ONE,
         b"",
         b"unread close day 4,294,967,295|K 2048 4294967295;a 0 0 7 1\n\
@@ -102,10 +118,10 @@ fn unread() {
     );
 }
 
-pub fn lines() {
-    days();
-    again();
-    order();
-    tables();
-    unread();
+pub fn lines(stdout: Stdout) {
+    days(stdout);
+    again(stdout);
+    order(stdout);
+    tables(stdout);
+    unread(stdout);
 }

@@ -2,10 +2,12 @@
 // (rule 4.2).
 use crate::acts;
 use crate::tables::{P, Q, TWO};
+use std::io::Stdout;
 
 // Senders 0 and 1 add to one channel, sender 2 to the other, and matches.
-fn two() {
+fn two(stdout: Stdout) {
     acts::section(
+        stdout,
         &TWO,
         b"",
         b"days 9 and 3|a 0 0 7 1 9;a 1 0 7 1 3;a 2 1 7 1 5;s 2;s 2;s 2;s 2;s 2;s 2;k 0;m 1 0 7 1 3\n\
@@ -24,14 +26,16 @@ fn two() {
 }
 
 // Older messages that are not taken: one of another property, and the subject, which has its member already.
-pub fn lines() {
-    two();
+pub fn lines(stdout: Stdout) {
+    two(stdout);
     acts::section(
+        stdout,
         &P,
         b"",
         b"older, of another property|a 0 0 7 1 9;a 1 0 8 1 3;a 2 1 7 1 5;s 2;s 2;s 2;s 2;s 2;s 2;k 0\n",
     );
     acts::section(
+        stdout,
         &Q,
         b"",
         b"the oldest in hand|a 0 0 7 1 9;a 1 0 7 1 3;a 2 0 7 1 1;s 2;s 2;s 2;s 2;s 2;s 2;s 2;s 2;k 0\n\

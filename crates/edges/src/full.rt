@@ -4,15 +4,16 @@ use crate::tables::ONE;
 use scripts::world::World;
 use scripts::{say, script, world};
 use state::Said;
+use std::io::Stdout;
 
 fn is_said(said: Said, answer: u32) -> bool {
     plays::answer_number(said) == answer
 }
 
-fn say_filled(n: u16) {
-    say::word(b"taken", n);
-    say::word(b", ended", n);
-    say::text(b"\n");
+fn say_filled(stdout: Stdout, n: u16) {
+    say::word(stdout, b"taken", n);
+    say::word(stdout, b", ended", n);
+    say::text(stdout, b"\n");
 }
 
 // Whose message n is: the senders' in turn; or 528 are the first sender's, and then each other has 16.
@@ -27,14 +28,14 @@ fn whose(alone: bool, n: u16) -> u16 {
 }
 
 // The messages from one number up to another, each ended by one step, whose answer is 851968.
-pub fn fill(table: &[u8], w: World, alone: bool, from: u16, to: u16) -> World {
+pub fn fill(stdout: Stdout, table: &[u8], w: World, alone: bool, from: u16, to: u16) -> World {
     let mut v = w;
     let mut n = from;
     while n < to {
         let i = whose(alone, n);
-        let added = world::asked(table, v, script::ask(b'a', i));
+        let added = world::asked(stdout, table, v, script::ask(b'a', i));
         let w1 = added.world;
-        let stepped = world::asked(table, w1, script::ask(b's', i));
+        let stepped = world::asked(stdout, table, w1, script::ask(b's', i));
         let first = added.said;
         let second = stepped.said;
         if !is_said(first, n as u32) | !is_said(second, 851968) {
@@ -43,13 +44,14 @@ pub fn fill(table: &[u8], w: World, alone: bool, from: u16, to: u16) -> World {
         v = stepped.world;
         n += 1;
     }
-    say_filled(n);
+    say_filled(stdout, n);
     v
 }
 
 // Adds to a full board where day 5 is closed, whose last sender is at work.
-fn closed(table: &[u8], full: World) {
+fn closed(stdout: Stdout, table: &[u8], full: World) {
     acts::lines(
+        stdout,
         table,
         full,
         b"full, closed, desk 32, tray and cents out of range|z 5;a 32 1 7 1000000000000 5\n\
@@ -68,8 +70,9 @@ fn closed(table: &[u8], full: World) {
 }
 
 // An add of each sender.
-pub fn everyone(table: &[u8], w: World) {
+pub fn everyone(stdout: Stdout, table: &[u8], w: World) {
     acts::lines(
+        stdout,
         table,
         w,
         b"every desk|a 0 0 7 1\
@@ -82,8 +85,9 @@ pub fn everyone(table: &[u8], w: World) {
 }
 
 // Calls of a full board, whose last sender is at work.
-fn open(table: &[u8], full: World) {
+fn open(stdout: Stdout, table: &[u8], full: World) {
     acts::lines(
+        stdout,
         table,
         full,
         b"full, desk 32, tray and cents out of range|a 32 1 7 1000000000000\n\
@@ -100,17 +104,25 @@ fn open(table: &[u8], full: World) {
 }
 
 // The last message, which is a common one and so may be anybody's; then calls of the full board.
-pub fn lines() {
+pub fn lines(stdout: Stdout) {
     let table = ONE;
-    let w = fill(&table, world::opened(&table, 0), false, 0, 1023);
+    let w = fill(
+        stdout,
+        &table,
+        world::opened(stdout, &table, 0),
+        false,
+        0,
+        1023,
+    );
     acts::lines(
+        stdout,
         &table,
         w,
         b"item 1,024, desk 0|a 0 0 7 1;s 0;a 0 0 7 1;a 31 0 7 1\n",
         false,
     );
-    let full = acts::lines(&table, w, b"item 1,024|a 31 0 7 1\n", true);
-    open(&table, full);
-    everyone(&table, full);
-    closed(&table, full);
+    let full = acts::lines(stdout, &table, w, b"item 1,024|a 31 0 7 1\n", true);
+    open(stdout, &table, full);
+    everyone(stdout, &table, full);
+    closed(stdout, &table, full);
 }

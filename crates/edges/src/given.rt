@@ -5,10 +5,12 @@ ghost use Rattle.std.specs.Prelude.{◌≤◌, ◌<◌};
 use crate::tables::P;
 use crate::{acts, sound};
 use scripts::{say, world};
+use std::io::Stdout;
 
 // Openings of lists that are no board, which are refused.
-fn refused() {
+fn refused(stdout: Stdout) {
     acts::lines(
+        stdout,
         &P,
         world::filled(170),
         b"no rests|O\n\
@@ -35,8 +37,9 @@ fn refused() {
 }
 
 // Openings that are taken, and then one after it, or with the table put there before it, which changes nothing.
-fn taken() {
+fn taken(stdout: Stdout) {
     acts::lines(
+        stdout,
         &P,
         world::filled(170),
         b"rests of 0, then none given|O 0 0 0 0 0 0 0 0 0 0 0 0 0 0 0 0;n 707 0 1 1 2 2 4 4 8 8 16 16 16 32 32 32 32\
@@ -57,8 +60,9 @@ fn taken() {
 }
 
 // On the sound board, and at other lengths of it.
-fn used() {
+fn used(stdout: Stdout) {
     sound::lines(
+        stdout,
         b"15 rests, a board in use|O 0 0 0 0 0 0 0 0 0 0 0 0 0 0 0;x 0\n\
         no rests, a board in use|O;x 0\n\
         a rest of 65 at last, a board in use|O 64 64 64 64 64 64 64 64 64 64 64 64 64 64 64 65;x 0\n\
@@ -79,16 +83,17 @@ fn used() {
 }
 
 // A table that is refused by a number comes first: the first bytes of table P, with one byte another.
-fn damaged(number: u16, len: usize, at: usize, b: u8)
+fn damaged(stdout: Stdout, number: u16, len: usize, at: usize, b: u8)
     requires { (len ≤ 20) × (at < 20) }
 {
     let mut table = P;
     table[at] = b;
-    say::word(b"a table refused", number);
-    say::text(b"\n");
+    say::word(stdout, b"a table refused", number);
+    say::text(stdout, b"\n");
     acts::lines(
+        stdout,
         &table[0..len],
-        world::opened(&P, 0),
+        world::opened(stdout, &P, 0),
         b"no rests|O\n\
         no rests, 722 numbers|L 0 722;O\n\
         a rest of 65 at last|O 0 0 0 0 0 0 0 0 0 0 0 0 0 0 0 65\n\
@@ -100,15 +105,15 @@ fn damaged(number: u16, len: usize, at: usize, b: u8)
     );
 }
 
-pub fn lines() {
-    refused();
-    taken();
-    used();
-    damaged(1, 11, 0, 2);
-    damaged(2, 20, 0, 17);
-    damaged(3, 19, 0, 2);
-    damaged(4, 20, 12, 2);
-    damaged(5, 20, 16, 9);
-    damaged(6, 20, 16, 1);
-    damaged(7, 20, 18, 2);
+pub fn lines(stdout: Stdout) {
+    refused(stdout);
+    taken(stdout);
+    used(stdout);
+    damaged(stdout, 1, 11, 0, 2);
+    damaged(stdout, 2, 20, 0, 17);
+    damaged(stdout, 3, 19, 0, 2);
+    damaged(stdout, 4, 20, 12, 2);
+    damaged(stdout, 5, 20, 16, 9);
+    damaged(stdout, 6, 20, 16, 1);
+    damaged(stdout, 7, 20, 18, 2);
 }

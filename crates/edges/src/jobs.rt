@@ -1,9 +1,11 @@
 // Senders at work at places that the steps do not have, each beside one at a place that they have.
 use crate::sound;
+use std::io::Stdout;
 
 // Subjects; then sender 0 in another phase at chord 0, where the subject wakes.
-pub fn lines() {
+pub fn lines(stdout: Stdout) {
     sound::lines(
+        stdout,
         b"at work without own item|d 0 2 0 1;x 0\n\
         waker in hand|d 0 2 6 1;x 0\n\
         another item in hand|d 0 2 6 5;x 0\n\
@@ -35,13 +37,14 @@ pub fn lines() {
         rest 0|d 0 8 9 0 0;x 0\n\
         rest 255|d 0 8 9 255 0;x 0\n",
     );
-    others();
+    others(stdout);
 }
 
 // Sender 0 at chord 1, which names no synchronous channel; sender 2, whose subject is of one; steps
 // that no schedule reaches.
-fn others() {
+fn others(stdout: Stdout) {
     sound::lines(
+        stdout,
         b"rule 1, claim|d 0 7 1 1 0 0 0 0 0 5;x 0\n\
         rule 1, consume|d 0 7 1 3 1 1 0 0 0 5;x 0\n\
         rule 1, consume 2|d 0 7 1 3 2 1 0 0 0 5;x 0\n\

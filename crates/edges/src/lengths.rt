@@ -4,60 +4,73 @@ ghost use Rattle.std.specs.Prelude.{◌≤◌, ◌<◌};
 use crate::acts;
 use crate::tables::{ONE, P};
 use scripts::world;
+use std::io::Stdout;
 
 // Lines, each on an empty board with other numbers past it.
-fn opened(table: &[u8], text: &[u8]) {
-    acts::lines(table, world::opened(&ONE, 170), text, false);
+fn opened(stdout: Stdout, table: &[u8], text: &[u8]) {
+    acts::lines(stdout, table, world::opened(stdout, &ONE, 170), text, false);
 }
 
 // Lines, each on lists that are no board.
-fn filled(table: &[u8], text: &[u8]) {
-    acts::lines(table, world::filled(170), text, false);
+fn filled(stdout: Stdout, table: &[u8], text: &[u8]) {
+    acts::lines(stdout, table, world::filled(170), text, false);
 }
 
 // The first bytes of table P, with one byte another.
-fn damaged(len: usize, at: usize, b: u8, text: &[u8])
+fn damaged(stdout: Stdout, len: usize, at: usize, b: u8, text: &[u8])
     requires { (len ≤ 20) × (at < 20) }
 {
     let mut table = P;
     table[at] = b;
-    filled(&table[0..len], text);
+    filled(stdout, &table[0..len], text);
 }
 
 // Tables refused by every call, also where a list is too short and the sender is past the last.
-fn tables() {
-    damaged(11, 0, 2, b"open, 11 bytes|L 0 673;o\n11 bytes|L 0 0;y 32\n");
+fn tables(stdout: Stdout) {
     damaged(
+        stdout,
+        11,
+        0,
+        2,
+        b"open, 11 bytes|L 0 673;o\n11 bytes|L 0 0;y 32\n",
+    );
+    damaged(
+        stdout,
         20,
         0,
         17,
         b"open, 17 trays|L 0 673;o\n17 trays|L 0 0;y 32\n",
     );
     damaged(
+        stdout,
         19,
         0,
         2,
         b"open, a byte less|L 0 673;o\na byte less|L 0 0;y 32\n",
     );
     damaged(
+        stdout,
         20,
         12,
         2,
         b"open, tray byte 2|L 0 673;o\ntray byte 2|L 0 0;y 32\n",
     );
     damaged(
+        stdout,
         20,
         16,
         9,
         b"open, a rule of 9|L 0 673;o\na rule of 9|L 0 0;y 32\n",
     );
     damaged(
+        stdout,
         20,
         16,
         1,
         b"open, a sum of 1|L 0 673;o\na sum of 1|L 0 0;y 32\n",
     );
     damaged(
+        stdout,
         20,
         18,
         2,
@@ -66,14 +79,16 @@ fn tables() {
 }
 
 // The same for the last byte of a rule, which is 2 at most.
-fn last_bytes() {
+fn last_bytes(stdout: Stdout) {
     damaged(
+        stdout,
         20,
         17,
         3,
         b"open, last byte 3|L 0 673;o\nlast byte 3|L 0 0;y 32\n",
     );
     damaged(
+        stdout,
         20,
         17,
         255,
@@ -83,8 +98,9 @@ fn last_bytes() {
 
 // Each list at no numbers, one less than a board has, as many, and one more; a board without its backoff table, and
 // without tallies, links without units, keys without days, and both lists without what is kept of a close.
-fn lists() {
+fn lists(stdout: Stdout) {
     opened(
+        stdout,
         &ONE,
         b"board|L 0 0;y 0\n\
         board|L 0 722;y 0\n\
@@ -115,18 +131,20 @@ fn lists() {
 }
 
 // The lists, then the tables, then openings.
-pub fn lines() {
-    lists();
-    tables();
-    last_bytes();
-    damaged(20, 0, 2, b"open, P|L 0 673;o\nP|L 0 0;y 32\n");
+pub fn lines(stdout: Stdout) {
+    lists(stdout);
+    tables(stdout);
+    last_bytes(stdout);
+    damaged(stdout, 20, 0, 2, b"open, P|L 0 673;o\nP|L 0 0;y 32\n");
     damaged(
+        stdout,
         20,
         17,
         2,
         b"open, last byte 2|L 0 673;o\nlast byte 2|L 0 0;y 32\nopened, last byte 2|o\n",
     );
     filled(
+        stdout,
         &P,
         b"open, 674 numbers|L 0 674;o\n\
         open, 675 numbers|L 0 675;o\n\
@@ -135,5 +153,5 @@ pub fn lines() {
         open, 723 numbers|o\n\
         open, 724 numbers|L 0 724;o\n",
     );
-    opened(&ONE, b"30 before 8|L 1 3071;y 32\n");
+    opened(stdout, &ONE, b"30 before 8|L 1 3071;y 32\n");
 }

@@ -2,11 +2,13 @@
 use crate::acts;
 use crate::tables::TWO;
 use scripts::say;
+use std::io::Stdout;
 
 // A first claim lost to a sender that holds it: again, and ended only when that one is done.
-fn first() {
-    say::text(b"first claim lost\n");
+fn first(stdout: Stdout) {
+    say::text(stdout, b"first claim lost\n");
     acts::section(
+        stdout,
         &TWO,
         b"desk 0|a 0 0 7 1;s 0;s 0;s 0\n\
         desk 1|a 1 1 7 1\n\
@@ -22,9 +24,10 @@ fn first() {
 }
 
 // A second claim lost: the first is put back.
-fn second() {
-    say::text(b"second claim lost\n");
+fn second(stdout: Stdout) {
+    say::text(stdout, b"second claim lost\n");
     acts::section(
+        stdout,
         &TWO,
         b"desk 0|a 0 1 7 1;s 0;s 0\n\
         desk 1|a 1 0 7 1\n\
@@ -42,9 +45,10 @@ fn second() {
 }
 
 // A claim lost, and the subject consumed before the pass ends (rules 4.5 and 4.9).
-fn third() {
-    say::text(b"hand consumed by then\n");
+fn third(stdout: Stdout) {
+    say::text(stdout, b"hand consumed by then\n");
     acts::section(
+        stdout,
         &TWO,
         b"desk 0|a 0 0 7 1;s 0;s 0;s 0\n\
         desk 1|a 1 1 7 1\n\
@@ -60,8 +64,8 @@ fn third() {
     );
 }
 
-pub fn lines() {
-    first();
-    second();
-    third();
+pub fn lines(stdout: Stdout) {
+    first(stdout);
+    second(stdout);
+    third(stdout);
 }

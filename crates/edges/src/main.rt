@@ -22,22 +22,23 @@ mod tallies;
 mod units;
 mod unsound;
 
-fn main() {
-    full::lines();
-    lost::lines();
-    lengths::lines();
-    order::lines();
-    once::lines();
-    unsound::lines();
-    jobs::lines();
-    numbers::lines();
-    replays::lines();
-    days::lines();
-    units::lines();
-    closing::lines();
-    closed::lines();
-    spent::lines();
-    tallies::lines();
-    given::lines();
-    rests::lines();
+fn main(rt: HostRuntime) {
+    let stdout = rt.stdout();
+    full::lines(stdout);
+    lost::lines(stdout);
+    lengths::lines(stdout);
+    order::lines(stdout);
+    once::lines(stdout);
+    unsound::lines(stdout);
+    jobs::lines(stdout);
+    numbers::lines(stdout);
+    replays::lines(stdout);
+    days::lines(stdout);
+    units::lines(stdout);
+    closing::lines(stdout);
+    closed::lines(stdout);
+    spent::lines(stdout);
+    tallies::lines(stdout);
+    given::lines(stdout);
+    rests::lines(stdout);
 }

@@ -1,9 +1,11 @@
 // Numbers that are no board's: a low byte that a board could have does not help.
 use crate::sound;
+use std::io::Stdout;
 
 // Numbers out of their ranges; places and second numbers that a phase does not have.
-pub fn lines() {
+pub fn lines(stdout: Stdout) {
     sound::lines(
+        stdout,
         b"state 3|d 0 0 3;x 0\n\
         state 257|d 0 0 257;x 0\n\
         flag of the signal 1|d 0 1 1;x 0\n\
@@ -36,13 +38,14 @@ pub fn lines() {
         pass end with a second number|d 0 8 8 0 1;x 0\n\
         rest with a second number|d 0 8 9 0 1;x 0\n",
     );
-    idle();
-    closed();
+    idle(stdout);
+    closed(stdout);
 }
 
 // A job that is not read: sender 3 is idle; then numbers that no job has, though it is not read.
-fn idle() {
+fn idle(stdout: Stdout) {
     sound::lines(
+        stdout,
         b"idle, flag of the signal 1|d 3 1 1;x 0\n\
         idle, item 65,535 in hand|d 3 6 65535;x 0\n\
         idle, rule 255|d 3 7 255;x 0\n\
@@ -67,8 +70,9 @@ fn idle() {
 }
 
 // Whether a day is closed, and which: a flag that no board has, and a day that is read only with the flag.
-fn closed() {
+fn closed(stdout: Stdout) {
     sound::lines(
+        stdout,
         b"none closed|n 674 0;x 0\n\
         day 0 closed|n 674 1;x 0\n\
         flag of the close day 2|n 674 2;x 0\n\

@@ -1,10 +1,12 @@
 // Refusals in their order.
 use crate::acts;
 use crate::tables::P;
+use std::io::Stdout;
 
 // Where sender 0 is blocked; then on an empty board.
-pub fn lines() {
+pub fn lines(stdout: Stdout) {
     acts::section(
+        stdout,
         &P,
         b"desk 0 blocks|a 0 1 7 1;s 0;s 0\n",
         b"step of desk 32|s 32\n\
@@ -20,12 +22,13 @@ pub fn lines() {
         slip|r 0\n\
         quiet|q\n",
     );
-    empty();
+    empty(stdout);
 }
 
 // The last are adds, with a read of the message.
-fn empty() {
+fn empty(stdout: Stdout) {
     acts::section(
+        stdout,
         &P,
         b"",
         b"add, desk 31|a 31 0 7 1\n\

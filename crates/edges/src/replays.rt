@@ -2,9 +2,11 @@
 // that wants equal units, closes, and the last messages of senders.
 use crate::acts;
 use crate::tables::{ONE, P, UNITS};
+use std::io::Stdout;
 
-pub fn lines() {
+pub fn lines(stdout: Stdout) {
     acts::section(
+        stdout,
         &P,
         b"",
         b"two rows, room for two|w 8 4 2 2\n\
@@ -35,18 +37,20 @@ pub fn lines() {
         the run of P|w 80 40 20 20;k 0;q;r 0;m 0 1 7 0 0 3;m 1 0 7 5000 0 65535\n",
     );
     acts::section(
+        stdout,
         &UNITS,
         b"",
         b"the run, units wanted|w 80 40 20 20;k 0;q;r 0\n",
     );
-    acts::section(b"", b"", b"1 before 30|w 7 4 2 0\n");
-    closes();
-    shares();
+    acts::section(stdout, b"", b"", b"1 before 30|w 7 4 2 0\n");
+    closes(stdout);
+    shares(stdout);
 }
 
 // The last messages that a sender may add, in rows.
-fn shares() {
+fn shares(stdout: Stdout) {
     acts::section(
+        stdout,
         &ONE,
         b"",
         b"items 527 and 528 in rows|n 0 526;n 675 526;p 1 0 0 1 0,0 0 0 0 0,1 0 0 1 0,0 0 0 0 0,1 0 0 1 0,1 1 0 1 0\
@@ -62,8 +66,9 @@ fn shares() {
 }
 
 // Rows of kind 2, which are closes, among others.
-fn closes() {
+fn closes(stdout: Stdout) {
     acts::section(
+        stdout,
         &P,
         b"",
         b"a close in a row|p 2 0 0 0 5;a 0 0 7 1 5;a 0 0 7 1 6\n\

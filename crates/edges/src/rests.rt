@@ -1,10 +1,12 @@
 // The backoff table that stands on a board from number 707 on, and the rests that senders spend by it.
 use crate::tables::{P, TWO};
 use crate::{acts, sound};
+use std::io::Stdout;
 
 // Tables that no sound board has, each beside one that passes; the low byte of a number does not help.
-fn standing() {
+fn standing(stdout: Stdout) {
     sound::lines(
+        stdout,
         b"the built-in rests|x 0\n\
         rest 1 as rest 2|n 707 1;x 0\n\
         rest 1 over rest 2|n 707 2;x 0\n\
@@ -39,8 +41,9 @@ fn standing() {
 }
 
 // Rests after sender 0 is at it again for a number of times, and then its next step.
-fn agains() {
+fn agains(stdout: Stdout) {
     sound::lines(
+        stdout,
         b"built-in, again 1|d 0 8 8 0 0 1 0;s 0;R 0;s 0\n\
         built-in, again 2|d 0 8 8 0 0 1 1;s 0;R 0;s 0\n\
         built-in, again 9|d 0 8 8 0 0 1 8;s 0;R 0;s 0\n\
@@ -69,8 +72,9 @@ fn agains() {
 }
 
 // Rests that are left, which are not of the table; then replays.
-fn left() {
+fn left(stdout: Stdout) {
     sound::lines(
+        stdout,
         b"rest 255 of rests of 0|n 707 0 0 0 0 0 0 0 0 0 0 0 0 0 0 0 0;d 0 8 9 255 0;x 0\n\
         rest 255 of rests of 0, spent|n 707 0 0 0 0 0 0 0 0 0 0 0 0 0 0 0 0;d 0 8 9 255 0;R 0;s 0\n\
         rest 255 of rests of 64|n 707 64 64 64 64 64 64 64 64 64 64 64 64 64 64 64 64;d 0 8 9 255 0;x 0\n\
@@ -81,6 +85,7 @@ fn left() {
         ;n 707 0 0 0 0 0 0 0 0 0 0 0 0 0 0 0 0;R 0;s 0\n",
     );
     acts::section(
+        stdout,
         &P,
         b"",
         b"falling, in rows|n 707 2;w 8 4 2 2;p 2 0 0 0 5\n\
@@ -92,8 +97,9 @@ fn left() {
 }
 
 // Sender 1 holds message 0, and sender 2 tries again and again.
-fn tries(first: &[u8]) {
+fn tries(stdout: Stdout, first: &[u8]) {
     acts::section(
+        stdout,
         &TWO,
         first,
         b"agains|s 2;s 2;R 2;s 2;s 2;R 2;s 2;s 2;R 2;s 2;s 2;R 2;s 2;s 2;R 2;s 2;s 2;R 2;s 2;s 2;R 2;s 2;s 2;R 2;s 2\
@@ -103,17 +109,23 @@ fn tries(first: &[u8]) {
 }
 
 // By tables that were given, and where none was; then with other calls between, and with the message gone.
-fn schedules() {
+fn schedules(stdout: Stdout) {
     tries(
+        stdout,
         b"desk 1 holds item 0, rests from 1 to 16|O 1 2 3 4 5 6 7 8 9 10 11 12 13 14 15 16;a 0 0 7 1;a 1 1 7 1\
         ;a 2 1 7 1;s 1;s 1;s 1\n",
     );
     tries(
+        stdout,
         b"desk 1 holds item 0, a rest of 64 at last|O 0 0 0 0 0 0 0 0 0 0 0 0 0 0 0 64;a 0 0 7 1;a 1 1 7 1;a 2 1 7 1\
         ;s 1;s 1;s 1\n",
     );
-    tries(b"desk 1 holds item 0, none given|a 0 0 7 1;a 1 1 7 1;a 2 1 7 1;s 1;s 1;s 1\n");
+    tries(
+        stdout,
+        b"desk 1 holds item 0, none given|a 0 0 7 1;a 1 1 7 1;a 2 1 7 1;s 1;s 1;s 1\n",
+    );
     acts::section(
+        stdout,
         &TWO,
         b"desk 1 holds item 0, rests of 2|O 2 2 2 2 2 2 2 2 2 2 2 2 2 2 2 2;a 0 0 7 1;a 1 1 7 1;a 2 1 7 1;s 1;s 1\
         ;s 1\n",
@@ -123,9 +135,9 @@ fn schedules() {
     );
 }
 
-pub fn lines() {
-    standing();
-    agains();
-    left();
-    schedules();
+pub fn lines(stdout: Stdout) {
+    standing(stdout);
+    agains(stdout);
+    left(stdout);
+    schedules(stdout);
 }

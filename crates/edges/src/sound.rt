@@ -6,10 +6,12 @@
 //     Phases: 0 look, 1 claim, 2 revert, 3 consume, 4 tell, 5 wake, 6 free, 7 signal, 8 pass end, 9 rest.
 use crate::acts;
 use crate::tables::Q;
+use std::io::Stdout;
 
 // Lines, each on the sound board.
-pub fn lines(text: &[u8]) {
+pub fn lines(stdout: Stdout, text: &[u8]) {
     acts::section(
+        stdout,
         &Q,
         b"|n 0 6 1\
         ;d 0 0 1 0 1 0 0 0 0 0 0 1 0 0 0 0 3\

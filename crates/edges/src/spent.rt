@@ -3,11 +3,13 @@ use crate::tables::{ONE, P, TWO};
 use crate::{acts, full};
 use scripts::world;
 use scripts::world::World;
+use std::io::Stdout;
 
 // Adds of sender 0, which is at work on the last message that it may add: each of the grounds before 26 with it; then
 // 26 alone.
-fn order(table: &[u8], last: World) {
+fn order(stdout: Stdout, table: &[u8], last: World) {
     acts::lines(
+        stdout,
         table,
         last,
         b"spent, desk 32|a 32 0 7 1\n\
@@ -27,9 +29,10 @@ fn order(table: &[u8], last: World) {
 }
 
 // Of each other sender its 16, which are 1,024 with those of sender 0.
-fn others(table: &[u8], spent: World) {
-    let w = full::fill(table, spent, true, 528, 543);
+fn others(stdout: Stdout, table: &[u8], spent: World) {
+    let w = full::fill(stdout, table, spent, true, 528, 543);
     acts::lines(
+        stdout,
         table,
         w,
         b"desk 1, its last|a 1 0 7 1;a 1 0 7 1;s 1;a 1 0 7 1;a 0 0 7 1;a 2 0 7 1\n\
@@ -37,22 +40,30 @@ fn others(table: &[u8], spent: World) {
         ;a 1 0 7 1 6;s 1;a 1 0 7 1 6\n",
         false,
     );
-    let v = full::fill(table, w, true, 543, 1023);
-    let all = acts::lines(table, v, b"item 1,024, desk 31|a 31 0 7 1;s 31\n", true);
-    full::everyone(table, all);
+    let v = full::fill(stdout, table, w, true, 543, 1023);
+    let all = acts::lines(
+        stdout,
+        table,
+        v,
+        b"item 1,024, desk 31|a 31 0 7 1;s 31\n",
+        true,
+    );
+    full::everyone(stdout, table, all);
 }
 
 // The last message of sender 0 is matched, by itself or by another, which gives nothing back; whose tally an add moves,
 // since with that tally as it was the board is not sound; and every call where sender 0 has added all that it may: on a
 // list too short, as it is, and under no table.
-fn sections() {
+fn sections(stdout: Stdout) {
     acts::section(
+        stdout,
         &TWO,
         b"",
         b"item 528, matched|n 0 527;n 675 527;a 0 1 7 1;s 0;s 0;s 0;s 0;s 0;s 0;a 0 0 7 1;q\n\
         item 528 and another's, matched|n 0 528;n 675 528;a 1 1 7 1;s 1;s 1;s 1;s 1;s 1;s 1;a 0 0 7 1;a 1 0 7 1\n",
     );
     acts::section(
+        stdout,
         &P,
         b"",
         b"item 528, waiting|n 0 527;n 675 527;a 0 1 7 1;s 0;s 0;a 0 0 7 1;a 1 0 7 1;s 1;s 1;s 1;s 1;s 1;s 1;s 1\
@@ -63,17 +74,24 @@ fn sections() {
         30 before 26|n 0 528;n 675 528;L 4 1023;y 0\n\
         26|n 0 528;n 675 528;y 0\n",
     );
-    acts::section(b"", b"", b"1 before 26|n 0 528;n 675 528;y 0\n");
+    acts::section(stdout, b"", b"", b"1 before 26|n 0 528;n 675 528;y 0\n");
 }
 
 // 528 messages of sender 0, the last of which it is at work on at first.
-pub fn lines() {
+pub fn lines(stdout: Stdout) {
     let table = ONE;
-    let w = full::fill(&table, world::opened(&table, 0), true, 0, 527);
-    let last = acts::lines(&table, w, b"item 528|a 0 0 7 1\n", true);
-    order(&table, last);
-    let spent = acts::lines(&table, last, b"item 528, step|s 0\n", true);
-    full::everyone(&table, spent);
-    others(&table, spent);
-    sections();
+    let w = full::fill(
+        stdout,
+        &table,
+        world::opened(stdout, &table, 0),
+        true,
+        0,
+        527,
+    );
+    let last = acts::lines(stdout, &table, w, b"item 528|a 0 0 7 1\n", true);
+    order(stdout, &table, last);
+    let spent = acts::lines(stdout, &table, last, b"item 528, step|s 0\n", true);
+    full::everyone(stdout, &table, spent);
+    others(stdout, &table, spent);
+    sections(stdout);
 }

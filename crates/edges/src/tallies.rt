@@ -1,11 +1,13 @@
 // How many messages each sender has added: tallies that no sound board has, each beside those of one that is sound. The
 // add is of sender 31.
 use crate::sound;
+use std::io::Stdout;
 
 // Sums, which are to be the messages, and are exact; the parts above 16, which are 512 at most; and the same messages
 // by other senders, which decide what is left to sender 31.
-pub fn lines() {
+pub fn lines(stdout: Stdout) {
     sound::lines(
+        stdout,
         b"an add too many|n 675 2;x 0\n\
         an add too few|n 675 0;x 0\n\
         an add too many, of desk 31|n 706 1;x 0\n\

@@ -1,10 +1,12 @@
 // Which messages fit: of the subject's property and unit, of its property alone, or any, as the chord wants (rule 4.2).
 use crate::acts;
 use crate::tables::{P, TWO, UNITS, WAKED};
+use std::io::Stdout;
 
 // Senders 0 and 1 add to one channel, sender 2 to the other, and matches.
-fn taken() {
+fn taken(stdout: Stdout) {
     acts::section(
+        stdout,
         &UNITS,
         b"",
         b"units 3 and 4, 4 in hand|a 0 0 7 1 0 3;a 1 0 7 1 0 4;a 2 1 7 1 0 4;s 2;s 2;s 2;s 2;s 2;s 2;k 0\n\
@@ -20,8 +22,9 @@ fn taken() {
 }
 
 // None that fits.
-fn missed() {
+fn missed(stdout: Stdout) {
     acts::section(
+        stdout,
         &UNITS,
         b"",
         b"unit 3, 4 in hand|a 0 0 7 1 0 3;s 0;s 0;s 0;a 2 1 7 1 0 4;s 2;s 2;q\n\
@@ -32,8 +35,9 @@ fn missed() {
 }
 
 // Sender 1 holds message 0, of property 7 and unit 4, when sender 2 looks.
-fn claimed() {
+fn claimed(stdout: Stdout) {
     acts::section(
+        stdout,
         &UNITS,
         b"desk 1 holds item 0|a 0 0 7 1 0 4;a 1 1 7 1 0 4;s 1;s 1;s 1\n",
         b"claimed, of the same unit|a 2 1 7 1 0 4;s 2;s 2\n\
@@ -43,8 +47,9 @@ fn claimed() {
 }
 
 // Chords that do not want the unit.
-fn unasked() {
+fn unasked(stdout: Stdout) {
     acts::section(
+        stdout,
         &P,
         b"",
         b"by property, another unit|a 0 0 7 1 0 3;a 2 1 7 1 0 4;s 2;s 2;s 2;s 2;s 2;s 2;k 0\n\
@@ -53,6 +58,7 @@ fn unasked() {
         by property, claimed, of another unit|a 0 0 7 1 0 4;a 1 1 7 1 0 4;s 1;s 1;s 1;a 2 1 7 1 0 3;s 2;s 2\n",
     );
     acts::section(
+        stdout,
         &TWO,
         b"",
         b"by neither|a 0 0 8 1 0 3;a 2 1 7 1 0 4;s 2;s 2;s 2;s 2;s 2;s 2;k 0\n\
@@ -62,8 +68,9 @@ fn unasked() {
 
 // Sender 0's own message is of unit 3. It is woken by message 1, of unit 4, and matches with another; then message 1 is
 // its subject.
-fn waker() {
+fn waker(stdout: Stdout) {
     acts::section(
+        stdout,
         &WAKED,
         b"",
         b"the waker in hand|a 0 1 7 1 0 3;s 0;s 0;a 1 0 7 1 9 4;s 1;s 1;s 1;s 1;s 1;s 1;s 1\
@@ -72,10 +79,10 @@ fn waker() {
     );
 }
 
-pub fn lines() {
-    taken();
-    missed();
-    claimed();
-    unasked();
-    waker();
+pub fn lines(stdout: Stdout) {
+    taken(stdout);
+    missed(stdout);
+    claimed(stdout);
+    unasked(stdout);
+    waker(stdout);
 }

@@ -1,9 +1,11 @@
 // Boards that are not sound, each beside one that is: counts, messages, matches, and senders that are not at work. With
 // more messages there are as many adds more.
 use crate::sound;
+use std::io::Stdout;
 
-pub fn lines() {
+pub fn lines(stdout: Stdout) {
     sound::lines(
+        stdout,
         b"the sound board|x 0\n\
         1,024 items|n 0 1024;T 32;x 0\n\
         1,025 items|n 0 1025;T 32;n 675 33;x 0\n\

@@ -9,7 +9,8 @@ use Rattle.model.specs.Tables.{Table}
 use Rattle.model.specs.Boards.{Board, empty_board, builtin_backoffs}
 use Rattle.model.specs.Lines.{line_of, cut_at, ended, lines_of}
 use Rattle.model.specs.Printing.{answer_line}
-use Rattle.model.specs.Sessions.{Session, line_answer, line_ends, fed, input_ends, session_of, answers_text, after_lines}
+use Rattle.model.specs.Sessions.{Session, line_answer, line_ends, fed, input_ends, session_of}
+use Rattle.model.specs.Sessions.{answers_text, after_lines}
 use Rattle.sessions.specs.Serves.{session}
 
 -- bytes before the first of the parts

@@ -35,8 +35,8 @@ line-served s h line out at h' after done p v l e =
     rw (e, printed-take v.prints (omega (arith, v.room)), v.leaves)
 
 -- the carry with bytes after it keeps what it kept, with these after it
-pub keeps-more : (p bs : List ℕ) (c r : DC.Carry) → Keeps p c → carry_of r ≡ take 81 (carry_of c ++ bs) → Keeps (p ++ bs)
-    r
+pub keeps-more : (p bs : List ℕ) (c r : DC.Carry) → Keeps p c → carry_of r ≡ take 81 (carry_of c ++ bs)
+    → Keeps (p ++ bs) r
 keeps-more p bs c r k e = take_again 81 p bs ∙ ap (λ q. take 81 (q ++ bs)) k ∙ sym e
 
 pub reads_as : (p : List ℕ) (c : DC.Carry) → Keeps p c → line_of p ≡ line_of (carry_of c)
@@ -156,5 +156,6 @@ end_line s h c out h' after done n l v =
         → Says (input_ends (table_of s) (session [] (board_of s (held_of h)) p) p) (board_of s (held_of h')) after done
     ends [] k = let z = ap (length {A = ℕ}) k in absurd (omega (arith, z, n))
     ends (x ∷ xs) k =
-        let e = line-served s h (carry_of c) out 0 h' after done (x ∷ xs) v (omega (arith, l)) (reads_as (x ∷ xs) c k) in
+        let same = reads_as (x ∷ xs) c k in
+        let e = line-served s h (carry_of c) out 0 h' after done (x ∷ xs) v (omega (arith, l)) same in
         record { text = sym (ap (λ (y : Session). y.text) e); board = sym (ap (λ (y : Session). y.board) e) }

@@ -5,26 +5,23 @@ use Rattle.printouts.proofs.StageLaws.{end_read}
 use Rattle.printouts.proofs.advance.Statement.{statement}
 use Rattle.printouts.proofs.advance.Tie as tie
 
-returns : tie.Need-returns
-returns c = c.before.before.report-more.ensures _
+returns : tie.Need-returns-then-stage
+returns c = c.report_more.ensures _
 
-abbrev at_end : tie.After-end-input → tie.Then2
+abbrev at_end : tie.After-end_input → tie.Then-input-eq0
 at_end c = c.before.before.before.before.before.before.before
 
-returns-2 : tie.Need-returns-2
+returns-2 : tie.Need-returns-then-input-eq0
 returns-2 c =
     let w = c.before.before.before.before.before.before.before.before.before.before.before in
-    end_read _ _ _ _ _ _ _ _ (at_end w).if2.true w.end-input.ensures
+    end_read _ _ _ _ _ _ _ _ (at_end w).if-input-eq0.true w.end_input.ensures
 
-take-chunk-requires : tie.Need-take-chunk-requires
+take-chunk-requires : tie.Need-take_chunk-requires
 take-chunk-requires c κs =
-    let e = c.before.before.before.before.before.before in
-    let f = e.before in
-    let s = f.before.before.before.before.before.before.before.before in
-    (s.requires.0, (f.if1.false, omega (arith, e.if2.false), s.requires.1.1.0))
+    (c.requires.0, (c.if-stage.false, omega (arith, c.if-input-eq0.false), c.requires.1.1.0))
 
-pub advance-spec : {M : Type 1} → statement M
-advance-spec =
+pub advance_spec : {M : Type 1} → statement M
+advance_spec =
     tie.close
     (tie.spec
     (λ c κs. search rules)

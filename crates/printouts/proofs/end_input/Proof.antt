@@ -5,29 +5,29 @@ use Rattle.printouts.proofs.StageLaws.{end-advances}
 use Rattle.printouts.proofs.end_input.Statement.{statement}
 use Rattle.printouts.proofs.end_input.Tie as tie
 
-abbrev start : tie.After-carry → tie.Start
+abbrev start : tie.After-carry-1 → tie.Start
 start c = c.before.before.before.before.before.before.before
 
-abbrev kept : tie.After-serve-end-arg6 → tie.After-carry
+abbrev kept : tie.After-serve_end-arg-6-1 → tie.After-carry-1
 kept c = c.before.before.before.before.before.before
 
-serve-end-requires : tie.Need-serve-end-requires
+serve-end-requires : tie.Need-serve_end-served-requires
 serve-end-requires c κs =
     let p = (start (kept c)).requires in
     (p.0.accepted, (p.0.passed, (p.0.kept, omega (arith, p.1.1))))
 
-same-length-6 : tie.Need-same-length-6
+same-length-6 : tie.Need-shape_of-out
 same-length-6 c = search rules
 
 returns : tie.Need-returns
 returns c =
     let w = c.before.before.before.before.before.before.before.before.before.before.before in
     let s = start (kept w.before) in
-    let r = w.serve-end.ensures in
-    end-advances _ _ _ s.pre.0 _ _ _ s.pre.1.0 _ r.1 (omega (arith, same-length-6 c, s.pre.1.1)) r.0
+    let r = w.serve_end-served.ensures in
+    end-advances _ _ _ s.requires.0 _ _ _ s.requires.1.0 _ r.1 (omega (arith, same-length-6 c, s.requires.1.1)) r.0
 
-pub end-input-spec : {M : Type 1} → statement M
-end-input-spec =
+pub end_input_spec : {M : Type 1} → statement M
+end_input_spec =
     tie.close
     (tie.spec
     serve-end-requires

@@ -18,4 +18,5 @@ returns-clause-serves_end c =
     let n = length-take-le k.len k.bytes held in
     let some : 0 < length (carry_of k) = omega (arith, n, c.if-carry-eq0.false) in
     let w = c.serve_kept.new in
-    end_line _ _ k _ (lists w.board w.bytes w.links w.keys w.cents) _ _ some c.requires.len_bound.1 c.serve_kept.ensures.serves
+    end_line _ _ k _ (lists w.board w.bytes w.links w.keys w.cents) _ _ some c.requires.len_bound.1
+    c.serve_kept.ensures.serves

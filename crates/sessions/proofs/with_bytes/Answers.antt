@@ -13,7 +13,12 @@ loop-i-init c = (search rules, search rules, omega arith, refl)
 
 pub returns-then-n-eq81 : goal.returns-then-n-eq81
 returns-then-n-eq81 c =
-    let i = c.loop-i in record { result_value = sym (i.invariant.3 ∙ carry-full _ i.bytes i.n i.i 81 (omega (arith, i.invariant.0, i.invariant.2)) c.if-n-eq81.true); len_bound = search rules }
+    let i = c.loop-i in
+    let room : i.n ≤ length i.bytes = omega (arith, i.invariant.0, i.invariant.2) in
+    record {
+      result_value = sym (i.invariant.3 ∙ carry-full _ i.bytes i.n i.i 81 room c.if-n-eq81.true);
+      len_bound = search rules;
+    }
 
 pub loop-i-preserved : goal.loop-i-preserved
 loop-i-preserved c =
@@ -31,4 +36,9 @@ pub returns : goal.returns
 returns c =
     let i = c.loop-i in
     let s = c.args.s.now in
-    let room : i.n ≤ length i.bytes = omega (arith, i.invariant.0, i.invariant.2) in record { result_value = sym (i.invariant.3 ∙ carry-all s i.bytes i.n i.i 81 room i.invariant.0 (omega (arith, c.loop-i-test.false))); len_bound = i.invariant.0 }
+    let room : i.n ≤ length i.bytes = omega (arith, i.invariant.0, i.invariant.2) in
+    let all : length s ≤ i.i = omega (arith, c.loop-i-test.false) in
+    record {
+      result_value = sym (i.invariant.3 ∙ carry-all s i.bytes i.n i.i 81 room i.invariant.0 all);
+      len_bound = i.invariant.0;
+    }
