@@ -3,18 +3,28 @@
 // standard error; without its input or its output it stops.
 #![tactic(auto)]
 
-ghost use Rattle.std.specs.Prelude.{◌≡◌, true, false, List, ℕ, ◌≤◌, length};
+ghost use Rattle.std.specs.Prelude.{◌≡◌, true, false, List, ℕ, ◌≤◌, length, IfSome};
 ghost use Rattle.model.specs.Boards.{builtin_backoffs};
 ghost use Rattle.boards.specs.Layout.{lists};
 ghost use Rattle.calls.specs.Opens.{open_number, opened_numbers};
 ghost use Rattle.schedules.specs.Schedules.{Opened};
 ghost use Rattle.printouts.specs.Stages.{Stands, done_on};
 ghost use Rattle.printouts.specs.Prints.{Advanced, ServesAll};
-ghost use Rattle.io.specs.Counts.{IsPrefixLen};
+ghost use Rattle.gevnyusto.specs.Counts.{IsPrefixLen};
 
-use libc::{STDIN_FILENO, STDOUT_FILENO};
 use printouts::Stage;
 use state::Said;
+use std::io::{Cursor, ErrorKind, Read, Stderr, Stdin, Stdout, Write};
+use std::rt::Files;
+use std::{fs, io, str};
+
+// The program's three streams.
+#[derive(Clone, Copy)]
+struct Streams {
+    input: Stdin,
+    output: Stdout,
+    errors: Stderr,
+}
 
 // The stage after a turn, and whether what it reads and writes could be.
 #[derive(Clone, Copy)]
@@ -23,68 +33,104 @@ struct Went {
     more: bool,
 }
 
-// Whether a read past the bytes of `rules.bin` fails.
-fn is_failed(fd: i32) -> bool {
-    let mut past = [0u8; 1];
-    if 0 <= libc::read(fd, &mut past) {
-        return false;
+// A line on standard error: what could not be read or written, and why, without the number of the error.
+fn fail(errors: Stderr, what: &str, error: io::Error) {
+    let mut text = Cursor::new([0u8; 256]);
+    let _ = write!(text, "{error}");
+    let bytes = text.into_inner();
+    let all = str::from_utf8(&bytes).unwrap_or("");
+    let (said, _) = all.split_once('\0').unwrap_or((all, ""));
+    let (why, _) = said.split_once(" (os error ").unwrap_or((said, ""));
+    let _ = eprintln!(errors; "{what}: {why}");
+}
+
+// Reads until the buffer is full, the file ends or a read fails; how many bytes it put.
+fn read_full<F: Read>(file: &mut F, buf: &mut [u8]) -> usize
+    ensures { IsPrefixLen result buf.new }
+{
+    let mut done = 0;
+    while done < buf.len() {
+        match file.read(&mut buf[done..]) {
+            Ok(0) => break,
+            Ok(n) => done += n,
+            Err(_) => break,
+        }
     }
-    os::fail(b"rules.bin");
-    true
+    done
+}
+
+// Whether a read past the bytes of `rules.bin` fails.
+fn is_failed<F: Read>(file: &mut F, errors: Stderr) -> bool {
+    let mut past = [0u8; 1];
+    match file.read(&mut past) {
+        Ok(_) => false,
+        Err(error) => {
+            fail(errors, "rules.bin", error);
+            true
+        }
+    }
 }
 
 // The bytes of `rules.bin`, at most 413 of them; none where it cannot be read.
-fn load(buf: &mut [u8; 413]) -> usize
+fn load<R: Files>(rt: &R, errors: Stderr, buf: &mut [u8; 413]) -> usize
     ensures { IsPrefixLen result buf.new }
 {
-    let fd = os::open_read(b"rules.bin");
-    if fd < 0 {
-        if os::errno() != libc::ENOENT {
-            os::fail(b"rules.bin");
+    let mut file = match fs::open(rt, "rules.bin") {
+        Ok(file) => file,
+        Err(error) => {
+            if error.kind() != ErrorKind::NotFound {
+                fail(errors, "rules.bin", error);
+            }
+            return 0;
         }
-        return 0;
-    }
-    let n = io::read_full(fd, buf);
-    let failed = is_failed(fd);
-    libc::close(fd);
-    if failed {
+    };
+    let n = read_full(&mut file, buf);
+    if is_failed(&mut file, errors) {
         return 0;
     }
     n
 }
 
 // The first n bytes of a buffer go to standard output; whether they could.
-fn say(out: &[u8], n: usize) -> bool
+fn say(streams: Streams, out: &[u8], n: usize) -> bool
     requires { n ≤ length out.now }
 {
-    if io::write_all(STDOUT_FILENO, &out[..n]) {
-        return true;
+    match Print::write_all(&streams.output, &out[..n]) {
+        Ok(()) => true,
+        Err(error) => {
+            fail(streams.errors, "standard output", error);
+            false
+        }
     }
-    os::fail(b"standard output");
-    false
 }
 
 // A table that is refused.
-fn refuse(number: u8) {
+fn refuse(streams: Streams, number: u8) {
     let mut out = [0u8; 16];
     let n = prints::put_answer(&mut out, 0, Said::Refused(number));
-    say(&out, n);
+    say(streams, &out, n);
 }
 
-// What a read of standard input puts, 0 once the input has ended; negative where it fails.
-fn read_some(stage: Stage, input: &mut [u8]) -> isize {
+// How many bytes a read of standard input puts, 0 once the input has ended; none where it fails.
+fn read_some(streams: Streams, stage: Stage, input: &mut [u8]) -> Option<usize>
+    ensures { IfSome result (λ n. IsPrefixLen n input.new) }
+{
     if printouts::is_ended(stage) {
-        return 0;
+        return Some(0);
     }
-    let got = libc::read(STDIN_FILENO, input);
-    if got < 0 {
-        os::fail(b"standard input");
+    let mut stdin = streams.input;
+    match stdin.read(input) {
+        Ok(n) => Some(n),
+        Err(error) => {
+            fail(streams.errors, "standard input", error);
+            None
+        }
     }
-    got
 }
 
 // One turn: what was read is handed over, and what is to be printed is written.
 fn turn(
+    streams: Streams,
     table: &[u8],
     board: &mut [u16],
     bytes: &mut [u8],
@@ -105,15 +151,13 @@ fn turn(
         result.stage }
 {
     let mut input = [0u8; 4096];
-    let got = read_some(stage, &mut input);
-    if got < 0 {
+    let Some(n) = read_some(streams, stage, &mut input) else {
         return Went {
             stage: stage,
             more: false,
         };
-    }
-    let n = io::count(got, &input);
-    let mut out = io::large_buffer();
+    };
+    let mut out = [0u8; 65536];
     let made = printouts::advance(
         table,
         board,
@@ -125,7 +169,7 @@ fn turn(
         &input[..n],
         &mut out,
     );
-    let said = say(&out, made.at);
+    let said = say(streams, &out, made.at);
     let next = made.stage;
     Went {
         stage: next,
@@ -135,6 +179,7 @@ fn turn(
 
 // Turns on an opened board; whether all is printed, and not one of them could not read or write.
 fn serve(
+    streams: Streams,
     table: &[u8],
     board: &mut [u16],
     bytes: &mut [u8],
@@ -153,7 +198,7 @@ fn serve(
         if printouts::is_done(board, stage) {
             return true;
         }
-        let went = turn(table, board, bytes, links, keys, cents, stage);
+        let went = turn(streams, table, board, bytes, links, keys, cents, stage);
         if !went.more {
             return false;
         }
@@ -164,7 +209,7 @@ fn serve(
 }
 
 // The board's other lists, beside an opened board.
-fn run(table: &[u8], board: &mut [u16])
+fn run(streams: Streams, table: &[u8], board: &mut [u16])
     requires { (before : List ℕ) × (open_number table.now builtin_backoffs before ≡ 0)
         × (board.old ≡ opened_numbers table.now builtin_backoffs before) }
 {
@@ -172,18 +217,25 @@ fn run(table: &[u8], board: &mut [u16])
     let mut links = [0u16; 11264];
     let mut keys = [0u32; 2049];
     let mut cents = [0i64; 1024];
-    serve(table, board, &mut bytes, &mut links, &mut keys, &mut cents);
+    serve(
+        streams, table, board, &mut bytes, &mut links, &mut keys, &mut cents,
+    );
 }
 
-fn main() {
+fn main(rt: HostRuntime) {
+    let streams = Streams {
+        input: rt.stdin(),
+        output: rt.stdout(),
+        errors: rt.stderr(),
+    };
     let mut file = [0u8; 413];
-    let n = load(&mut file);
+    let n = load(&rt, streams.errors, &mut file);
     let table = &file[..n];
     let mut board = [0u16; 723];
     let number = calls::open(table, &mut board);
     if number != 0 {
-        refuse(number);
+        refuse(streams, number);
         return;
     }
-    run(table, &mut board);
+    run(streams, table, &mut board);
 }
