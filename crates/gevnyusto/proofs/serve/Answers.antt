@@ -14,12 +14,6 @@ loop-turns-init c =
 pub is_done-requires : goal.is_done-requires
 is_done-requires c = countable _ _ c.loop-turns.invariant.0.accepted
 
-pub turn-went-requires : goal.turn-went-requires
-turn-went-requires c = record {
-  stands = c.loop-turns.invariant.0;
-  stage_value = sym c.is_done.ensures ∙ c.if-is_done.false;
-}
-
 pub loop-turns-preserved : goal.loop-turns-preserved
 loop-turns-preserved c = (
   c.turn-went.ensures.stands_2,
