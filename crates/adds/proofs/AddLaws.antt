@@ -1,11 +1,12 @@
 -- The message and its sender, written, are the model's board after an add.
-use mathlib.Core.Path.{◌≡◌, ap, sym, ◌∙◌}
+use mathlib.Core.Path.{◌≡◌}
 use mathlib.Core.List.{List, [], ◌∷◌, ◌++◌}
 use Prim.Native.Nat.{ℕ, ◌+◌}
 use native.Mathlib.Numerals.{add-one}
+use native.Mathlib.Omega.{arith}
 use lib.IntN.{ℤ}
 use lib.ListN.{get_or, set}
-use lib.Seq.{get_or-append_seam}
+use Rattle.std.proofs.lemmas.Grind.{common_steps}
 use Rattle.model.specs.Tables.{Table}
 use Rattle.model.specs.Boards.{Message, Sent, no_message}
 use Rattle.model.specs.Shares.{tally}
@@ -21,13 +22,10 @@ use Rattle.adds.proofs.MessageLaws.{Room, keyed, close-kept, message-added}
 
 -- the board with sender i and one message more, which it has added
 abbrev pub with_message : HeldBoard → ℕ → DD.Sender → HeldBoard
-with_message b i d = record {
+with_message b i d = record b {
   messages = b.messages + 1;
-  matches = b.matches;
   senders = set b.senders i d;
-  closed = b.closed;
   tallies = set b.tallies i (tally b.tallies i + 1);
-  backoffs = b.backoffs;
 }
 
 module _ (t : Table) (b : HeldBoard) (i : ℕ) (x : Sent) (d : DD.Sender) (c : Columns) (m : MatchColumns)
@@ -40,9 +38,7 @@ module _ (t : Table) (b : HeldBoard) (i : ℕ) (x : Sent) (d : DD.Sender) (c : C
 
   -- the new message is message n
   channel_is : (get_or is n no_message).sent.channel ≡ x.channel
-  channel_is =
-      ap (λ (k : ℕ). (get_or is k no_message).sent.channel) (sym (length-messages c 0 n))
-      ∙ ap (λ (y : Message). y.sent.channel) (get_or-append_seam (messages_from c 0 n) (new_message x) [] no_message)
+  channel_is = grind (arith, common_steps, length-messages)
 
   pub added_is : (ch ks : List ℕ) (ce : List ℤ) (st ma wa us : List ℕ)
       → ((ms : List Message) → (get_or ms n no_message).sent.channel ≡ x.channel → sender_in t d ≡ new_sender t ms n)

@@ -15,7 +15,7 @@ use state::{Sender, State};
 fn amount_ok(x: i64) -> bool
     ensures { result ≡ cents_ok x }
 {
-    (-999999999999 <= x) & (x <= 999999999999)
+    (-999_999_999_999..=999_999_999_999).contains(&x)
 }
 
 // The first refusal of an add of x by sender i, idle or not, timely or of a closed day, with room or not, in the order
@@ -30,7 +30,7 @@ pub fn add_refusal(table: &[u8], i: u16, idle: bool, timely: bool, x: Sent, room
     if !idle {
         return 9;
     }
-    if x.channel >= (table::channels_len(table) as u16) {
+    if x.channel >= u16::from(table::channels_len(table)) {
         return 10;
     }
     if !timely {
@@ -51,7 +51,6 @@ pub fn new_sender(table: &[u8], n: u16, channel: u8) -> Sender
     ensures { (is : List MB.Message) → (get_or is n MB.no_message).sent.channel ≡ channel
         → sender_in (table_of table.now) result ≡ new_sender (table_of table.now) is n }
 {
-    let job = state::new_pass(table, n, channel, 0);
     Sender {
         state: State::Working,
         signalled: false,
@@ -59,6 +58,6 @@ pub fn new_sender(table: &[u8], n: u16, channel: u8) -> Sender
         waker: 0,
         reply: 0,
         matched: 0,
-        job: job,
+        job: state::new_pass(table, n, channel, 0),
     }
 }

@@ -1,2 +1,2 @@
--- The test of a backoff table, and the functions' contracts.
+-- The test of a backoff table.
 pub mod PassLaws

@@ -1,50 +1,38 @@
--- The test of a backoff table from one entry on, and its entries.
-use mathlib.Core.Path.{◌≡◌, refl, ap}
-use mathlib.Core.Bool.{Bool, true, false, ◌&&◌}
-use mathlib.Core.List.{List, [], ◌∷◌}
-use Prim.Native.Nat.{ℕ, ◌+◌, ◌<◌, ◌≤◌}
-use borrow.Author.Tests.{eq-eqb, ne_eqb, le-leb}
-use lib.Dec.{leb}
-use lib.ListN.{length, get_or, drop, drop_of_length-le}
-use lib.Seq.{drop-cons}
-use native.Mathlib.Numerals.{add-one}
-use native.Mathlib.Omega.{arith}
+-- The test of a backoff table by the library's words, and what one that passes holds.
+use Rattle.std.proofs.Common.{◌≡◌, ℕ, ◌-◌, Bool, true, false, ◌&&◌, leb, List, [], ◌∷◌, length, refl, take, drop, fold}
+use Rattle.std.proofs.Common.{◌∙◌}
+use Rattle.std.specs.List.{zip}
 use Rattle.model.specs.Basics.{every}
-use Rattle.model.specs.Boards.{never_falls, backoffs_pass}
+use Rattle.model.specs.Boards.{backoffs_pass, never_falls}
+use Rattle.model.proofs.Backoffs.{few-rests}
+use Rattle.model.proofs.OwnRests.{own-rests}
+use Rattle.model.proofs.Parts.{to_end}
 
--- entries behind one: each at least the one before it, and at most 64
-abbrev pub rise_from : ℕ → List ℕ → Bool
-rise_from before [] = true
-rise_from before (k ∷ ks) = (leb before k && leb k 64) && rise_from k ks
+module _ {A : Type 0} (p : A → Bool) where
+  folded : (ok : Bool) (xs : List A) → fold (λ ok x. ok && p x) ok xs ≡ (ok && every p xs)
+  folded true [] = refl
+  folded false [] = refl
+  folded true (x ∷ xs) = folded (p x) xs
+  folded false (x ∷ xs) = folded false xs
 
-and-swap : (a b c d : Bool) → ((a && b) && (c && d)) ≡ ((b && c) && (a && d))
-and-swap true true c d = refl
-and-swap true false c d = refl
-and-swap false true true d = refl
-and-swap false true false d = refl
-and-swap false false c d = refl
+pub few-is : (xs : List ℕ) → fold (λ ok k. ok && leb k 64) true xs ≡ every (λ k. leb k 64) xs
+few-is xs = folded (λ k. leb k 64) true xs
 
-rise-is : (before : ℕ) (ks : List ℕ) → rise_from before ks ≡ (every (λ k. leb k 64) ks && never_falls (before ∷ ks))
-rise-is before [] = refl
-rise-is before (k ∷ ks) =
-    rw (rise-is k ks) (and-swap (leb before k) (leb k 64) (every (λ k. leb k 64) ks) (never_falls (k ∷ ks)))
+abbrev in_order : ℕ × ℕ → Bool
+in_order p = leb p.0 p.1
 
-from-0 : (ks : List ℕ) → never_falls (0 ∷ ks) ≡ never_falls ks
-from-0 [] = refl
-from-0 (k ∷ ks) = rw (le-leb 0 k (omega arith))
+pub falls-is : (xs : List ℕ)
+    → fold (λ ok p. ok && leb p.0 p.1) true (zip xs (take (length xs - 1) (drop 1 xs))) ≡ never_falls xs
+falls-is xs = rw (to_end xs 1) (folded in_order true (zip xs (drop 1 xs)) ∙ pairs xs)
+  where
+    pairs : (xs : List ℕ) → every in_order (zip xs (drop 1 xs)) ≡ never_falls xs
+    pairs [] = refl
+    pairs (x ∷ []) = refl
+    pairs (x ∷ y ∷ ys) = rw (pairs (y ∷ ys))
 
-module _ (ks : List ℕ) where
-  pub rise-next : (before i : ℕ) → i < length ks → rise_from before (drop i ks)
-      ≡ ((leb before (get_or ks i 0) && leb (get_or ks i 0) 64) && rise_from (get_or ks i 0) (drop (i + 1) ks))
-  rise-next before i h = rw (add-one i) (ap (rise_from before) (drop-cons ks i 0 h))
+pub ruleset tests = (few-is, falls-is)
 
-  pub rise-none : (before i : ℕ) → length ks ≤ i → rise_from before (drop i ks) ≡ true
-  rise-none before i h = ap (rise_from before) (drop_of_length-le ks {i = i} h)
+pub sixteen : (rests : List ℕ) → backoffs_pass rests ≡ true → length rests ≡ 16
+sixteen rests e = (own-rests.there rests e).sixteen
 
-  pub rise-passes : length ks ≡ 16 → rise_from 0 ks ≡ backoffs_pass ks
-  unfolding backoffs_pass
-  rise-passes l = rw (eq-eqb (length ks) 16 l, rise-is 0 ks, from-0 ks)
-
-  pub other_length : (length ks ≡ 16 → ⊥) → false ≡ backoffs_pass ks
-  unfolding backoffs_pass
-  other_length h = rw (ne_eqb (length ks) 16 h)
+pub ruleset passing = (few-rests, sixteen)

@@ -1,23 +1,15 @@
 -- Lists of their lengths, by the test and as facts.
-use mathlib.Core.Path.{◌≡◌}
-use mathlib.Core.Bool.{true}
-use borrow.Author.Tests.{eqb-true}
-use lib.Dec.{eqb}
-use lib.ListN.{length}
-use Rattle.model.proofs.Tests.{both}
-use Rattle.boards.specs.Layout.{Lists, lists_ok, Sized, bytes_len, links_len, keys_len}
+use Rattle.std.proofs.Common.{◌≡◌, true, rules, tests}
+use Rattle.boards.specs.Layout.{Lists, lists_ok, Sized}
 
 pub sized-by : (l : Lists) → lists_ok l ≡ true → Sized l
 unfolding lists_ok
 sized-by l e =
-    let e1 = both {t = eqb (length l.bytes) bytes_len} e in
-    let e2 = both {t = eqb (length l.links) links_len} e1.1 in
-    let e3 = both {t = eqb (length l.keys) keys_len} e2.1 in
     record {
-      bytes-len = eqb-true _ _ e1.0;
-      links-len = eqb-true _ _ e2.0;
-      keys-len = eqb-true _ _ e3.0;
-      cents-len = eqb-true _ _ e3.1;
+      bytes-len = search (rules, tests);
+      links-len = search (rules, tests);
+      keys-len = search (rules, tests);
+      cents-len = search (rules, tests);
     }
 
 pub sized-ok : (l : Lists) → Sized l → lists_ok l ≡ true

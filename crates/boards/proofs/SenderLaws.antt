@@ -1,8 +1,9 @@
 -- One sender of a board.
-use mathlib.Core.Path.{◌≡◌, refl, sym}
-use mathlib.Core.List.{List, [], ◌∷◌, map}
-use Prim.Native.Nat.{ℕ, zero, suc}
+use mathlib.Core.Path.{◌≡◌, sym}
+use mathlib.Core.List.{List, map}
+use Prim.Native.Nat.{ℕ}
 use lib.ListN.{get_or, set, get_or-map}
+use Rattle.std.proofs.lemmas.List.{map-set}
 use Rattle.model.specs.Tables.{Table}
 use Rattle.model.specs.Boards.{idle_sender}
 use Rattle.state.specs.declared.Sender as DD
@@ -15,6 +16,4 @@ nth-sender t ds i = sym (get_or-map (sender_in t) ds i zero_sender)
 
 pub set-sender : (t : Table) (ds : List DD.Sender) (i : ℕ) (d : DD.Sender)
     → map (sender_in t) (set ds i d) ≡ set (map (sender_in t) ds) i (sender_in t d)
-set-sender t [] i d = refl
-set-sender t (x ∷ xs) zero d = refl
-set-sender t (x ∷ xs) (suc i) d = cc (set-sender t xs i d)
+set-sender t ds i d = map-set (sender_in t) ds i d

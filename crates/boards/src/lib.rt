@@ -1,5 +1,5 @@
 // The board as the lists that a host lends: where its columns stand in them; and the calls.
-#![tactic(auto)]
+#![tactic(auto, unfolding(crate::specs::Parts::part))]
 
 ghost use Rattle.std.specs.Prelude.{◌≡◌, length};
 ghost use Rattle.boards.specs.Layout.{board_len, bytes_len, links_len, tallies_in, backoffs_in, channels_in};

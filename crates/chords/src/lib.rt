@@ -9,12 +9,12 @@ ghost use Rattle.model.specs.Layout.{table_refusal, table_of};
 ghost use Rattle.chords.specs.Naming.{next_naming};
 
 // Whether a channel is synchronous.
+#[tactic(auto, using(crate::proofs::Places::kinds), unfolding(model::specs::Tables::is_sync))]
 pub fn is_sync(table: &[u8], channel: u8) -> bool
     requires { (table_refusal table.now ≡ 0) × (channel < length (table_of table.now).kinds) }
     ensures { result ≡ is_sync (table_of table.now) channel }
 {
-    let k = channel as usize;
-    table[12 + k] == 1
+    table[12 + usize::from(channel)] == 1
 }
 
 // A chord's channel, by its place in the chord.
@@ -23,22 +23,7 @@ pub fn channel_at(table: &[u8], chord: u8, k: u8) -> u8
     requires k_bound { k < size (table_of table.now) chord }
     ensures { result ≡ channel_at (table_of table.now) chord k }
 {
-    let part = table::members(table, chord);
-    part[k as usize]
-}
-
-// Whether a byte is among the bytes.
-fn is_in(s: &[u8], x: u8) -> bool
-    ensures { result ≡ is_in x s.now }
-{
-    let mut i: usize = 0;
-    while i < s.len() {
-        if s[i] == x {
-            return true;
-        }
-        i += 1;
-    }
-    false
+    table::members(table, chord)[usize::from(k)]
 }
 
 // Whether a chord names a channel.
@@ -46,22 +31,20 @@ pub fn names(table: &[u8], chord: u8, channel: u8) -> bool
     requires { (table_refusal table.now ≡ 0) × (chord < length (table_of table.now).chords) }
     ensures { result ≡ is_in channel (chord_at (table_of table.now) chord).channels }
 {
-    let part = table::members(table, chord);
-    is_in(part, channel)
+    table::members(table, chord).contains(&channel)
 }
 
 // The next chord from a number on that names a channel; the number of chords for none.
+#[tactic(auto, using(crate::proofs::Naming::turns))]
 pub fn next_naming(table: &[u8], channel: u8, from: u8) -> u8
     requires { table_refusal table.now ≡ 0 }
     ensures { result ≡ next_naming (table_of table.now) channel from }
 {
     let n = table::chords_len(table);
-    let mut i = from;
-    while i < n {
+    for i in from..n {
         if names(table, i, channel) {
             return i;
         }
-        i += 1;
     }
     n
 }
@@ -72,16 +55,8 @@ pub fn first_of(table: &[u8], chord: u8, channel: u8) -> u8
     ensures { result ≡ first_by (eqb channel) (chord_at (table_of table.now) chord).channels }
 {
     let part = table::members(table, chord);
-    let n = part.len() as u8;
-    let mut i: u8 = 0;
-    while i < n {
-        let k = i as usize;
-        if channel == part[k] {
-            return i;
-        }
-        i += 1;
-    }
-    i
+    let place = part.iter().position(|x| channel == *x);
+    place.unwrap_or(part.len()) as u8
 }
 
 // The place of a chord's first synchronous channel; the size for none.
@@ -90,26 +65,16 @@ pub fn first_sync(table: &[u8], chord: u8) -> u8
     ensures { result ≡ first_sync (table_of table.now) chord }
 {
     let part = table::members(table, chord);
-    let n = part.len() as u8;
-    let mut i: u8 = 0;
-    while i < n {
-        let k = i as usize;
-        if is_sync(table, part[k]) {
-            return i;
-        }
-        i += 1;
-    }
-    i
+    let place = part.iter().position(|x| is_sync(table, *x));
+    place.unwrap_or(part.len()) as u8
 }
 
 // Whether the last claim of a chord wakes: the subject is of an asynchronous channel, and the chord names another kind.
+#[tactic(auto, unfolding(model::specs::Tables::wakes))]
 pub fn wakes(table: &[u8], chord: u8, channel: u8) -> bool
     requires table_value { (table_refusal table.now ≡ 0) × (chord < length (table_of table.now).chords) }
     requires channel_in_bounds { channel < length (table_of table.now).kinds }
     ensures { result ≡ wakes (table_of table.now) chord channel }
 {
-    let own = is_sync(table, channel);
-    let first = first_sync(table, chord);
-    let n = table::chord_len(table, chord);
-    !own & (first < n)
+    !is_sync(table, channel) && first_sync(table, chord) < table::chord_len(table, chord)
 }

@@ -24,12 +24,11 @@ fn loses(table: &[u8], d: Sender, k: u8, m: u16, channel: u8) -> Effect
         ≡ MS.loses (table_of table.now) b (sender_in (table_of table.now) d)
         (job_in (table_of table.now) d.job) k m }
 {
-    let j = d.job;
-    if k == 0 {
-        let pass = state::next_chord(table, j, channel, true);
-        return state::works(d, pass, Said::Lost(m), Change::None);
-    }
-    let next = state::with_retry(j, Phase::Revert(0, k));
+    let next = if k == 0 {
+        state::next_chord(table, d.job, channel, true)
+    } else {
+        state::with_retry(d.job, Phase::Revert(0, k))
+    };
     state::works(d, next, Said::Lost(m), Change::None)
 }
 
@@ -37,51 +36,13 @@ fn loses(table: &[u8], d: Sender, k: u8, m: u16, channel: u8) -> Effect
 fn claims_to(d: Sender, m: u16, phase: Phase) -> Effect
     ensures { result ≡ works_by d (job_in_phase d.job phase) (W.Claimed m) (G.Turn m U.Claims) }
 {
-    let j = d.job;
-    let next = state::in_phase(j, phase);
+    let next = state::in_phase(d.job, phase);
     state::works(d, next, Said::Claimed(m), Change::Turn(m, Turn::Claims))
-}
-
-// A claim of message m, by what was found: the message is pending, it is the last, the last claim wakes, the board has
-// no room for a match.
-fn claimed_by(
-    table: &[u8],
-    d: Sender,
-    k: u8,
-    m: u16,
-    channel: u8,
-    count: u16,
-    pending: bool,
-    last: bool,
-    wakes: bool,
-    full: bool,
-) -> Effect
-    requires table_value { (table_refusal table.now ≡ 0) × (d.job.chord < length (table_of table.now).chords) }
-    requires phase_value { (d.job.phase ≡ P.Claim k) × (k < 8) × (count ≤ 1024) }
-    ensures { (b : Board) → channel_of b d.job.subject ≡ channel → length b.matches ≡ count
-        → effect_in (table_of table.now) result
-        ≡ MS.claimed_by (table_of table.now) b (sender_in (table_of table.now) d)
-        (job_in (table_of table.now) d.job) k m pending last wakes full }
-{
-    if !pending {
-        return loses(table, d, k, m, channel);
-    }
-    if !last {
-        return claims_to(d, m, Phase::Claim(k + 1));
-    }
-    if wakes {
-        return claims_to(d, m, Phase::Wake);
-    }
-    if full {
-        return loses(table, d, k, m, channel);
-    }
-    let j = d.job;
-    let next = state::in_phase(j, Phase::Consume(0, count + 1));
-    state::works(d, next, Said::Matched(count), Change::Record(m))
 }
 
 // Claims the k-th chosen message, by what was read: the subject's channel, the number of matches, and whether the
 // message is pending.
+#[tactic(auto, using(state::proofs::Sizes::chord_few), unfolding(model::specs::Steps::claim_step))]
 pub fn claim_step(table: &[u8], d: Sender, k: u8, channel: u8, count: u16, pending: bool) -> Effect
     requires table_value { (table_refusal table.now ≡ 0) × (d.job.chord < length (table_of table.now).chords) }
     requires phase_value { (d.job.phase ≡ P.Claim k) × (k < size (table_of table.now) d.job.chord) }
@@ -93,19 +54,19 @@ pub fn claim_step(table: &[u8], d: Sender, k: u8, channel: u8, count: u16, pendi
         (job_in (table_of table.now) d.job) k }
 {
     let j = d.job;
-    let m = j.chosen[k as usize];
-    let size = table::chord_len(table, j.chord);
-    let wakes = chords::wakes(table, j.chord, channel);
-    claimed_by(
-        table,
-        d,
-        k,
-        m,
-        channel,
-        count,
-        pending,
-        k + 1 == size,
-        wakes,
-        1024 <= count,
-    )
+    let m = j.chosen[usize::from(k)];
+    if !pending {
+        return loses(table, d, k, m, channel);
+    }
+    if k + 1 < table::chord_len(table, j.chord) {
+        return claims_to(d, m, Phase::Claim(k + 1));
+    }
+    if chords::wakes(table, j.chord, channel) {
+        return claims_to(d, m, Phase::Wake);
+    }
+    if 1024 <= count {
+        return loses(table, d, k, m, channel);
+    }
+    let next = state::in_phase(j, Phase::Consume(0, count + 1));
+    state::works(d, next, Said::Matched(count), Change::Record(m))
 }

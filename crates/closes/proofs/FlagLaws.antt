@@ -22,9 +22,9 @@ flagged b f =
     set_at (b.messages ∷ b.matches ∷ senders_numbers b.senders) (flag b.closed) (b.tallies ++ b.backoffs) 1
     closed_at (omega (arith, senders-long b.senders f.each, f.all))
 
-pub flag-set : (s : List ℕ) → encodes s ≡ true
+pub flag_set : (s : List ℕ) → encodes s ≡ true
     → (encodes (set s closed_at 1) ≡ true) × (board_from (set s closed_at 1) ≡ closed_board (board_from s))
-flag-set s ok =
+flag_set s ok =
     let r = from_back s ok in
     let f : BoardFits (closed_board (board_from s)) =
     record { all = r.1.all; each = r.1.each; ends = r.1.ends } in

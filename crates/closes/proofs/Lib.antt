@@ -1,3 +1,2 @@
--- A close, by its day, and written to the numbers of a board.
-pub mod DayLaws
+-- A close, written to the numbers of a board.
 pub mod FlagLaws

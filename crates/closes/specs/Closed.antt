@@ -7,14 +7,7 @@ use Rattle.boards.specs.Layout.{close_day_at}
 
 -- a day is closed
 abbrev pub closed_board : HeldBoard → HeldBoard
-closed_board b = record {
-  messages = b.messages;
-  matches = b.matches;
-  senders = b.senders;
-  closed = true;
-  tallies = b.tallies;
-  backoffs = b.backoffs;
-}
+closed_board b = record b { closed = true }
 
 -- what is held once the days up to this one are closed
 abbrev pub closed_held : Held → ℕ → Held

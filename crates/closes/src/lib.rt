@@ -13,26 +13,18 @@ ghost use Rattle.closes.specs.Closed.{closed_board};
 pub fn day_open(closed: u16, last: u32, day: u32) -> bool
     ensures { result ≡ leb (closed_by (eqb closed 1) last) day }
 {
-    if closed != 1 {
-        return true;
-    }
-    last < day
+    closed != 1 || last < day
 }
 
 // The refusal of a close of the days up to one; 0 for none.
 pub fn close_refusal(closed: u16, last: u32, day: u32) -> u8
     ensures { result ≡ unless (leb (closed_by (eqb closed 1) last) (suc day)) 20 0 }
 {
-    if closed != 1 {
-        return 0;
-    }
-    if day < last {
-        return 20;
-    }
-    0
+    if closed == 1 && day < last { 20 } else { 0 }
 }
 
 // Closes the days up to one.
+#[tactic(auto, using(crate::proofs::FlagLaws::flag_set), unfolding(rows::specs::Numbers::encodes))]
 pub fn put_close(board: &mut [u16], keys: &mut [u32], day: u32)
     requires { (encodes board.old ≡ true) × (length keys.old ≡ keys_len) }
     ensures { (encodes board.new ≡ true)

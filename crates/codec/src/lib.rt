@@ -2,11 +2,11 @@
 // Bytes are read by the crate `table`, which refuses them first.
 #![tactic(auto)]
 
-ghost use Rattle.std.specs.Prelude.{◌≡◌, map, ◌+◌, ◌<◌, length, replicate};
+ghost use Rattle.std.specs.Prelude.{◌≡◌, map, ◌<◌, ◌≤◌, length, replicate};
 ghost use Rattle.std.proofs.lemmas.List.Edits.{sets};
 ghost use Rattle.model.specs.Tables.{chord_at};
 ghost use Rattle.model.specs.Layout.{table_refusal, table_of};
-ghost use Rattle.codec.specs.Views.{table_in, empty_table, empty_chord, chord_for, table_for, table_read};
+ghost use Rattle.codec.specs.Views.{table_in, empty_chord, chord_for, table_for, table_read};
 
 #[derive(Clone, Copy)]
 pub struct Chord {
@@ -15,6 +15,8 @@ pub struct Chord {
     pub equal: table::Equality,
 }
 
+// The lengths are fields of their own: the writer also answers for a value whose lengths are out of range, as 33 chords
+// or a chord of 9 channels.
 #[derive(Clone, Copy)]
 pub struct Table {
     pub kinds: [u8; 16],
@@ -29,36 +31,38 @@ pub struct Read {
     pub table: Table,
 }
 
-// What a refused read gives.
-fn empty_table() -> Table
-    ensures { result ≡ empty_table }
+// A chord with no channels, as the places past a table's chords hold it.
+pub const EMPTY_CHORD: Chord = Chord {
+    channels: [0; 8],
+    len: 0,
+    equal: table::Equality::Any,
+};
+
+// A table with no channels, which a refused read gives.
+pub const EMPTY_TABLE: Table = Table {
+    kinds: [0; 16],
+    kinds_len: 0,
+    chords: [EMPTY_CHORD; 32],
+    chords_len: 0,
+};
+
+// Bytes from the start of an array, with zeros past them.
+fn padded<const N: usize>(bytes: &[u8]) -> [u8; N]
+    requires { length bytes.now ≤ N }
+    ensures { result ≡ sets (replicate N 0) 0 bytes.now }
 {
-    let none = Chord {
-        channels: [0; 8],
-        len: 0,
-        equal: table::Equality::Any,
-    };
-    Table {
-        kinds: [0; 16],
-        kinds_len: 0,
-        chords: [none; 32],
-        chords_len: 0,
-    }
+    let mut all = [0; N];
+    all[..bytes.len()].copy_from_slice(bytes);
+    all
 }
 
-// The kinds of the channels, from the start of an array.
-fn kinds_read(table: &[u8]) -> [u8; 16]
+// The kinds of a table's channels, the part of the bytes that holds them.
+pub fn kinds(table: &[u8]) -> &[u8]
     requires { table_refusal table.now ≡ 0 }
-    ensures { result ≡ sets (replicate 16 0) 0 (table_of table.now).kinds }
+    ensures { result.now ≡ (table_of table.now).kinds }
 {
-    let t = table::channels_len(table) as usize;
-    let mut kinds = [0; 16];
-    let mut i: usize = 0;
-    while i < t {
-        kinds[i] = table[12 + i];
-        i += 1;
-    }
-    kinds
+    let end = 12 + usize::from(table::channels_len(table));
+    &table[12..end]
 }
 
 // A chord of the table as a value.
@@ -66,15 +70,8 @@ fn chord_read(table: &[u8], chord: u8) -> Chord
     requires { (table_refusal table.now ≡ 0) × (chord < length (table_of table.now).chords) }
     ensures { result ≡ chord_for (chord_at (table_of table.now) chord) }
 {
-    let part = table::members(table, chord);
-    let mut channels = [0; 8];
-    let mut k: usize = 0;
-    while k < part.len() {
-        channels[k] = part[k];
-        k += 1;
-    }
     Chord {
-        channels: channels,
+        channels: padded(table::members(table, chord)),
         len: table::chord_len(table, chord),
         equal: table::chord_equal(table, chord),
     }
@@ -85,19 +82,9 @@ fn chords_read(table: &[u8]) -> [Chord; 32]
     requires { table_refusal table.now ≡ 0 }
     ensures { result ≡ sets (replicate 32 empty_chord) 0 (map chord_for (table_of table.now).chords) }
 {
-    let r = table::chords_len(table);
-    let none = Chord {
-        channels: [0; 8],
-        len: 0,
-        equal: table::Equality::Any,
-    };
-    let mut chords = [none; 32];
-    let mut i: u8 = 0;
-    while i < r {
-        let c = chord_read(table, i);
-        let k = i as usize;
-        chords[k] = c;
-        i += 1;
+    let mut chords = [EMPTY_CHORD; 32];
+    for i in 0..table::chords_len(table) {
+        chords[usize::from(i)] = chord_read(table, i);
     }
     chords
 }
@@ -107,12 +94,10 @@ fn table_read(table: &[u8]) -> Table
     requires { table_refusal table.now ≡ 0 }
     ensures { result ≡ table_for (table_of table.now) }
 {
-    let kinds = kinds_read(table);
-    let chords = chords_read(table);
     Table {
-        kinds: kinds,
+        kinds: padded(kinds(table)),
         kinds_len: table::channels_len(table),
-        chords: chords,
+        chords: chords_read(table),
         chords_len: table::chords_len(table),
     }
 }
@@ -124,15 +109,13 @@ pub fn read_table(bytes: &[u8]) -> Read
 {
     let number = table::table_refusal(bytes);
     if number != 0 {
-        let none = empty_table();
         return Read {
-            number: number,
-            table: none,
+            number,
+            table: EMPTY_TABLE,
         };
     }
-    let table = table_read(bytes);
     Read {
-        number: 0,
-        table: table,
+        number,
+        table: table_read(bytes),
     }
 }

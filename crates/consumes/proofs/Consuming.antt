@@ -1,100 +1,106 @@
--- Laws of a message that is consumed for a match.
-use mathlib.Core.Path.{◌≡◌, refl}
-use mathlib.Core.Bool.{Bool, true, false, ◌||◌}
-use mathlib.Core.List.{List, [], ◌∷◌}
-use Prim.Native.Nat.{ℕ, zero, suc, ◌+◌, ◌<◌, ◌≤◌}
-use native.Mathlib.Numerals.{add-one}
-use native.Mathlib.Omega.{arith}
-use lib.Dec.{eqb}
-use lib.ListN.{length, get_or, set}
-use lib.Seq.{get_or-take, length-take-le, get_or-set_same, get_or-set_other}
-use borrow.Author.Tests.{eqb-true, eqb-false}
+-- What follows a message that is consumed: the next one, the telling, or the end of the job.
+use Rattle.std.proofs.Common.{◌≡◌, ℕ, suc, ◌+◌, ◌<◌, ◌≤◌, ◌||◌, List, [], ◌∷◌, eqb, length, get_or, take, refl, arith}
+use Rattle.std.specs.List.{filter}
+use Rattle.std.proofs.lemmas.Grind.{common_steps}
 use Rattle.model.specs.Basics.{pick}
 use Rattle.model.specs.Tables.{Table, size}
 use Rattle.model.specs.Boards.{Board, Message, no_message, Sender, Job, is_consumed, tell}
-use Rattle.model.specs.Effects.{Turn, turn, turned, consumes, messages_after}
-use Rattle.model.specs.Jobs as MJ
-use Rattle.model.specs.Steps.{with_matched, consumed_end, consumed_to, consume_step}
-use Rattle.state.specs.declared.Phase as DP
+use Rattle.model.specs.Effects.{Turn, turn, consumes, messages_after}
+use Rattle.model.specs.Jobs.{in_job, in_phase, job_end}
+use Rattle.model.specs.Steps.{to_tell, consumed_end, consumed_to, consume_step, tell_step}
+use Rattle.columns.specs.Columns.{Others, columns_by, board_by}
+use Rattle.columns.proofs.Messages.{nth-channel}
 use Rattle.state.specs.declared.Phase.TheVariants as P
 use Rattle.state.specs.declared.Said.TheVariants as W
 use Rattle.state.specs.declared.Turn.TheVariants as U
 use Rattle.state.specs.declared.Change.TheVariants as G
-use Rattle.state.specs.declared.Job as DJ
 use Rattle.state.specs.declared.Sender as DD
-use Rattle.state.specs.Views.{phase_in, chosen_by, job_in, sender_in, effect_in}
-use Rattle.state.specs.Builders as B
-use Rattle.consumes.specs.Holds.{with_match}
+use Rattle.state.specs.Builders.{sender_in_job, job_in_phase}
+use Rattle.state.specs.Views.{job_in, sender_in, effect_in}
+use Rattle.state.proofs.Sizes.{chord_few}
+use Rattle.consumes.specs.Holds.{Channels, ChoiceLent, is_told, with_match}
+use Rattle.consumes.proofs.Telling.{tells, all_lent, tells_is}
 
--- the sender at work in another phase that has as many chosen
-pub goes_on : (t : Table) (d : DD.Sender) (p : DP.Phase)
-    → chosen_by p (size t d.job.chord) ≡ chosen_by d.job.phase (size t d.job.chord)
-    → sender_in t (B.sender_in_job d (B.job_in_phase d.job p))
-    ≡ MJ.in_job (sender_in t d) (MJ.in_phase (job_in t d.job) (phase_in p))
-goes_on t d p e = rw e
-
--- whether the k-th of n chosen messages is the last
-pub last-by : (t : Table) (j : DJ.Job) (k n : ℕ) (b : Bool)
-    → chosen_by j.phase (size t j.chord) ≡ size t j.chord → n ≡ size t j.chord → size t j.chord ≤ 8
-    → length j.chosen ≡ 8 → eqb (k + 1) n ≡ b → eqb (suc k) (length (job_in t j).chosen) ≡ b
-last-by t j k n b all e few eight q = rw (all, ← e, length-take-le n j.chosen (omega arith), ← add-one k) q
-
--- the channels stay
-channel-set : (is : List Message) (x i : ℕ) (y : Message)
-    → y.sent.channel ≡ (get_or is x no_message).sent.channel
-    → (get_or (set is x y) i no_message).sent.channel ≡ (get_or is i no_message).sent.channel
-channel-set [] x i y e = refl
-channel-set (z ∷ zs) zero zero y e = e
-channel-set (z ∷ zs) zero (suc i) y e = refl
-channel-set (z ∷ zs) (suc x) zero y e = refl
-channel-set (z ∷ zs) (suc x) (suc i) y e = channel-set zs x i y e
-
+-- a message that turns keeps its channel
 pub channel-after : (is : List Message) (x i : ℕ) (u : Turn)
     → (get_or (messages_after (turn x u) is) i no_message).sent.channel ≡ (get_or is i no_message).sent.channel
 unfolding messages_after
-channel-after is x i u = channel-set is x i (turned u (get_or is x no_message)) refl
+channel-after is x i u = grind (arith, common_steps)
 
 -- the message is consumed, and another one as it was
-consumed-by : (is : List Message) (x i m : ℕ) → x < length is → (b : Bool) → eqb i x ≡ b
-    → is_consumed (get_or (set is x (turned (consumes m) (get_or is x no_message))) i no_message).status
-    ≡ (b || is_consumed (get_or is i no_message).status)
-consumed-by is x i m h true e =
-    rw (eqb-true i x e, get_or-set_same is x (turned (consumes m) (get_or is x no_message)) no_message h)
-consumed-by is x i m h false e =
-    rw (get_or-set_other is x i (turned (consumes m) (get_or is x no_message)) no_message (eqb-false i x e))
-
 pub consumed-after : (is : List Message) (x i m : ℕ) → x < length is
     → is_consumed (get_or (messages_after (turn x (consumes m)) is) i no_message).status
     ≡ (eqb i x || is_consumed (get_or is i no_message).status)
 unfolding messages_after
-consumed-after is x i m h = consumed-by is x i m h (eqb i x) refl
+consumed-after is x i m h = grind (arith, common_steps)
 
--- the end of the consuming, by how many are to be told
-module _ (t : Table) (is : List Message) (e : Sender) (w : Job) where
-  pub end-some : (xs : List ℕ) → (length xs ≡ 0 → ⊥)
-      → MJ.in_job e (MJ.in_phase w (tell 0)) ≡ consumed_end t is e w xs
-  end-some [] z = absurd (z refl)
-  end-some (x ∷ xs) z = refl
+some : (t : Table) (is : List Message) (e : Sender) (w : Job) (xs : List ℕ) → 0 < length xs
+    → in_job e (in_phase w (tell 0)) ≡ consumed_end t is e w xs
+some t is e w [] h = absurd (omega arith)
+some t is e w (x ∷ xs) h = refl
 
-  pub end_none : (xs : List ℕ) → length xs ≡ 0 → MJ.job_end t is e w.subject ≡ consumed_end t is e w xs
-  end_none [] z = refl
-  end_none (x ∷ xs) z = absurd (omega arith)
+module _ (t : Table) (is : List Message) (d : DD.Sender) (k m : ℕ) (p : d.job.phase ≡ P.Consume k m)
+    (few : size t d.job.chord ≤ 8) (eight : length d.job.chosen ≡ 8) where
+  pub consumes-next : k + 1 < size t d.job.chord
+      → sender_in t (sender_in_job d (job_in_phase d.job (P.Consume (k + 1) m)))
+      ≡ consumed_to t is (sender_in t d) (job_in t d.job) k m (eqb (suc k) (length (job_in t d.job).chosen))
+  consumes-next h = grind (arith, common_steps)
 
-noted-by : (t : Table) (d : DD.Sender) (m : ℕ) (b : Bool)
-    → sender_in t (with_match d (pick b m d.matched)) ≡ with_matched b (sender_in t d) m
-noted-by t d m true = refl
-noted-by t d m false = refl
+  module _ (last : k + 1 ≡ size t d.job.chord) (channels : List ℕ) (n : ℕ) (tr : Channels is channels n)
+      (lent : ChoiceLent t d.job.chosen channels (size t d.job.chord) n) where
+    pub tells-first : 0 < length (filter (is_told t channels d.job.subject) (take (size t d.job.chord) d.job.chosen))
+        → sender_in t (sender_in_job d (job_in_phase d.job (P.Tell 0)))
+        ≡ consumed_to t is (sender_in t d) (job_in t d.job) k m (eqb (suc k) (length (job_in t d.job).chosen))
+    tells-first h =
+        let e = tells_is t d.job.chosen channels (size t d.job.chord) n lent is tr d.job.subject in
+        grind (arith, common_steps, some)
+
+    pub tells-none : length (filter (is_told t channels d.job.subject) (take (size t d.job.chord) d.job.chosen)) ≡ 0
+        → job_end t is (sender_in t d) d.job.subject
+        ≡ consumed_to t is (sender_in t d) (job_in t d.job) k m (eqb (suc k) (length (job_in t d.job).chosen))
+    tells-none h =
+        let e = tells_is t d.job.chosen channels (size t d.job.chord) n lent is tr d.job.subject in
+        grind (arith, common_steps)
 
 -- the effect, by the sender that noted the match and the one that follows
-module _ (t : Table) (b : Board) (d : DD.Sender) (k m x : ℕ) where
-  pub consumes-is : (e end : DD.Sender) → d.job.phase ≡ P.Consume k m → k < size t d.job.chord
-      → get_or d.job.chosen k 0 ≡ x → e ≡ with_match d (pick (eqb (x + 1) d.own) m d.matched)
-      → sender_in t end ≡ consumed_to t (messages_after (turn x (consumes m)) b.messages) (sender_in t e)
-      (job_in t e.job) k m (eqb (suc k) (length (job_in t e.job).chosen))
-      → effect_in t (record { said = W.Consumed x; change = G.Turn x (U.Consumes m); sender = end })
-      ≡ consume_step t b (sender_in t d) (job_in t d.job) k m
-  unfolding consume_step
-  consumes-is e end p h ex ee q =
-      let xs : get_or (job_in t d.job).chosen k 0 ≡ x =
-      rw (p, ← ex) (get_or-take (size t d.job.chord) d.job.chosen k 0 h) in
-      rw (q, ee, xs, noted-by t d m (eqb (x + 1) d.own), add-one x)
+pub consumes-is : (t : Table) (b : Board) (d e end : DD.Sender) (k m x : ℕ) → d.job.phase ≡ P.Consume k m
+    → k < size t d.job.chord → get_or d.job.chosen k 0 ≡ x → e ≡ with_match d (pick (eqb (x + 1) d.own) m d.matched)
+    → sender_in t end ≡ consumed_to t (messages_after (turn x (consumes m)) b.messages) (sender_in t e)
+    (job_in t e.job) k m (eqb (suc k) (length (job_in t e.job).chosen))
+    → effect_in t (record { said = W.Consumed x; change = G.Turn x (U.Consumes m); sender = end })
+    ≡ consume_step t b (sender_in t d) (job_in t d.job) k m
+unfolding consume_step
+consumes-is t b d e end k m x p h ex ee q = grind (arith, common_steps)
+
+-- the effect of telling, where another message is left and where the job ends
+module _ (t : Table) (channels pr st : List ℕ) (n : ℕ) (o : Others) (d : DD.Sender) (k : ℕ) (p : d.job.phase ≡ P.Tell k)
+    (lent : ChoiceLent t d.job.chosen channels (size t d.job.chord) n) where
+  abbrev told : List ℕ
+  told = filter (is_told t channels d.job.subject) (take (size t d.job.chord) d.job.chosen)
+
+  told-is : to_tell t (board_by channels pr st n o).messages d.job.subject (take (size t d.job.chord) d.job.chosen)
+      ≡ told
+  told-is =
+      tells_is t d.job.chosen channels (size t d.job.chord) n lent (board_by channels pr st n o).messages
+      (record { channel = nth-channel (columns_by channels pr st o) n }) d.job.subject
+
+  pub tells-next : k + 1 < length told
+      → effect_in t (record {
+        said = W.Told (get_or told k 0);
+        change = G.Signal (get_or told k 0);
+        sender = sender_in_job d (job_in_phase d.job (P.Tell (k + 1)));
+      })
+      ≡ tell_step t (board_by channels pr st n o) (sender_in t d) (job_in t d.job) k
+  unfolding tell_step
+  tells-next h = let e = told-is in grind (arith, common_steps)
+
+  pub tells-last : (end : DD.Sender) → k + 1 ≡ length told
+      → sender_in t end ≡ job_end t (board_by channels pr st n o).messages (sender_in t d) d.job.subject
+      → effect_in t (record { said = W.Told (get_or told k 0); change = G.Signal (get_or told k 0); sender = end })
+      ≡ tell_step t (board_by channels pr st n o) (sender_in t d) (job_in t d.job) k
+  unfolding tell_step
+  tells-last end h q = let e = told-is in grind (arith, common_steps)
+
+pub ruleset consumings = (chord_few, all_lent, tells_is, consumes-next, tells-first, tells-none)
+
+pub ruleset tellings = (tells, tells-next, tells-last)

@@ -8,8 +8,8 @@ fn days(stdout: Stdout) {
     acts::section(
         stdout,
         &ONE,
-        b"",
-        b"none closed, day 0|a 0 0 7 1\n\
+        "",
+        "none closed, day 0|a 0 0 7 1\n\
         0 closed, day 0|z 0;a 0 0 7 1\n\
         0 closed, day 1|z 0;a 0 0 7 1 1\n\
         5 closed, day 0|z 5;a 0 0 7 1\n\
@@ -34,8 +34,8 @@ fn again(stdout: Stdout) {
     acts::section(
         stdout,
         &ONE,
-        b"",
-        b"5, then 4|z 5;z 4;a 0 0 7 1 5;a 0 0 7 1 6\n\
+        "",
+        "5, then 4|z 5;z 4;a 0 0 7 1 5;a 0 0 7 1 6\n\
         5, then 0|z 5;z 0;a 0 0 7 1 5;a 0 0 7 1 6\n\
         5, then 5|z 5;z 5;a 0 0 7 1 5;a 0 0 7 1 6\n\
         5, then 6|z 5;z 6;a 0 0 7 1 6;a 0 0 7 1 7\n\
@@ -56,8 +56,8 @@ fn order(stdout: Stdout) {
     acts::section(
         stdout,
         &P,
-        b"desk 0 blocks, 5 closed|a 0 1 7 1;s 0;s 0;z 5\n",
-        b"8 before 19|a 32 0 7 1 5\n\
+        "desk 0 blocks, 5 closed|a 0 1 7 1;s 0;s 0;z 5\n",
+        "8 before 19|a 32 0 7 1 5\n\
         9 before 19|a 0 0 7 1 5\n\
         10 before 19|a 1 2 7 1 5\n\
         8 before 9, 10, 19 and 11|a 32 2 7 1000000000000 5\n\
@@ -86,20 +86,20 @@ fn tables(stdout: Stdout) {
     acts::section(
         stdout,
         b"",
-        b"",
-        b"1 before 19 and 20|n 674 1;K 2048 33;y 32\n",
+        "",
+        "1 before 19 and 20|n 674 1;K 2048 33;y 32\n",
     );
     acts::section(
         stdout,
         &table,
-        b"",
-        b"7 before 19 and 20|n 674 1;K 2048 33;y 32\n",
+        "",
+        "7 before 19 and 20|n 674 1;K 2048 33;y 32\n",
     );
     acts::section(
         stdout,
         &P,
-        b"",
-        b"30 before 19 and 20|n 674 1;K 2048 33;L 4 1023;y 0\n\
+        "",
+        "30 before 19 and 20|n 674 1;K 2048 33;L 4 1023;y 0\n\
         19 and 20|n 674 1;K 2048 33;y 0\n",
     );
 }
@@ -109,8 +109,8 @@ fn unread(stdout: Stdout) {
     acts::section(
         stdout,
         &ONE,
-        b"",
-        b"unread close day 4,294,967,295|K 2048 4294967295;a 0 0 7 1\n\
+        "",
+        "unread close day 4,294,967,295|K 2048 4294967295;a 0 0 7 1\n\
         unread close day 4,294,967,295, 0 closed|K 2048 4294967295;z 0;a 0 0 7 1;a 0 0 7 1 1\n\
         unread close day 5, its flag set|K 2048 5;a 0 0 7 1;s 0;n 674 1;a 0 0 7 1 5;a 0 0 7 1 6\n\
         5 closed, opened anew|z 5;o;a 0 0 7 1\n\

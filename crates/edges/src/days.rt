@@ -9,8 +9,8 @@ fn two(stdout: Stdout) {
     acts::section(
         stdout,
         &TWO,
-        b"",
-        b"days 9 and 3|a 0 0 7 1 9;a 1 0 7 1 3;a 2 1 7 1 5;s 2;s 2;s 2;s 2;s 2;s 2;k 0;m 1 0 7 1 3\n\
+        "",
+        "days 9 and 3|a 0 0 7 1 9;a 1 0 7 1 3;a 2 1 7 1 5;s 2;s 2;s 2;s 2;s 2;s 2;k 0;m 1 0 7 1 3\n\
         days 3 and 9|a 0 0 7 1 3;a 1 0 7 1 9;a 2 1 7 1 5;s 2;s 2;s 2;s 2;s 2;s 2;k 0\n\
         days 5 and 5|a 0 0 7 1 5;a 1 0 7 1 5;a 2 1 7 1 5;s 2;s 2;s 2;s 2;s 2;s 2;k 0\n\
         days 4,294,967,295 and 0|a 0 0 7 1 4294967295;a 1 0 7 1;a 2 1 7 1;s 2;s 2;s 2;s 2;s 2;s 2;k 0\n\
@@ -31,14 +31,14 @@ pub fn lines(stdout: Stdout) {
     acts::section(
         stdout,
         &P,
-        b"",
-        b"older, of another property|a 0 0 7 1 9;a 1 0 8 1 3;a 2 1 7 1 5;s 2;s 2;s 2;s 2;s 2;s 2;k 0\n",
+        "",
+        "older, of another property|a 0 0 7 1 9;a 1 0 8 1 3;a 2 1 7 1 5;s 2;s 2;s 2;s 2;s 2;s 2;k 0\n",
     );
     acts::section(
         stdout,
         &Q,
-        b"",
-        b"the oldest in hand|a 0 0 7 1 9;a 1 0 7 1 3;a 2 0 7 1 1;s 2;s 2;s 2;s 2;s 2;s 2;s 2;s 2;k 0\n\
+        "",
+        "the oldest in hand|a 0 0 7 1 9;a 1 0 7 1 3;a 2 0 7 1 1;s 2;s 2;s 2;s 2;s 2;s 2;s 2;s 2;k 0\n\
         the newest in hand|a 0 0 7 1 6;a 1 0 7 1 3;a 2 0 7 1 9;s 2;s 2;s 2;s 2;s 2;s 2;s 2;s 2;k 0\n",
     );
 }

@@ -4,7 +4,7 @@ ghost use Rattle.std.specs.Prelude.{◌≤◌, ◌<◌};
 
 use crate::tables::P;
 use crate::{acts, sound};
-use scripts::{say, world};
+use scripts::world::World;
 use std::io::Stdout;
 
 // Openings of lists that are no board, which are refused.
@@ -12,8 +12,8 @@ fn refused(stdout: Stdout) {
     acts::lines(
         stdout,
         &P,
-        world::filled(170),
-        b"no rests|O\n\
+        &World::filled(170),
+        "no rests|O\n\
         a rest|O 0\n\
         15 rests|O 0 0 0 0 0 0 0 0 0 0 0 0 0 0 0\n\
         17 rests|O 0 0 0 0 0 0 0 0 0 0 0 0 0 0 0 0 0\n\
@@ -32,7 +32,6 @@ fn refused(stdout: Stdout) {
         falling at last|O 64 64 64 64 64 64 64 64 64 64 64 64 64 64 64 63\n\
         falling at last to 0|O 1 1 1 1 1 1 1 1 1 1 1 1 1 1 1 0\n\
         falling all along|O 16 15 14 13 12 11 10 9 8 7 6 5 4 3 2 1\n",
-        false,
     );
 }
 
@@ -41,8 +40,8 @@ fn taken(stdout: Stdout) {
     acts::lines(
         stdout,
         &P,
-        world::filled(170),
-        b"rests of 0, then none given|O 0 0 0 0 0 0 0 0 0 0 0 0 0 0 0 0;n 707 0 1 1 2 2 4 4 8 8 16 16 16 32 32 32 32\
+        &World::filled(170),
+        "rests of 0, then none given|O 0 0 0 0 0 0 0 0 0 0 0 0 0 0 0 0;n 707 0 1 1 2 2 4 4 8 8 16 16 16 32 32 32 32\
         ;o\n\
         the built-in rests, then none given|O 0 1 1 2 2 4 4 8 8 16 16 16 32 32 32 32;o\n\
         none given, then the built-in rests|o;O 0 1 1 2 2 4 4 8 8 16 16 16 32 32 32 32\n\
@@ -55,7 +54,6 @@ fn taken(stdout: Stdout) {
         ;O 1 2 3 4 5 6 7 8 9 10 11 12 13 14 15 16\n\
         none given, then rests of 63 and 64|o;n 707 63 63 63 63 63 63 63 63 64 64 64 64 64 64 64 64\
         ;O 63 63 63 63 63 63 63 63 64 64 64 64 64 64 64 64\n",
-        false,
     );
 }
 
@@ -63,7 +61,7 @@ fn taken(stdout: Stdout) {
 fn used(stdout: Stdout) {
     sound::lines(
         stdout,
-        b"15 rests, a board in use|O 0 0 0 0 0 0 0 0 0 0 0 0 0 0 0;x 0\n\
+        "15 rests, a board in use|O 0 0 0 0 0 0 0 0 0 0 0 0 0 0 0;x 0\n\
         no rests, a board in use|O;x 0\n\
         a rest of 65 at last, a board in use|O 64 64 64 64 64 64 64 64 64 64 64 64 64 64 64 65;x 0\n\
         no rests, 722 numbers|L 0 722;O\n\
@@ -88,20 +86,18 @@ fn damaged(stdout: Stdout, number: u16, len: usize, at: usize, b: u8)
 {
     let mut table = P;
     table[at] = b;
-    say::word(stdout, b"a table refused", number);
-    say::text(stdout, b"\n");
+    let _ = println!(stdout; "a table refused {number}");
     acts::lines(
         stdout,
         &table[0..len],
-        world::opened(stdout, &P, 0),
-        b"no rests|O\n\
+        &World::opened(stdout, &P, 0),
+        "no rests|O\n\
         no rests, 722 numbers|L 0 722;O\n\
         a rest of 65 at last|O 0 0 0 0 0 0 0 0 0 0 0 0 0 0 0 65\n\
         rests of 0|O 0 0 0 0 0 0 0 0 0 0 0 0 0 0 0 0\n\
         rests of 0, 724 numbers|L 0 724;O 0 0 0 0 0 0 0 0 0 0 0 0 0 0 0 0\n\
         falling|n 707 2;y 32\n\
         falling, in rows|n 707 2;w 8 4 2 2\n",
-        false,
     );
 }
 

@@ -6,7 +6,7 @@ use std::io::Stdout;
 pub fn lines(stdout: Stdout) {
     sound::lines(
         stdout,
-        b"at work without own item|d 0 2 0 1;x 0\n\
+        "at work without own item|d 0 2 0 1;x 0\n\
         waker in hand|d 0 2 6 1;x 0\n\
         another item in hand|d 0 2 6 5;x 0\n\
         own item of the blocked|d 0 2 3 1;x 0\n\
@@ -45,7 +45,7 @@ pub fn lines(stdout: Stdout) {
 fn others(stdout: Stdout) {
     sound::lines(
         stdout,
-        b"rule 1, claim|d 0 7 1 1 0 0 0 0 0 5;x 0\n\
+        "rule 1, claim|d 0 7 1 1 0 0 0 0 0 5;x 0\n\
         rule 1, consume|d 0 7 1 3 1 1 0 0 0 5;x 0\n\
         rule 1, consume 2|d 0 7 1 3 2 1 0 0 0 5;x 0\n\
         rule 1, wake|d 0 7 1 5 0 0 0 0 0 5;x 0\n\

@@ -3,21 +3,21 @@ ghost use Rattle.std.specs.Prelude.{◌≤◌, ◌<◌};
 
 use crate::acts;
 use crate::tables::{ONE, P};
-use scripts::world;
+use scripts::world::World;
 use std::io::Stdout;
 
 // Lines, each on an empty board with other numbers past it.
-fn opened(stdout: Stdout, table: &[u8], text: &[u8]) {
-    acts::lines(stdout, table, world::opened(stdout, &ONE, 170), text, false);
+fn opened(stdout: Stdout, table: &[u8], text: &str) {
+    acts::lines(stdout, table, &World::opened(stdout, &ONE, 170), text);
 }
 
 // Lines, each on lists that are no board.
-fn filled(stdout: Stdout, table: &[u8], text: &[u8]) {
-    acts::lines(stdout, table, world::filled(170), text, false);
+fn filled(stdout: Stdout, table: &[u8], text: &str) {
+    acts::lines(stdout, table, &World::filled(170), text);
 }
 
 // The first bytes of table P, with one byte another.
-fn damaged(stdout: Stdout, len: usize, at: usize, b: u8, text: &[u8])
+fn damaged(stdout: Stdout, len: usize, at: usize, b: u8, text: &str)
     requires { (len ≤ 20) × (at < 20) }
 {
     let mut table = P;
@@ -32,49 +32,49 @@ fn tables(stdout: Stdout) {
         11,
         0,
         2,
-        b"open, 11 bytes|L 0 673;o\n11 bytes|L 0 0;y 32\n",
+        "open, 11 bytes|L 0 673;o\n11 bytes|L 0 0;y 32\n",
     );
     damaged(
         stdout,
         20,
         0,
         17,
-        b"open, 17 trays|L 0 673;o\n17 trays|L 0 0;y 32\n",
+        "open, 17 trays|L 0 673;o\n17 trays|L 0 0;y 32\n",
     );
     damaged(
         stdout,
         19,
         0,
         2,
-        b"open, a byte less|L 0 673;o\na byte less|L 0 0;y 32\n",
+        "open, a byte less|L 0 673;o\na byte less|L 0 0;y 32\n",
     );
     damaged(
         stdout,
         20,
         12,
         2,
-        b"open, tray byte 2|L 0 673;o\ntray byte 2|L 0 0;y 32\n",
+        "open, tray byte 2|L 0 673;o\ntray byte 2|L 0 0;y 32\n",
     );
     damaged(
         stdout,
         20,
         16,
         9,
-        b"open, a rule of 9|L 0 673;o\na rule of 9|L 0 0;y 32\n",
+        "open, a rule of 9|L 0 673;o\na rule of 9|L 0 0;y 32\n",
     );
     damaged(
         stdout,
         20,
         16,
         1,
-        b"open, a sum of 1|L 0 673;o\na sum of 1|L 0 0;y 32\n",
+        "open, a sum of 1|L 0 673;o\na sum of 1|L 0 0;y 32\n",
     );
     damaged(
         stdout,
         20,
         18,
         2,
-        b"open, member 2|L 0 673;o\nmember 2|L 0 0;y 32\n",
+        "open, member 2|L 0 673;o\nmember 2|L 0 0;y 32\n",
     );
 }
 
@@ -85,14 +85,14 @@ fn last_bytes(stdout: Stdout) {
         20,
         17,
         3,
-        b"open, last byte 3|L 0 673;o\nlast byte 3|L 0 0;y 32\n",
+        "open, last byte 3|L 0 673;o\nlast byte 3|L 0 0;y 32\n",
     );
     damaged(
         stdout,
         20,
         17,
         255,
-        b"open, last byte 255|L 0 673;o\nlast byte 255|L 0 0;y 32\n",
+        "open, last byte 255|L 0 673;o\nlast byte 255|L 0 0;y 32\n",
     );
 }
 
@@ -102,7 +102,7 @@ fn lists(stdout: Stdout) {
     opened(
         stdout,
         &ONE,
-        b"board|L 0 0;y 0\n\
+        "board|L 0 0;y 0\n\
         board|L 0 722;y 0\n\
         board|L 0 723;y 0\n\
         board|L 0 724;y 0\n\
@@ -135,23 +135,23 @@ pub fn lines(stdout: Stdout) {
     lists(stdout);
     tables(stdout);
     last_bytes(stdout);
-    damaged(stdout, 20, 0, 2, b"open, P|L 0 673;o\nP|L 0 0;y 32\n");
+    damaged(stdout, 20, 0, 2, "open, P|L 0 673;o\nP|L 0 0;y 32\n");
     damaged(
         stdout,
         20,
         17,
         2,
-        b"open, last byte 2|L 0 673;o\nlast byte 2|L 0 0;y 32\nopened, last byte 2|o\n",
+        "open, last byte 2|L 0 673;o\nlast byte 2|L 0 0;y 32\nopened, last byte 2|o\n",
     );
     filled(
         stdout,
         &P,
-        b"open, 674 numbers|L 0 674;o\n\
+        "open, 674 numbers|L 0 674;o\n\
         open, 675 numbers|L 0 675;o\n\
         open, 707 numbers|L 0 707;o\n\
         open, 722 numbers|L 0 722;o\n\
         open, 723 numbers|o\n\
         open, 724 numbers|L 0 724;o\n",
     );
-    opened(stdout, &ONE, b"30 before 8|L 1 3071;y 32\n");
+    opened(stdout, &ONE, "30 before 8|L 1 3071;y 32\n");
 }

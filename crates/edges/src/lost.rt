@@ -6,11 +6,11 @@ use std::io::Stdout;
 
 // A first claim lost to a sender that holds it: again, and ended only when that one is done.
 fn first(stdout: Stdout) {
-    say::text(stdout, b"first claim lost\n");
+    say::text(stdout, "first claim lost\n");
     acts::section(
         stdout,
         &TWO,
-        b"desk 0|a 0 0 7 1;s 0;s 0;s 0\n\
+        "desk 0|a 0 0 7 1;s 0;s 0;s 0\n\
         desk 1|a 1 1 7 1\n\
         desk 2|a 2 1 7 1\n\
         desk 1|s 1;s 1\n\
@@ -19,17 +19,17 @@ fn first(stdout: Stdout) {
         desk 2|s 2;s 2;s 2;s 2;s 2\n\
         desk 1|s 1;s 1;s 1\n\
         desk 2|s 2;s 2;s 2;s 2\n",
-        b"",
+        "",
     );
 }
 
 // A second claim lost: the first is put back.
 fn second(stdout: Stdout) {
-    say::text(stdout, b"second claim lost\n");
+    say::text(stdout, "second claim lost\n");
     acts::section(
         stdout,
         &TWO,
-        b"desk 0|a 0 1 7 1;s 0;s 0\n\
+        "desk 0|a 0 1 7 1;s 0;s 0\n\
         desk 1|a 1 0 7 1\n\
         desk 2|a 2 0 7 1\n\
         desk 1|s 1;s 1\n\
@@ -40,17 +40,17 @@ fn second(stdout: Stdout) {
         desk 2|s 2;s 2;s 2;s 2;s 2\n\
         desk 1|s 1;s 1\n\
         desk 2|s 2;s 2;s 2;s 2;s 2\n",
-        b"",
+        "",
     );
 }
 
 // A claim lost, and the subject consumed before the pass ends (rules 4.5 and 4.9).
 fn third(stdout: Stdout) {
-    say::text(stdout, b"hand consumed by then\n");
+    say::text(stdout, "hand consumed by then\n");
     acts::section(
         stdout,
         &TWO,
-        b"desk 0|a 0 0 7 1;s 0;s 0;s 0\n\
+        "desk 0|a 0 0 7 1;s 0;s 0;s 0\n\
         desk 1|a 1 1 7 1\n\
         desk 2|a 2 1 7 1\n\
         desk 1|s 1;s 1\n\
@@ -60,7 +60,7 @@ fn third(stdout: Stdout) {
         desk 3|a 3 0 7 1;s 3;s 3;s 3;s 3;s 3;s 3\n\
         desk 2|s 2\n\
         desk 1|s 1;s 1\n",
-        b"",
+        "",
     );
 }
 

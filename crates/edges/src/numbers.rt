@@ -6,7 +6,7 @@ use std::io::Stdout;
 pub fn lines(stdout: Stdout) {
     sound::lines(
         stdout,
-        b"state 3|d 0 0 3;x 0\n\
+        "state 3|d 0 0 3;x 0\n\
         state 257|d 0 0 257;x 0\n\
         flag of the signal 1|d 0 1 1;x 0\n\
         flag of the signal 2|d 0 1 2;x 0\n\
@@ -46,7 +46,7 @@ pub fn lines(stdout: Stdout) {
 fn idle(stdout: Stdout) {
     sound::lines(
         stdout,
-        b"idle, flag of the signal 1|d 3 1 1;x 0\n\
+        "idle, flag of the signal 1|d 3 1 1;x 0\n\
         idle, item 65,535 in hand|d 3 6 65535;x 0\n\
         idle, rule 255|d 3 7 255;x 0\n\
         idle, look 255|d 3 8 0 255 0;x 0\n\
@@ -73,7 +73,7 @@ fn idle(stdout: Stdout) {
 fn closed(stdout: Stdout) {
     sound::lines(
         stdout,
-        b"none closed|n 674 0;x 0\n\
+        "none closed|n 674 0;x 0\n\
         day 0 closed|n 674 1;x 0\n\
         flag of the close day 2|n 674 2;x 0\n\
         flag of the close day 256|n 674 256;x 0\n\

@@ -8,8 +8,8 @@ pub fn lines(stdout: Stdout) {
     acts::section(
         stdout,
         &P,
-        b"desk 0 blocks|a 0 1 7 1;s 0;s 0\n",
-        b"step of desk 32|s 32\n\
+        "desk 0 blocks|a 0 1 7 1;s 0;s 0\n",
+        "step of desk 32|s 32\n\
         8 before 9|a 32 2 7 1000000000000\n\
         9 before 10|a 0 2 7 1000000000000\n\
         10 before 11|a 1 2 7 1000000000000\n\
@@ -30,8 +30,8 @@ fn empty(stdout: Stdout) {
     acts::section(
         stdout,
         &P,
-        b"",
-        b"add, desk 31|a 31 0 7 1\n\
+        "",
+        "add, desk 31|a 31 0 7 1\n\
         add, desk 32|a 32 0 7 1\n\
         add, desk 65,535|a 65535 0 7 1\n\
         step, desk 31|s 31\n\

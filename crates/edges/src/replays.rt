@@ -8,8 +8,8 @@ pub fn lines(stdout: Stdout) {
     acts::section(
         stdout,
         &P,
-        b"",
-        b"two rows, room for two|w 8 4 2 2\n\
+        "",
+        "two rows, room for two|w 8 4 2 2\n\
         three rows, room for three|w 12 6 3 3\n\
         two rows, room for three|w 8 4 2 3\n\
         no rows, no room|w 0 0 0 0\n\
@@ -39,10 +39,10 @@ pub fn lines(stdout: Stdout) {
     acts::section(
         stdout,
         &UNITS,
-        b"",
-        b"the run, units wanted|w 80 40 20 20;k 0;q;r 0\n",
+        "",
+        "the run, units wanted|w 80 40 20 20;k 0;q;r 0\n",
     );
-    acts::section(stdout, b"", b"", b"1 before 30|w 7 4 2 0\n");
+    acts::section(stdout, b"", "", "1 before 30|w 7 4 2 0\n");
     closes(stdout);
     shares(stdout);
 }
@@ -52,8 +52,8 @@ fn shares(stdout: Stdout) {
     acts::section(
         stdout,
         &ONE,
-        b"",
-        b"items 527 and 528 in rows|n 0 526;n 675 526;p 1 0 0 1 0,0 0 0 0 0,1 0 0 1 0,0 0 0 0 0,1 0 0 1 0,1 1 0 1 0\
+        "",
+        "items 527 and 528 in rows|n 0 526;n 675 526;p 1 0 0 1 0,0 0 0 0 0,1 0 0 1 0,0 0 0 0 0,1 0 0 1 0,1 1 0 1 0\
         ;a 0 0 7 1;s 1\n\
         rows that are all refused|n 0 528;n 675 528;p 1 0 0 1 0,1 0 0 1 0\n\
         the last of a share in rows|n 0 543;n 675 528 15;p 1 1 1 1 0,1 1 0 1000000000000 0,1 1 0 1 0,1 1 0 1 0\
@@ -70,8 +70,8 @@ fn closes(stdout: Stdout) {
     acts::section(
         stdout,
         &P,
-        b"",
-        b"a close in a row|p 2 0 0 0 5;a 0 0 7 1 5;a 0 0 7 1 6\n\
+        "",
+        "a close in a row|p 2 0 0 0 5;a 0 0 7 1 5;a 0 0 7 1 6\n\
         a close in a row, all else out of range|p 2 65535 65535 1000000000000 5;a 0 0 7 1 5;a 0 0 7 1 6\n\
         kinds 3, 256, 258 and 65,535|p 3 0 0 1 5,256 1 0 1 5,258 2 0 1 5,65535 3 0 1 5;z 0\n\
         closes and adds|p 1 0 0 1 0,2 0 0 0 5,2 0 0 0 4,2 0 0 0 5,1 1 0 1 5,1 1 0 1 6,2 0 0 0 6,1 2 0 1 6,1 2 0 1 7\

@@ -7,7 +7,7 @@ use std::io::Stdout;
 fn standing(stdout: Stdout) {
     sound::lines(
         stdout,
-        b"the built-in rests|x 0\n\
+        "the built-in rests|x 0\n\
         rest 1 as rest 2|n 707 1;x 0\n\
         rest 1 over rest 2|n 707 2;x 0\n\
         rest 1 of 64|n 707 64;x 0\n\
@@ -44,7 +44,7 @@ fn standing(stdout: Stdout) {
 fn agains(stdout: Stdout) {
     sound::lines(
         stdout,
-        b"built-in, again 1|d 0 8 8 0 0 1 0;s 0;R 0;s 0\n\
+        "built-in, again 1|d 0 8 8 0 0 1 0;s 0;R 0;s 0\n\
         built-in, again 2|d 0 8 8 0 0 1 1;s 0;R 0;s 0\n\
         built-in, again 9|d 0 8 8 0 0 1 8;s 0;R 0;s 0\n\
         built-in, again 10|d 0 8 8 0 0 1 9;s 0;R 0;s 0\n\
@@ -75,7 +75,7 @@ fn agains(stdout: Stdout) {
 fn left(stdout: Stdout) {
     sound::lines(
         stdout,
-        b"rest 255 of rests of 0|n 707 0 0 0 0 0 0 0 0 0 0 0 0 0 0 0 0;d 0 8 9 255 0;x 0\n\
+        "rest 255 of rests of 0|n 707 0 0 0 0 0 0 0 0 0 0 0 0 0 0 0 0;d 0 8 9 255 0;x 0\n\
         rest 255 of rests of 0, spent|n 707 0 0 0 0 0 0 0 0 0 0 0 0 0 0 0 0;d 0 8 9 255 0;R 0;s 0\n\
         rest 255 of rests of 64|n 707 64 64 64 64 64 64 64 64 64 64 64 64 64 64 64 64;d 0 8 9 255 0;x 0\n\
         rest 255 of rests that fall|n 722 31;d 0 8 9 255 0;x 0\n\
@@ -87,8 +87,8 @@ fn left(stdout: Stdout) {
     acts::section(
         stdout,
         &P,
-        b"",
-        b"falling, in rows|n 707 2;w 8 4 2 2;p 2 0 0 0 5\n\
+        "",
+        "falling, in rows|n 707 2;w 8 4 2 2;p 2 0 0 0 5\n\
         falling at last, in rows|n 722 31;w 8 4 2 2;p 2 0 0 0 5\n\
         a rest of 65, in rows|n 722 65;w 8 4 2 2;p 2 0 0 0 5\n\
         falling, 30 before 31|n 722 31;w 8 4 2 0\n\
@@ -97,12 +97,12 @@ fn left(stdout: Stdout) {
 }
 
 // Sender 1 holds message 0, and sender 2 tries again and again.
-fn tries(stdout: Stdout, first: &[u8]) {
+fn tries(stdout: Stdout, first: &str) {
     acts::section(
         stdout,
         &TWO,
         first,
-        b"agains|s 2;s 2;R 2;s 2;s 2;R 2;s 2;s 2;R 2;s 2;s 2;R 2;s 2;s 2;R 2;s 2;s 2;R 2;s 2;s 2;R 2;s 2;s 2;R 2;s 2\
+        "agains|s 2;s 2;R 2;s 2;s 2;R 2;s 2;s 2;R 2;s 2;s 2;R 2;s 2;s 2;R 2;s 2;s 2;R 2;s 2;s 2;R 2;s 2;s 2;R 2;s 2\
         ;s 2;R 2;s 2;s 2;R 2;s 2;s 2;R 2;s 2;s 2;R 2;s 2;s 2;R 2;s 2;s 2;R 2;s 2;s 2;R 2;s 2;s 2;R 2;s 2;s 2;R 2;s 2\
         ;s 2;R 2\n",
     );
@@ -112,24 +112,24 @@ fn tries(stdout: Stdout, first: &[u8]) {
 fn schedules(stdout: Stdout) {
     tries(
         stdout,
-        b"desk 1 holds item 0, rests from 1 to 16|O 1 2 3 4 5 6 7 8 9 10 11 12 13 14 15 16;a 0 0 7 1;a 1 1 7 1\
+        "desk 1 holds item 0, rests from 1 to 16|O 1 2 3 4 5 6 7 8 9 10 11 12 13 14 15 16;a 0 0 7 1;a 1 1 7 1\
         ;a 2 1 7 1;s 1;s 1;s 1\n",
     );
     tries(
         stdout,
-        b"desk 1 holds item 0, a rest of 64 at last|O 0 0 0 0 0 0 0 0 0 0 0 0 0 0 0 64;a 0 0 7 1;a 1 1 7 1;a 2 1 7 1\
+        "desk 1 holds item 0, a rest of 64 at last|O 0 0 0 0 0 0 0 0 0 0 0 0 0 0 0 64;a 0 0 7 1;a 1 1 7 1;a 2 1 7 1\
         ;s 1;s 1;s 1\n",
     );
     tries(
         stdout,
-        b"desk 1 holds item 0, none given|a 0 0 7 1;a 1 1 7 1;a 2 1 7 1;s 1;s 1;s 1\n",
+        "desk 1 holds item 0, none given|a 0 0 7 1;a 1 1 7 1;a 2 1 7 1;s 1;s 1;s 1\n",
     );
     acts::section(
         stdout,
         &TWO,
-        b"desk 1 holds item 0, rests of 2|O 2 2 2 2 2 2 2 2 2 2 2 2 2 2 2 2;a 0 0 7 1;a 1 1 7 1;a 2 1 7 1;s 1;s 1\
+        "desk 1 holds item 0, rests of 2|O 2 2 2 2 2 2 2 2 2 2 2 2 2 2 2 2;a 0 0 7 1;a 1 1 7 1;a 2 1 7 1;s 1;s 1\
         ;s 1\n",
-        b"calls between|s 2;s 2;z 5;a 3 1 7 1 6;O;R 2;s 2;s 2;s 3;q;R 2\n\
+        "calls between|s 2;s 2;z 5;a 3 1 7 1 6;O;R 2;s 2;s 2;s 3;q;R 2\n\
         rows|p 0 2 0 0 0,0 2 0 0 0,0 2 0 0 0,0 2 0 0 0,0 2 0 0 0,0 2 0 0 0,1 3 1 1 0,2 0 0 0 5;R 2;s 2;s 2;R 2\n\
         desk 1 done|s 2;s 2;R 2;s 2;s 2;s 1;s 1;s 1;R 2;s 2;s 2\n",
     );

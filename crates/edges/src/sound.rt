@@ -9,11 +9,11 @@ use crate::tables::Q;
 use std::io::Stdout;
 
 // Lines, each on the sound board.
-pub fn lines(stdout: Stdout, text: &[u8]) {
+pub fn lines(stdout: Stdout, text: &str) {
     acts::section(
         stdout,
         &Q,
-        b"|n 0 6 1\
+        "|n 0 6 1\
         ;d 0 0 1 0 1 0 0 0 0 0 0 1 0 0 0 0 3\
         ;d 1 0 2 0 3\
         ;d 2 0 1 0 4 5 0 0 3 2 3 0 1 0 0 3 4\

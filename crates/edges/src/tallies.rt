@@ -8,7 +8,7 @@ use std::io::Stdout;
 pub fn lines(stdout: Stdout) {
     sound::lines(
         stdout,
-        b"an add too many|n 675 2;x 0\n\
+        "an add too many|n 675 2;x 0\n\
         an add too few|n 675 0;x 0\n\
         an add too many, of desk 31|n 706 1;x 0\n\
         no adds|T 0;x 0\n\

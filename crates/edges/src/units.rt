@@ -8,8 +8,8 @@ fn taken(stdout: Stdout) {
     acts::section(
         stdout,
         &UNITS,
-        b"",
-        b"units 3 and 4, 4 in hand|a 0 0 7 1 0 3;a 1 0 7 1 0 4;a 2 1 7 1 0 4;s 2;s 2;s 2;s 2;s 2;s 2;k 0\n\
+        "",
+        "units 3 and 4, 4 in hand|a 0 0 7 1 0 3;a 1 0 7 1 0 4;a 2 1 7 1 0 4;s 2;s 2;s 2;s 2;s 2;s 2;k 0\n\
         units 4 and 3, 4 in hand|a 0 0 7 1 0 4;a 1 0 7 1 0 3;a 2 1 7 1 0 4;s 2;s 2;s 2;s 2;s 2;s 2;k 0;m 1 0 7 1 0 3\n\
         units 4 and 4, 4 in hand|a 0 0 7 1 0 4;a 1 0 7 1 0 4;a 2 1 7 1 0 4;s 2;s 2;s 2;s 2;s 2;s 2;k 0\n\
         older, of another unit|a 0 0 7 1 3 3;a 1 0 7 1 9 4;a 2 1 7 1 5 4;s 2;s 2;s 2;s 2;s 2;s 2;k 0\n\
@@ -26,8 +26,8 @@ fn missed(stdout: Stdout) {
     acts::section(
         stdout,
         &UNITS,
-        b"",
-        b"unit 3, 4 in hand|a 0 0 7 1 0 3;s 0;s 0;s 0;a 2 1 7 1 0 4;s 2;s 2;q\n\
+        "",
+        "unit 3, 4 in hand|a 0 0 7 1 0 3;s 0;s 0;s 0;a 2 1 7 1 0 4;s 2;s 2;q\n\
         no unit, 65,535 in hand|a 0 0 7 1;a 2 1 7 1 0 65535;s 2;s 2\n\
         unit 256, none in hand|a 0 0 7 1 0 256;a 2 1 7 1;s 2;s 2\n\
         unit 4 of another property, 4 in hand|a 0 0 8 1 0 4;a 2 1 7 1 0 4;s 2;s 2\n",
@@ -39,8 +39,8 @@ fn claimed(stdout: Stdout) {
     acts::section(
         stdout,
         &UNITS,
-        b"desk 1 holds item 0|a 0 0 7 1 0 4;a 1 1 7 1 0 4;s 1;s 1;s 1\n",
-        b"claimed, of the same unit|a 2 1 7 1 0 4;s 2;s 2\n\
+        "desk 1 holds item 0|a 0 0 7 1 0 4;a 1 1 7 1 0 4;s 1;s 1;s 1\n",
+        "claimed, of the same unit|a 2 1 7 1 0 4;s 2;s 2\n\
         claimed, of another unit|a 2 1 7 1 0 3;s 2;s 2\n\
         claimed, of another property|a 2 1 8 1 0 4;s 2;s 2\n",
     );
@@ -51,8 +51,8 @@ fn unasked(stdout: Stdout) {
     acts::section(
         stdout,
         &P,
-        b"",
-        b"by property, another unit|a 0 0 7 1 0 3;a 2 1 7 1 0 4;s 2;s 2;s 2;s 2;s 2;s 2;k 0\n\
+        "",
+        "by property, another unit|a 0 0 7 1 0 3;a 2 1 7 1 0 4;s 2;s 2;s 2;s 2;s 2;s 2;k 0\n\
         by property, older and of another unit|a 0 0 7 1 9 4;a 1 0 7 1 3 3;a 2 1 7 1 5 4;s 2;s 2;s 2;s 2;s 2;s 2;k 0\n\
         by property, the same unit of another property|a 0 0 8 1 0 4;a 2 1 7 1 0 4;s 2;s 2\n\
         by property, claimed, of another unit|a 0 0 7 1 0 4;a 1 1 7 1 0 4;s 1;s 1;s 1;a 2 1 7 1 0 3;s 2;s 2\n",
@@ -60,8 +60,8 @@ fn unasked(stdout: Stdout) {
     acts::section(
         stdout,
         &TWO,
-        b"",
-        b"by neither|a 0 0 8 1 0 3;a 2 1 7 1 0 4;s 2;s 2;s 2;s 2;s 2;s 2;k 0\n\
+        "",
+        "by neither|a 0 0 8 1 0 3;a 2 1 7 1 0 4;s 2;s 2;s 2;s 2;s 2;s 2;k 0\n\
         by neither, claimed|a 0 0 8 1 0 3;a 1 1 7 1 0 4;s 1;s 1;s 1;a 2 1 7 1 0 5;s 2;s 2\n",
     );
 }
@@ -72,8 +72,8 @@ fn waker(stdout: Stdout) {
     acts::section(
         stdout,
         &WAKED,
-        b"",
-        b"the waker in hand|a 0 1 7 1 0 3;s 0;s 0;a 1 0 7 1 9 4;s 1;s 1;s 1;s 1;s 1;s 1;s 1\
+        "",
+        "the waker in hand|a 0 1 7 1 0 3;s 0;s 0;a 1 0 7 1 9 4;s 1;s 1;s 1;s 1;s 1;s 1;s 1\
         ;a 2 0 7 1 3 3;a 3 2 7 1 0 3;a 4 2 7 1 0 4\
         ;s 0;s 0;s 0;s 0;s 0;s 0;s 0;s 0;s 0;s 0;s 0;s 0;s 0;s 0;s 0;k 1;r 0\n",
     );

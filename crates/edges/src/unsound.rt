@@ -6,7 +6,7 @@ use std::io::Stdout;
 pub fn lines(stdout: Stdout) {
     sound::lines(
         stdout,
-        b"the sound board|x 0\n\
+        "the sound board|x 0\n\
         1,024 items|n 0 1024;T 32;x 0\n\
         1,025 items|n 0 1025;T 32;n 675 33;x 0\n\
         65,535 items|n 0 65535;n 675 65535 0 0 0;x 0\n\

@@ -3,7 +3,7 @@
 // standard error; without its input or its output it stops.
 #![tactic(auto)]
 
-ghost use Rattle.std.specs.Prelude.{◌≡◌, true, false, List, ℕ, ◌≤◌, length, IfSome};
+ghost use Rattle.std.specs.Prelude.{◌≡◌, false, List, ℕ, IfSome, IfOk, MatchResult};
 ghost use Rattle.model.specs.Boards.{builtin_backoffs};
 ghost use Rattle.boards.specs.Layout.{lists};
 ghost use Rattle.calls.specs.Opens.{open_number, opened_numbers};
@@ -26,13 +26,6 @@ struct Streams {
     errors: Stderr,
 }
 
-// The stage after a turn, and whether what it reads and writes could be.
-#[derive(Clone, Copy)]
-struct Went {
-    stage: Stage,
-    more: bool,
-}
-
 // A line on standard error: what could not be read or written, and why, without the number of the error.
 fn fail(errors: Stderr, what: &str, error: io::Error) {
     let mut text = Cursor::new([0u8; 256]);
@@ -49,12 +42,8 @@ fn read_full<F: Read>(file: &mut F, buf: &mut [u8]) -> usize
     ensures { IsPrefixLen result buf.new }
 {
     let mut done = 0;
-    while done < buf.len() {
-        match file.read(&mut buf[done..]) {
-            Ok(0) => break,
-            Ok(n) => done += n,
-            Err(_) => break,
-        }
+    while let Ok(n @ 1..) = file.read(&mut buf[done..]) {
+        done += n;
     }
     done
 }
@@ -91,44 +80,44 @@ fn load<R: Files>(rt: &R, errors: Stderr, buf: &mut [u8; 413]) -> usize
     n
 }
 
-// The first n bytes of a buffer go to standard output; whether they could.
-fn say(streams: Streams, out: &[u8], n: usize) -> bool
-    requires { n ≤ length out.now }
-{
-    match Print::write_all(&streams.output, &out[..n]) {
-        Ok(()) => true,
-        Err(error) => {
-            fail(streams.errors, "standard output", error);
-            false
+impl Streams {
+    // Bytes go to standard output; whether they could.
+    fn say(self, text: &[u8]) -> bool {
+        match Print::write_all(&self.output, text) {
+            Ok(()) => true,
+            Err(error) => {
+                fail(self.errors, "standard output", error);
+                false
+            }
+        }
+    }
+
+    // A table that is refused.
+    fn refuse(self, number: u8) {
+        let mut out = [0u8; 16];
+        let n = prints::put_answer(&mut out, 0, Said::Refused(number));
+        self.say(&out[..n]);
+    }
+
+    // How many bytes a read of standard input puts, 0 once the input has ended; none where it fails.
+    fn read_some(mut self, stage: Stage, input: &mut [u8]) -> Option<usize>
+        ensures { IfSome result (λ n. IsPrefixLen n input.new) }
+    {
+        if printouts::is_ended(stage) {
+            return Some(0);
+        }
+        match self.input.read(input) {
+            Ok(n) => Some(n),
+            Err(error) => {
+                fail(self.errors, "standard input", error);
+                None
+            }
         }
     }
 }
 
-// A table that is refused.
-fn refuse(streams: Streams, number: u8) {
-    let mut out = [0u8; 16];
-    let n = prints::put_answer(&mut out, 0, Said::Refused(number));
-    say(streams, &out, n);
-}
-
-// How many bytes a read of standard input puts, 0 once the input has ended; none where it fails.
-fn read_some(streams: Streams, stage: Stage, input: &mut [u8]) -> Option<usize>
-    ensures { IfSome result (λ n. IsPrefixLen n input.new) }
-{
-    if printouts::is_ended(stage) {
-        return Some(0);
-    }
-    let mut stdin = streams.input;
-    match stdin.read(input) {
-        Ok(n) => Some(n),
-        Err(error) => {
-            fail(streams.errors, "standard input", error);
-            None
-        }
-    }
-}
-
-// One turn: what was read is handed over, and what is to be printed is written.
+// One turn: what was read is handed over, and what is to be printed is written. The stage after it, as an error where it
+// could not read or write.
 fn turn(
     streams: Streams,
     table: &[u8],
@@ -138,25 +127,20 @@ fn turn(
     keys: &mut [u32],
     cents: &mut [i64],
     stage: Stage,
-) -> Went
+) -> Result<Stage, Stage>
     requires stands { Stands table.now (lists board.old bytes.old links.old keys.old cents.old) stage }
     requires stage_value { done_on board.old stage ≡ false }
-    ensures stands_2 { Stands table.now
-        (lists board.new bytes.new links.new keys.new cents.new)
-        result.stage }
-    ensures advanced { result.more ≡ true → Advanced table.now
+    ensures stands_2 { MatchResult result
+        (λ g. Stands table.now (lists board.new bytes.new links.new keys.new cents.new) g)
+        (λ g. Stands table.now (lists board.new bytes.new links.new keys.new cents.new) g) }
+    ensures advanced { IfOk result (λ g. Advanced table.now
         (lists board.old bytes.old links.old keys.old cents.old)
         stage
         (lists board.new bytes.new links.new keys.new cents.new)
-        result.stage }
+        g) }
 {
     let mut input = [0u8; 4096];
-    let Some(n) = read_some(streams, stage, &mut input) else {
-        return Went {
-            stage: stage,
-            more: false,
-        };
-    };
+    let n = streams.read_some(stage, &mut input).ok_or(stage)?;
     let mut out = [0u8; 65536];
     let made = printouts::advance(
         table,
@@ -169,15 +153,14 @@ fn turn(
         &input[..n],
         &mut out,
     );
-    let said = say(streams, &out, made.at);
-    let next = made.stage;
-    Went {
-        stage: next,
-        more: said,
+    if streams.say(&out[..made.at]) {
+        Ok(made.stage)
+    } else {
+        Err(made.stage)
     }
 }
 
-// Turns on an opened board; whether all is printed, and not one of them could not read or write.
+// Turns on an opened board until all is printed; as an error the stage where one of them could not read or write.
 fn serve(
     streams: Streams,
     table: &[u8],
@@ -186,26 +169,20 @@ fn serve(
     links: &mut [u16],
     keys: &mut [u32],
     cents: &mut [i64],
-) -> bool
+) -> Result<(), Stage>
     requires { Opened table.now builtin_backoffs
         (lists board.old bytes.old links.old keys.old cents.old) }
-    ensures { result ≡ true → (reads : List (List ℕ)) × (text : List ℕ)
-        × ServesAll table.now reads text }
+    ensures { IfOk result (λ _. (reads : List (List ℕ)) × (text : List ℕ)
+        × ServesAll table.now reads text) }
 {
     let mut stage = printouts::begin();
-    let mut turns = u64::MAX;
-    while turns > 0 {
+    for _ in 0..u64::MAX {
         if printouts::is_done(board, stage) {
-            return true;
+            return Ok(());
         }
-        let went = turn(streams, table, board, bytes, links, keys, cents, stage);
-        if !went.more {
-            return false;
-        }
-        stage = went.stage;
-        turns -= 1;
+        stage = turn(streams, table, board, bytes, links, keys, cents, stage)?;
     }
-    false
+    Err(stage)
 }
 
 // The board's other lists, beside an opened board.
@@ -217,7 +194,7 @@ fn run(streams: Streams, table: &[u8], board: &mut [u16])
     let mut links = [0u16; 11264];
     let mut keys = [0u32; 2049];
     let mut cents = [0i64; 1024];
-    serve(
+    let _ = serve(
         streams, table, board, &mut bytes, &mut links, &mut keys, &mut cents,
     );
 }
@@ -234,7 +211,7 @@ fn main(rt: HostRuntime) {
     let mut board = [0u16; 723];
     let number = calls::open(table, &mut board);
     if number != 0 {
-        refuse(streams, number);
+        streams.refuse(number);
         return;
     }
     run(streams, table, &mut board);

@@ -1,81 +1,81 @@
--- Laws of fields: the first space from a place on, and the line cut there.
-use mathlib.Core.Path.{◌≡◌, refl}
-use mathlib.Core.Bool.{Bool, true, false}
-use mathlib.Core.List.{List, [], ◌∷◌}
-use Prim.Native.Nat.{ℕ, suc, ◌+◌, ◌-◌, ◌<◌, ◌≤◌}
-use native.Mathlib.Nat.{not-suc-le-zero, le_of_suc-le-suc}
-use native.Mathlib.Numerals.{add-one}
-use native.Mathlib.Omega.{arith}
-use borrow.Author.Tests.{eq-eqb, ne_eqb, ltb-true, ltb-false}
-use lib.Dec.{eqb, ltb}
-use lib.ListN.{length, get_or, take, drop, drop_of_length-le, length-drop}
-use lib.Seq.{drop-cons, drop-drop}
-use Rattle.model.specs.Basics.{first_by}
-use Rattle.model.specs.Lines.{cut_at, fields_of, add_line, step_line}
-use Rattle.model.specs.Lines.Line.{unreadable}
-use Rattle.lines.specs.Views.{byte_at, space_at}
+-- Laws of fields: bytes cut at each such byte are cut at the first.
+use Rattle.std.proofs.Common.{◌≡◌, ℕ, suc, ◌+◌, ◌<◌, ◌≤◌, ◌⊎◌, inl, inr, Bool, true, false, List, [], ◌∷◌, eqb, ltb}
+use Rattle.std.proofs.Common.{length, refl, add-one, arith}
+use Rattle.std.specs.List.{position_or_len, before_first, after_first}
+use mathlib.Core.Bool.{and-false}
+use borrow.Author.Tests.{eqb-true}
+use Rattle.model.specs.Basics.{every}
+use Rattle.model.specs.Lines.{cut_at, fields_of, is_digit, is_decimal, is_number, add_of, add_line, step_of, step_line}
 
--- the walk to the first such byte
-module _ (s : List ℕ) (i b : ℕ) where
-  pub byte-here : i < length s → get_or s i 0 ≡ b → byte_at b (drop i s) ≡ 0
-  byte-here h e = rw (drop-cons s i 0 h, eq-eqb (get_or s i 0) b e, first_by)
+module _ (b : ℕ) where
+  abbrev pub is_cut : ℕ → Bool
+  is_cut x = eqb x b
 
-  pub byte_next : i < length s → (get_or s i 0 ≡ b → ⊥) → byte_at b (drop i s) ≡ suc (byte_at b (drop (i + 1) s))
-  byte_next h e = rw (drop-cons s i 0 h, add-one i, ne_eqb (get_or s i 0) b e, first_by)
+  pub cut_none : (s : List ℕ) → length s ≤ position_or_len is_cut s → cut_at b s ≡ s ∷ []
+  unfolding cut_at
+  cut_none [] h = refl
+  cut_none (x ∷ xs) h = go (eqb x b) refl h (cut_none xs)
+    where
+      go : (t : Bool) → eqb x b ≡ t → length (x ∷ xs) ≤ position_or_len is_cut (x ∷ xs)
+          → (length xs ≤ position_or_len is_cut xs → cut_at b xs ≡ xs ∷ []) → cut_at b (x ∷ xs) ≡ (x ∷ xs) ∷ []
+      go true e h ih = absurd (omega (arith, rw e at h))
+      go false e h ih = let l = rw e at h in rw (e, ih (omega arith))
 
-  pub byte-none : length s ≤ i → byte_at b (drop i s) ≡ 0
-  byte-none h = rw (drop_of_length-le s h)
+  pub cut_some : (s : List ℕ) → position_or_len is_cut s < length s
+      → cut_at b s ≡ before_first is_cut s ∷ cut_at b (after_first is_cut s)
+  unfolding cut_at
+  cut_some [] h = absurd (omega arith)
+  cut_some (x ∷ xs) h = go (eqb x b) refl h (cut_some xs)
+    where
+      go : (t : Bool) → eqb x b ≡ t → position_or_len is_cut (x ∷ xs) < length (x ∷ xs)
+          → (position_or_len is_cut xs < length xs
+          → cut_at b xs ≡ before_first is_cut xs ∷ cut_at b (after_first is_cut xs))
+          → cut_at b (x ∷ xs) ≡ before_first is_cut (x ∷ xs) ∷ cut_at b (after_first is_cut (x ∷ xs))
+      go true e h ih = rw e
+      go false e h ih =
+          let l = rw e at h in
+          let one : 1 + position_or_len is_cut xs ≡ suc (position_or_len is_cut xs) = omega arith in
+          rw (e, ih (omega arith)) (simp (one, add-one))
 
--- bytes cut at their first space, or left whole
-cut-more : (xs : List ℕ) → space_at xs < length xs
-    → fields_of xs ≡ take (space_at xs) xs ∷ fields_of (drop (suc (space_at xs)) xs)
+-- the last field, which is no number if there is a space in it
+abbrev Whole : List ℕ → Type 0
+Whole s = fields_of s ≡ s ∷ []
+
+abbrev Spaced : List ℕ → Type 0
+Spaced s =
+    (f : List ℕ) × (g : List ℕ) × (fs : List (List ℕ)) × (fields_of s ≡ f ∷ g ∷ fs) × (every is_digit s ≡ false)
+
+cut_nonempty : (s : List ℕ) → Whole s ⊎ Spaced s → (f : List ℕ) × (fs : List (List ℕ)) × (fields_of s ≡ f ∷ fs)
+cut_nonempty s (inl e) = (_, _, e)
+cut_nonempty s (inr p) = (_, _, p.3)
+
+last : (s : List ℕ) → Whole s ⊎ Spaced s
 unfolding cut_at
-cut-more [] h = absurd (not-suc-le-zero h)
-cut-more (x ∷ xs) h = go (eqb x 32) refl h (cut-more xs)
+last [] = inl refl
+last (x ∷ xs) = go (eqb x 32) refl (last xs)
   where
-    go : (t : Bool) → eqb x 32 ≡ t → space_at (x ∷ xs) < length (x ∷ xs)
-        → (space_at xs < length xs → fields_of xs ≡ take (space_at xs) xs ∷ fields_of (drop (suc (space_at xs)) xs))
-        → fields_of (x ∷ xs) ≡ take (space_at (x ∷ xs)) (x ∷ xs) ∷ fields_of (drop (suc (space_at (x ∷ xs))) (x ∷ xs))
-    go true e h ih = rw (e, first_by)
-    go false e h ih = rw (e, first_by, ih (le_of_suc-le-suc (rw (e, first_by) at h)))
+    go : (t : Bool) → eqb x 32 ≡ t → Whole xs ⊎ Spaced xs → Whole (x ∷ xs) ⊎ Spaced (x ∷ xs)
+    go true e ih = let n = cut_nonempty xs ih in
+        inr ([], n.0, n.1, rw (e, n.2), rw (eqb-true x 32 e))
+    go false e (inl w) = inl (rw (e, w))
+    go false e (inr p) = inr (x ∷ p.0, p.1, p.2, rw (e, p.3), rw (p.4, and-false (is_digit x)))
 
-cut-last : (xs : List ℕ) → length xs ≤ space_at xs → fields_of xs ≡ xs ∷ []
-unfolding cut_at
-cut-last [] h = refl
-cut-last (x ∷ xs) h = go (eqb x 32) refl h (cut-last xs)
+no_number : (most : ℕ) (s : List ℕ) → every is_digit s ≡ false → is_number most s ≡ false
+unfolding is_number is_decimal
+no_number most s e = rw (e, and-false (ltb 0 (length s)))
+
+pub step_last : (s : List ℕ) → step_line (fields_of s) ≡ step_of s
+unfolding step_of
+step_last s = go (last s)
   where
-    go : (t : Bool) → eqb x 32 ≡ t → length (x ∷ xs) ≤ space_at (x ∷ xs)
-        → (length xs ≤ space_at xs → fields_of xs ≡ xs ∷ []) → fields_of (x ∷ xs) ≡ (x ∷ xs) ∷ []
-    go true e h ih = absurd (not-suc-le-zero (rw (e, first_by) at h))
-    go false e h ih = rw (e, ih (le_of_suc-le-suc (rw (e, first_by) at h)))
+    go : Whole s ⊎ Spaced s → step_line (fields_of s) ≡ step_of s
+    go (inl e) = rw e
+    go (inr p) = rw (p.3, no_number 65535 s p.4)
 
--- there is a field always
-fields-some : (xs : List ℕ) → (f : List ℕ) × (fs : List (List ℕ)) × (fields_of xs ≡ f ∷ fs)
-fields-some xs = go (ltb (space_at xs) (length xs)) refl
+pub add_last : (d t p c y u : List ℕ) → add_line (d ∷ t ∷ p ∷ c ∷ y ∷ fields_of u) ≡ add_of d t p c y u
+unfolding add_of
+add_last d t p c y u = go (last u)
   where
-    go : (t : Bool) → ltb (space_at xs) (length xs) ≡ t
-        → (f : List ℕ) × (fs : List (List ℕ)) × (fields_of xs ≡ f ∷ fs)
-    go true e = (_, _, cut-more xs (ltb-true _ _ e))
-    go false e = (_, _, cut-last xs (ltb-false _ _ e))
-
--- a field too many
-pub add-more : (d t p c y u xs : List ℕ) → add_line (d ∷ t ∷ p ∷ c ∷ y ∷ u ∷ fields_of xs) ≡ unreadable
-add-more d t p c y u xs = rw (fields-some xs).2
-
-pub step-more : (d xs : List ℕ) → step_line (d ∷ fields_of xs) ≡ unreadable
-step-more d xs = rw (fields-some xs).2
-
--- the field from a place on ends at i, and others follow
-abbrev pub Cut : List ℕ → ℕ → ℕ → Type 0
-Cut s at i = fields_of (drop at s) ≡ take (i - at) (drop at s) ∷ fields_of (drop (i + 1) s)
-
--- the field from a place on, where i is the first space or the end
-module _ (s : List ℕ) (at i : ℕ) (l : at ≤ length s) (e : i ≡ at + space_at (drop at s)) where
-  pub field-more : i < length s → Cut s at i
-  field-more h =
-      let n : i - at ≡ space_at (drop at s) = omega arith in
-      let m : i + 1 ≡ at + suc (space_at (drop at s)) = omega arith in
-      rw (n, m, ← drop-drop (suc (space_at (drop at s))) at s) (cut-more (drop at s) (omega (arith, length-drop at s)))
-
-  pub field-last : length s ≤ i → fields_of (drop at s) ≡ drop at s ∷ []
-  field-last h = cut-last (drop at s) (omega (arith, length-drop at s))
+    go : Whole u ⊎ Spaced u → add_line (d ∷ t ∷ p ∷ c ∷ y ∷ fields_of u) ≡ add_of d t p c y u
+    go (inl e) = rw e
+    go (inr q) = rw (q.3, no_number 65535 u q.4) (simp and-false)

@@ -1,3 +1,3 @@
--- Laws of a map walked byte by byte, and of the merged value.
+-- Laws of a map and of the merged counts, and of the merged value.
 pub mod Walks
 pub mod Values

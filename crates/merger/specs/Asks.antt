@@ -1,20 +1,18 @@
 -- What the parts of a merge ask of their arguments.
-use Rattle.std.specs.Prelude.{◌≡◌, true, ◌||◌, List, [], ◌∷◌, map, ℕ, ◌+◌, ◌<◌, ◌≤◌, ltb, length}
-use Rattle.model.specs.Basics.{every, flag}
+use Rattle.std.specs.Prelude.{◌≡◌, Bool, ◌||◌, List, map, count_by, slice_get, Some, ℕ, ◌+◌, ◌<◌, ◌≤◌, eqb, length}
+use Rattle.std.specs.Option.{option_eq}
 use Rattle.model.specs.Layout.{table_refusal, table_of}
 use Rattle.merging.specs.Merges.{is_new, merged_chord}
 use Rattle.codec.specs.declared.Chord as DC
 use Rattle.codec.specs.Views.{chord_for}
 
+-- whether a channel of this kind may become m, of the first's kinds
+abbrev pub joins : List ℕ → ℕ → ℕ → Bool
+joins kinds m kind = is_new m || option_eq eqb (slice_get kinds m) (Some kind)
+
 -- the bytes of a map that stand for new channels
 abbrev pub count_new : List ℕ → ℕ
-count_new [] = 0
-count_new (m ∷ ms) = flag (is_new m) + count_new ms
-
--- a map of the second's kinds to the first's
-pub record Mapped (first ms second : List ℕ) : Type 0 where
-  pub whole : length ms ≡ length second
-  pub names : every (λ m. is_new m || ltb m (length first)) ms ≡ true
+count_new ms = count_by is_new ms
 
 -- two accepted tables, and a map of the second's channels
 pub record BothAsked (first second ms : List ℕ) : Type 0 where

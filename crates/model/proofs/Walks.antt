@@ -10,6 +10,7 @@ use borrow.Author.Tests.{eq-eqb, ne_eqb}
 use lib.ListN.{length, get_or, set, take, drop, drop_of_length-le}
 use lib.Seq.{drop-cons, get_or-set_same, get_or-set_other, take_all, take_at, take-suc, take-suc-set, length-take-le}
 use lib.Seq.{append_snoc, sets}
+use Rattle.std.specs.List.{position_or_len}
 use Rattle.model.specs.Basics.{is_in, every, first_by}
 use Rattle.model.proofs.Tests.{same?}
 
@@ -42,6 +43,16 @@ module _ (f : ℕ → Bool) where
 
     pub first-end : length s ≤ i → i + first_by f (drop i s) ≡ i
     first-end h = rw (drop_of_length-le s h, first_by) (omega arith)
+
+-- the same as the library has it
+pub first-position : (f : ℕ → Bool) (xs : List ℕ) → position_or_len f xs ≡ first_by f xs
+first-position f [] = refl
+first-position f (x ∷ xs) = go (f x) refl (first-position f xs)
+  where
+    go : (b : Bool) → f x ≡ b → position_or_len f xs ≡ first_by f xs
+        → position_or_len f (x ∷ xs) ≡ first_by f (x ∷ xs)
+    go true e ih = rw (e, first_by)
+    go false e ih = rw (e, first_by, ih) (omega arith)
 
 -- whether all that are left pass
 module _ {A : Type 0} (p : A → Bool) (s : List A) (i : ℕ) where

@@ -1,4 +1,5 @@
 -- Tests and lists that all the definitions share.
+use Rattle.std.specs.List.{list_all, list_any}
 use Rattle.std.specs.Prelude.{Bool, true, false, ◌&&◌, ◌||◌, List, [], ◌∷◌, ℕ, zero, suc, eqb}
 
 abbrev pub pick : {A : Type 0} → Bool → A → A → A
@@ -10,12 +11,10 @@ abbrev pub flag : Bool → ℕ
 flag b = pick b 1 0
 
 abbrev pub is_in : ℕ → List ℕ → Bool
-is_in x [] = false
-is_in x (y ∷ ys) = eqb x y || is_in x ys
+is_in x = list_any (eqb x)
 
 abbrev pub every : {A : Type 0} → (A → Bool) → List A → Bool
-every f [] = true
-every f (x ∷ xs) = f x && every f xs
+every = list_all
 
 -- all of these hold
 abbrev pub all_of : List Bool → Bool

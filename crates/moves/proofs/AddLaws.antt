@@ -1,124 +1,101 @@
--- An add's move: refused by the model, or one message more.
-use mathlib.Core.Path.{◌≡◌, refl, sym, ap, ◌∙◌}
-use mathlib.Core.Logic.{◌≢◌}
-use mathlib.Core.List.{List}
-use Prim.Native.Nat.{ℕ, zero, suc, ◌+◌, ◌<◌}
-use native.Mathlib.Omega.{arith}
-use native.Mathlib.Numerals.{add-one}
-use lib.ListN.{length, get_or, drop, set, length-set}
-use lib.Seq.{drop-set-lt}
-use Rattle.model.specs.Boards.{Sent}
-use Rattle.model.specs.Effects.{Refused, Item}
+-- An add's move is the call: one message more.
+use Rattle.std.proofs.Common.{◌≡◌, ℕ, ◌<◌, List, get_or, Some, refl, ◌∙◌, arith, add-one, length-set, drop-set-lt}
+use Rattle.model.specs.Boards.{Message, no_message}
+use Rattle.model.specs.Effects.{Item}
 use Rattle.model.specs.Layout.{table_of}
-use Rattle.model.specs.Adds.{add_refusal, added}
+use Rattle.model.specs.Adds.{new_sender}
 use Rattle.model.specs.Pools.{adds}
-use Rattle.columns.specs.Columns.{Columns, days_at}
+use Rattle.columns.specs.Columns.{Columns}
 use Rattle.columns.proofs.Messages.{length-messages}
-use Rattle.boards.specs.Boards.{HeldBoard, board_in}
-use Rattle.boards.specs.Calls.{Held, held}
-use Rattle.boards.specs.Layout.{properties_in, days_in, close_day_at}
-use Rattle.boards.proofs.PartLaws.{set_here, set_before, set_after}
-use Rattle.adds.proofs.MessageLaws.{keyed, close-kept}
+use Rattle.state.specs.declared.Sender as DD
+use Rattle.state.specs.declared.Said.TheVariants as W
+use Rattle.state.specs.declared.Change.TheVariants as G
+use Rattle.state.specs.Views.{sender_in}
+use Rattle.boards.specs.declared.Sent as DS
+use Rattle.boards.specs.Calls.{Held, sent_in}
+use Rattle.adds.proofs.RefusalLaws.{refusal_is}
+use Rattle.adds.proofs.MessageLaws.{Room, close-kept}
+use Rattle.adds.proofs.AddLaws.{added_is}
 use Rattle.refusals.specs.Judged.{Lengths}
-use Rattle.refusals.specs.Calls.{board_of, refusal_of, Beyond, row_at, SameRow, Plays}
+use Rattle.refusals.specs.Calls.{refusal_of, Beyond, Plays}
 use Rattle.refusals.proofs.Refusals.{lent-whole, statuses-known}
-use Rattle.refusals.proofs.CallLaws.{status-added, plays-nothing, plays-it}
+use Rattle.refusals.proofs.CallLaws.{status-added, plays-it}
+use Rattle.writes.specs.declared.Move as DM
+use Rattle.writes.specs.Moves.{moved_held}
+use Rattle.writes.proofs.Parts.{part_writes}
+use Rattle.moves.specs.Refused.{call_refusal}
+use Rattle.moves.proofs.AfterLaws.{others-after}
 
--- a column with record n written: as long as before, and the same past n
-module _ {A : Type 0} (xs ys : List A) (n : ℕ) (a : A) (e : ys ≡ set xs n a) where
-  long : length xs ≡ 1024 → length ys ≡ 1024
-  long l = rw (e, length-set xs n a) l
+-- message x is added as number n, by a sender that is d from then on
+abbrev pub addition : ℕ → DS.Sent → DD.Sender → DM.Move
+addition n x d = record { said = W.Item n; sender = d; added = Some x; change = G.None }
 
-  past : (k : ℕ) → k ≡ n + 1 → drop k ys ≡ drop k xs
-  past k q = rw e (drop-set-lt k xs n a (omega (arith, q)))
+module _ (s : List ℕ) (h : Held) (z : refusal_of s h ≡ 0) (i : ℕ) (x : DS.Sent) (d : DD.Sender)
+    (few : h.board.messages < 1024) where
+  abbrev n : ℕ
+  n = h.board.messages
 
-keyed-length : (keys : List ℕ) (n property day : ℕ) → length (keyed keys n property day) ≡ length keys
-keyed-length keys n property day = length-set (set keys n property) (days_at + n) day ∙ length-set keys n property
+  abbrev o : Columns
+  o = h.columns
 
--- the keys with those of message n, a column each
-module _ (keys : List ℕ) (n property day : ℕ) (h : n < 1024) where
-  new-properties : properties_in (keyed keys n property day) ≡ set (properties_in keys) n property
-  new-properties =
-      set_after 0 1024 (set keys n property) (days_at + n) day (omega arith)
-      ∙ set_here 0 1024 keys n n property (omega arith) h
+  abbrev h' : Held
+  h' = moved_held h i (addition n x d)
 
-  new-days : days_in (keyed keys n property day) ≡ set (days_in keys) n day
-  new-days =
-      set_here days_at 1024 (set keys n property) (days_at + n) n day refl h
-      ∙ rw (set_before days_at 1024 keys n property h)
+  lent : Lengths o h.matches
+  lent = lent-whole s _ _ _ z
 
--- what an add writes: record n of each column
-pub record Wrote (c c' : Columns) (n : ℕ) (x : Sent) : Type 0 where
-  pub few : n < 1024
-  pub channels : c'.channels ≡ set c.channels n x.channel
-  pub keys : c'.keys ≡ keyed c.keys n x.property x.day
-  pub cents : c'.cents ≡ set c.cents n x.cents
-  pub statuses : c'.statuses ≡ set c.statuses n 0
-  pub matched : c'.matched ≡ set c.matched n 0
-  pub wakers : c'.wakers ≡ set c.wakers n 0
-  pub units : c'.units ≡ set c.units n x.unit
+  lengths : Lengths h'.columns h'.matches
+  lengths = record {
+    channels-len = simp length-set lent.channels-len;
+    keys-len = simp length-set lent.keys-len;
+    cents-len = simp length-set lent.cents-len;
+    statuses_len = simp length-set lent.statuses_len;
+    matched_len = simp length-set lent.matched_len;
+    wakers_len = simp length-set lent.wakers_len;
+    units_len = simp length-set lent.units_len;
+    chords-len = lent.chords-len;
+    messages_len = lent.messages_len;
+  }
 
-module _ (s : List ℕ) (h : Held) (i : ℕ) (x : Sent) (z : refusal_of s h ≡ 0) where
-  pub add-refused : (f : ℕ) → f ≡ add_refusal (table_of s) (board_of s h) i x → f ≢ 0
-      → Plays s h (adds i x) (Refused f) h
-  add-refused zero e n = absurd (n refl)
-  add-refused (suc f) e n =
-      let q = sym e in
-      plays-nothing s h (adds i x) z (Refused (suc f)) (rw q) (rw q)
+  beyond : Beyond h h'
+  beyond = record {
+    messages_grow = omega arith;
+    matches_grow = omega arith;
+    channels = grind (arith, drop-set-lt);
+    properties = grind (arith, part_writes, drop-set-lt);
+    days = grind (arith, part_writes, drop-set-lt);
+    cents = grind (arith, drop-set-lt);
+    statuses = grind (arith, drop-set-lt);
+    matched = grind (arith, drop-set-lt);
+    wakers = grind (arith, drop-set-lt);
+    units = grind (arith, drop-set-lt);
+    chords = refl;
+    messages = refl;
+    recorded = refl;
+    stays_closed = λ e. e;
+    close_day = λ _. close-kept o.keys n x.property x.day few;
+  }
 
-  module _ (b' : HeldBoard) (c' : Columns) (w : Wrote h.columns c' h.board.messages x)
-      (q : b'.messages ≡ h.board.messages + 1) (k : b'.matches ≡ h.board.matches)
-      (closed : b'.closed ≡ h.board.closed) where
-    abbrev n : ℕ
-    n = h.board.messages
+  room : Room o n
+  room = record {
+    few = few;
+    channels = omega (arith, few, lent.channels-len);
+    keys = omega (arith, few, lent.keys-len);
+    cents = omega (arith, few, lent.cents-len);
+    statuses = omega (arith, few, lent.statuses_len);
+    matched = omega (arith, few, lent.matched_len);
+    wakers = omega (arith, few, lent.wakers_len);
+    units = omega (arith, few, lent.units_len);
+  }
 
-    abbrev o : Columns
-    o = h.columns
-
-    abbrev h' : Held
-    h' = held b' c' h.matches
-
-    lengths : Lengths c' h.matches
-    lengths =
-        let l = lent-whole s _ _ _ z in
-        record {
-          channels-len = long o.channels _ n x.channel w.channels l.channels-len;
-          keys-len = ap length w.keys ∙ keyed-length o.keys n x.property x.day ∙ l.keys-len;
-          cents-len = long o.cents _ n x.cents w.cents l.cents-len;
-          statuses_len = long o.statuses _ n 0 w.statuses l.statuses_len;
-          matched_len = long o.matched _ n 0 w.matched l.matched_len;
-          wakers_len = long o.wakers _ n 0 w.wakers l.wakers_len;
-          units_len = long o.units _ n x.unit w.units l.units_len;
-          chords-len = l.chords-len;
-          messages_len = l.messages_len;
-        }
-
-    beyond : Beyond h h'
-    beyond = record {
-      messages_grow = omega (arith, q);
-      matches_grow = omega (arith, k);
-      channels = past o.channels _ n x.channel w.channels b'.messages q;
-      properties = past (properties_in o.keys) _ n x.property
-          (ap properties_in w.keys ∙ new-properties o.keys n x.property x.day w.few) b'.messages q;
-      days = past (days_in o.keys) _ n x.day
-          (ap days_in w.keys ∙ new-days o.keys n x.property x.day w.few) b'.messages q;
-      cents = past o.cents _ n x.cents w.cents b'.messages q;
-      statuses = past o.statuses _ n 0 w.statuses b'.messages q;
-      matched = past o.matched _ n 0 w.matched b'.messages q;
-      wakers = past o.wakers _ n 0 w.wakers b'.messages q;
-      units = past o.units _ n x.unit w.units b'.messages q;
-      chords = refl;
-      messages = refl;
-      recorded = refl;
-      stays_closed = λ e. closed ∙ e;
-      close_day = λ e. ap (λ (ks : List ℕ). get_or ks close_day_at 0) w.keys
-          ∙ close-kept o.keys n x.property x.day w.few;
-    }
-
-    pub add-plays : add_refusal (table_of s) (board_of s h) i x ≡ 0
-        → board_in (table_of s) b' c' h.matches ≡ added (table_of s) (board_of s h) i x
-        → ((j : ℕ) → j ≢ i → SameRow (row_at h j) (row_at h' j)) → Plays s h (adds i x) (Item n) h'
-    add-plays e d r =
-        let u = status-added n h.columns.statuses 0 (statuses-known s _ _ _ z) (omega arith) in
-        plays-it s h (adds i x) z (Item n) h' (rw (e, length-messages h.columns 0 n)) refl (rw e d) lengths
-        (rw (q, add-one n, w.statuses) u) beyond r (λ v. absurd (omega (arith, v, k)))
+  pub add-plays : call_refusal (table_of s) h.board o.keys (adds i (sent_in x)) ≡ 0
+      → ((ms : List Message) → (get_or ms n no_message).sent.channel ≡ x.channel
+      → sender_in (table_of s) d ≡ new_sender (table_of s) ms n)
+      → Plays s h (adds i (sent_in x)) (Item n) h'
+  add-plays e f =
+      let r = refusal_is (table_of s) h.board o h.matches i (sent_in x) ∙ e in
+      let a = added_is (table_of s) h.board i (sent_in x) d o h.matches room _ _ _ _ _ _ _ f
+      refl refl refl refl refl refl refl in
+      plays-it s h (adds i (sent_in x)) z (Item n) h' (rw (r, length-messages o 0 n)) refl (rw r a)
+      lengths (rw (add-one n) (status-added n o.statuses 0 (statuses-known s _ _ _ z) (omega arith)))
+      beyond (others-after G.None h.board.senders i d) (λ v. absurd (omega (arith, v)))

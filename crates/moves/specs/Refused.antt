@@ -1,16 +1,12 @@
 -- What refuses a call by itself, on a board that the first tests accept.
 use Rattle.std.specs.Prelude.{List, ℕ, suc, leb, ltb, get_or}
-use Rattle.model.specs.Basics.{pick, unless}
+use Rattle.model.specs.Basics.{unless}
 use Rattle.model.specs.Tables.{Table}
 use Rattle.model.specs.Shares.{has_room}
 use Rattle.model.specs.Pools.{Call, adds, steps, closes}
 use Rattle.state.specs.Views.{idle_is, sender_steps}
 use Rattle.boards.specs.Boards.{HeldBoard, closed_in, zero_sender}
 use Rattle.adds.specs.Refusals.{refusal_by}
-
--- a sender's place; that of the first for one past the last
-abbrev pub place_of : ℕ → ℕ
-place_of i = pick (ltb i 32) i 0
 
 -- rules 6.4, 6.5, 9.8 and 9.9: 8 to 11, 19 or 26 for an add, 8 or 13 for a step, 20 for a close; 0 for none
 abbrev pub call_refusal : Table → HeldBoard → List ℕ → Call → ℕ

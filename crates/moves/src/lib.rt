@@ -1,8 +1,7 @@
 // What a call does: refused by itself, or a move, computed from its sender and the lists.
 #![tactic(auto)]
 
-ghost use Rattle.std.specs.Prelude.{◌≡◌, true, List, ℕ, ◌<◌, length, get_or};
-ghost use Rattle.model.specs.Tables.{Table};
+ghost use Rattle.std.specs.Prelude.{◌≡◌, true, ℕ, ◌<◌, length, get_or};
 ghost use Rattle.model.specs.Layout.{table_refusal, table_of};
 ghost use Rattle.model.specs.Effects.{number_of};
 ghost use Rattle.model.specs.Pools.{adds, steps};
@@ -16,10 +15,10 @@ ghost use Rattle.rows.specs.Decoded.{board_from};
 ghost use Rattle.refusals.specs.Held.{held_of, Accepted};
 ghost use Rattle.refusals.specs.Calls.{refusal_of, caller_of, Plays};
 ghost use Rattle.writes.specs.Moves.{moved_held, Fits};
-ghost use Rattle.moves.specs.Refused.{place_of, call_refusal};
+ghost use Rattle.moves.specs.Refused.{call_refusal};
 
 use boards::{Call, Sent};
-use state::{Change, Said};
+use state::{Change, Effect, Said};
 use writes::Move;
 
 // The number of the sender that calls.
@@ -27,51 +26,28 @@ pub fn caller_of(call: Call) -> u16
     ensures { result ≡ caller_of (call_in call) }
 {
     match call {
-        Call::Add(i, _) => i,
-        Call::Step(i) => i,
+        Call::Add(i, _) | Call::Step(i) => i,
     }
-}
-
-// A sender's place on the board; that of the first for one past the last.
-fn place_of(i: u16) -> u8
-    ensures { (result ≡ place_of i) × (result < 32) }
-{
-    if i < 32 {
-        return i as u8;
-    }
-    0
-}
-
-// The number that refuses a step of sender i; 0 for none.
-fn step_refusal(board: &[u16], i: u16) -> u8
-    requires { encodes board.now ≡ true }
-    ensures { (t : Table) (keys : List ℕ)
-        → result ≡ call_refusal t (board_from board.now) keys (steps i) }
-{
-    if i >= 32 {
-        return 8;
-    }
-    if !rows::may_step(board, i as u8) {
-        return 13;
-    }
-    0
 }
 
 // The number that refuses a call by itself; 0 for none.
+#[tactic(auto, using(writes::proofs::Places::board_lengths))]
 pub fn call_refusal(table: &[u8], board: &[u16], keys: &[u32], call: Call) -> u8
     requires { (table_refusal table.now ≡ 0) × (encodes board.now ≡ true) × (length keys.now ≡ keys_len) }
     ensures { result ≡ call_refusal (table_of table.now) (board_from board.now)
         keys.now (call_in call) }
 {
     match call {
+        Call::Add(i, _) | Call::Step(i) if i >= 32 => 8,
         Call::Add(i, x) => {
-            let place = place_of(i);
+            let place = i as u8;
             let idle = rows::is_idle(board, place);
             let timely = closes::day_open(board[boards::CLOSED], keys[boards::CLOSE_DAY], x.day);
             let room = shares::has_room(boards::tallies(board), place);
             adds::add_refusal(table, i, idle, timely, x, room)
         }
-        Call::Step(i) => step_refusal(board, i),
+        Call::Step(i) if !rows::may_step(board, i as u8) => 13,
+        Call::Step(_) => 0,
     }
 }
 
@@ -83,17 +59,16 @@ fn add_move(table: &[u8], n: u16, x: Sent) -> Move
         → Plays table.now h (adds i (sent_in x)) (said_in result.said) (moved_held h i result) }
     ensures by_index { ((k : ℕ) → Fits n k result) × (number_of (said_in result.said) ≡ 0) }
 {
-    let low = x.channel as u8;
     Move {
         said: Said::Item(n),
-        sender: adds::new_sender(table, n, low),
-        adds: true,
-        sent: x,
+        sender: adds::new_sender(table, n, x.channel as u8),
+        added: Some(x),
         change: Change::None,
     }
 }
 
 // A step of the sender at a place. The messages below `start` are consumed.
+#[tactic(auto, using(writes::proofs::Places::board_lengths))]
 fn step_move(
     table: &[u8],
     board: &[u16],
@@ -115,10 +90,13 @@ fn step_move(
     ensures fits { Fits (get_or board.now 0 0) (get_or board.now 1 0) result
         × (number_of (said_in result.said) ≡ 0) }
 {
-    let d = rows::sender_at(board, i);
-    let e = steps::effect_of(
+    let Effect {
+        said,
+        change,
+        sender,
+    } = steps::effect_of(
         table,
-        d,
+        rows::sender_at(board, i),
         start,
         board[0],
         board[1],
@@ -128,25 +106,16 @@ fn step_move(
         links,
         boards::backoffs(board),
     );
-    let said = e.said;
-    let sender = e.sender;
-    let change = e.change;
     Move {
-        said: said,
-        sender: sender,
-        adds: false,
-        sent: Sent {
-            channel: 0,
-            property: 0,
-            cents: 0,
-            day: 0,
-            unit: 0,
-        },
-        change: change,
+        said,
+        sender,
+        added: None,
+        change,
     }
 }
 
 // What a call does that is not refused, on lists that the first tests accept.
+#[tactic(auto, using(writes::proofs::Places::board_lengths))]
 pub fn move_of(
     table: &[u8],
     board: &[u16],

@@ -1,17 +1,10 @@
 -- Calls played one after another: what they say and leave is the model's schedule, and what each leaves alone stays.
-use mathlib.Core.Path.{◌≡◌, refl, sym, ap, subst, ◌∙◌}
-use mathlib.Core.Logic.{◌≢◌}
-use mathlib.Core.Bool.{Bool, true, false}
-use mathlib.Core.List.{List, [], ◌∷◌, map}
-use Prim.Native.Nat.{ℕ, zero, suc, ◌+◌, ◌*◌, ◌-◌, ◌<◌, ◌≤◌}
-use native.Mathlib.Omega.{arith}
-use lib.ListN.{drop, take}
-use lib.Seq.{drop-drop, take-take}
+use Rattle.std.proofs.Common.{◌≡◌, ◌≢◌, ℕ, zero, suc, ◌+◌, ◌*◌, ◌-◌, ◌<◌, ◌≤◌, Bool, true, false, List, [], ◌∷◌, map}
+use Rattle.std.proofs.Common.{drop-drop, take-take, refl, sym, ap, subst, ◌∙◌, true≢false, arith}
 use Rattle.model.specs.Layout.{table_of}
 use Rattle.model.specs.Boards.{Board}
 use Rattle.model.specs.Effects.{Said}
 use Rattle.model.specs.Pools.{Call, answer_to, after_all, history}
-use Rattle.model.proofs.Tests.{never}
 use Rattle.columns.specs.Columns.{list_from}
 use Rattle.state.specs.declared.Sender as DD
 use Rattle.boards.specs.Calls.{Held}
@@ -24,11 +17,10 @@ use Rattle.plays.specs.Replays.{answer_number, answer_numbers, PlaysInTurn}
 pub same-on : {A : Type 0} (n m : ℕ) (xs ys : List A) → n ≤ m → SameFrom n xs ys → SameFrom m xs ys
 same-on n m xs ys l e =
     let z : n + (m - n) ≡ m = omega arith in
-    ap (λ k. drop k xs) (sym z) ∙ sym (drop-drop (m - n) n xs) ∙ ap (drop (m - n)) e ∙ drop-drop (m - n) n ys
-    ∙ ap (λ k. drop k ys) z
+    rw (← z, ← drop-drop (m - n) n xs, ← drop-drop (m - n) n ys, e)
 
 same_up : {A : Type 0} (n m : ℕ) (xs ys : List A) → n ≤ m → SameTo m xs ys → SameTo n xs ys
-same_up n m xs ys l e = sym (take-take n m xs l) ∙ ap (take n) e ∙ take-take n m ys l
+same_up n m xs ys l e = rw (← take-take n m xs l, ← take-take n m ys l, e)
 
 beyond-then : (h g i : Held) → Beyond h g → Beyond g i → Beyond h i
 beyond-then h g i p q =
@@ -61,7 +53,7 @@ beyond-then h g i p q =
       where
         go : (u : Bool) → g.board.closed ≡ u → u ≡ false
         go false f = refl
-        go true f = absurd (never (sym e ∙ q.stays_closed f))
+        go true f = absurd (true≢false (sym (q.stays_closed f) ∙ e))
 
 row-then : (d e f : DD.Sender) → SameRow d e → SameRow e f → SameRow d f
 row-then d e f p q = record {

@@ -1,12 +1,15 @@
 -- A replay (rule 6.7): calls lent in rows, played one after another on a board that is tested once.
-use Rattle.std.specs.Prelude.{◌≡◌, ◌≢◌, Bool, List, [], ◌∷◌, ◌++◌, map, ℕ, ◌+◌, ◌*◌, ◌<◌, ◌≤◌, eqb, leb, ℤ, pos, length, get_or, drop}
+use Rattle.std.specs.Prelude.{◌≡◌, ◌≢◌, Bool, List, [], ◌∷◌, ◌++◌, map, ℕ, ◌+◌, ◌*◌, ◌<◌, ◌≤◌, eqb, leb, ℤ, pos, length}
+use Rattle.std.specs.Prelude.{get_or, drop}
 use Rattle.model.specs.Basics.{all_of, pick, unless, first_of}
 use Rattle.model.specs.Layout.{table_of}
 use Rattle.model.specs.Effects.{Said, word_of, value_of, number_of}
 use Rattle.model.specs.Pools.{Call, adds, steps, closes, Exchange, after_all, history}
 use Rattle.columns.specs.Columns.{list_from}
-use Rattle.boards.specs.Calls.{Held}
+use Rattle.boards.specs.Calls.{Held, call_in}
 use Rattle.refusals.specs.Calls.{board_of, refusal_of, Beyond, caller_of, row_at, SameRow, Plays}
+use Rattle.plays.specs.declared.Row as DR
+use Rattle.plays.specs.declared.Row.TheVariants as R
 
 -- the lent calls, a row each: of `calls` the kind, the sender, the channel and the unit, of `numbers` the property and
 -- the day
@@ -41,15 +44,14 @@ sender_call c k =
       unit = get_or c.calls (4 * k + 3) 0;
     }))
 
--- the day of a call; 0 for a step
-abbrev pub day_of : Call → ℕ
-day_of (adds i x) = x.day
-day_of (steps i) = 0
-day_of (closes day) = day
-
 -- kind 2 is a close, which no sender makes
 abbrev pub call_at : CallRows → ℕ → Call
 call_at c k = pick (eqb (kind_at c k) 2) (closes (day_at c k)) (sender_call c k)
+
+-- the call that a row is
+abbrev pub row_in : DR.Row → Call
+row_in (R.Close day) = closes day
+row_in (R.Of call) = call_in call
 
 abbrev pub calls_of : CallRows → List Call
 calls_of c = list_from (call_at c) 0 (calls_len c)

@@ -1,8 +1,7 @@
 // One call, and a list of calls, in place on lists that the first tests accept.
 #![tactic(auto)]
 
-ghost use Rattle.std.specs.Prelude.{◌≡◌, true, List, ℕ, ◌+◌, ◌*◌, ◌<◌, ◌≤◌, eqb, ℤ, length, get_or};
-ghost use Rattle.model.specs.Basics.{pick};
+ghost use Rattle.std.specs.Prelude.{◌≡◌, true, List, ℕ, ◌+◌, ◌*◌, ◌<◌, ◌≤◌, ℤ, length, get_or};
 ghost use Rattle.model.specs.Pools.{closes};
 ghost use Rattle.columns.specs.Columns.{Passed};
 ghost use Rattle.state.specs.Views.{said_in};
@@ -11,7 +10,7 @@ ghost use Rattle.boards.specs.Layout.{keys_len, lists, statuses_in};
 ghost use Rattle.rows.specs.Numbers.{encodes};
 ghost use Rattle.refusals.specs.Held.{held_of, Accepted};
 ghost use Rattle.plays.specs.Plays.{PlaysIn};
-ghost use Rattle.plays.specs.Replays.{call_rows, kind_at, sender_call, day_of, call_at, rows_fit, answer_number};
+ghost use Rattle.plays.specs.Replays.{call_rows, row_in, call_at, rows_fit, answer_number};
 ghost use Rattle.plays.specs.Replays.{Fit, PlaysAll};
 
 use boards::{Call, Sent};
@@ -25,17 +24,32 @@ pub struct Answer {
     pub start: u16,
 }
 
+impl Answer {
+    // What is said, with its number.
+    fn new(said: Said, start: u16) -> Answer
+        ensures { (result.said ≡ said) × (result.number ≡ answer_number (said_in said)) × (result.start ≡ start) }
+    {
+        Answer {
+            said,
+            number: answer_number(said),
+            start,
+        }
+    }
+}
+
 // An answer as one number.
+#[tactic(auto, unfolding(crate::specs::Replays::answer_number))]
 pub fn answer_number(said: Said) -> u32
     ensures { result ≡ answer_number (said_in said) }
 {
-    let word = state::word_of(said) as u32;
-    let value = state::value_of(said) as u32;
-    let number = state::number_of(said) as u32;
+    let word = u32::from(state::word_of(said));
+    let value = u32::from(state::value_of(said));
+    let number = u32::from(state::number_of(said));
     word * 65536 + (value + number)
 }
 
 // A sender's call. The messages below `start` are consumed, so that no look reads them.
+#[tactic(auto, using(writes::proofs::Places::board_lengths))]
 pub fn play(
     table: &[u8],
     board: &mut [u16],
@@ -57,27 +71,17 @@ pub fn play(
 {
     let refusal = moves::call_refusal(table, board, keys, call);
     if refusal != 0 {
-        let refused = Said::Refused(refusal);
-        return Answer {
-            said: refused,
-            number: answer_number(refused),
-            start: start,
-        };
+        return Answer::new(Said::Refused(refusal), start);
     }
     let m = moves::move_of(table, board, bytes, links, keys, cents, call, start);
-    let said = m.said;
-    let c = m.change;
     let i = moves::caller_of(call) as u8;
     writes::write_move(m, i, board, bytes, links, keys, cents);
-    let next = writes::start_after(c, start, board[0], bytes);
-    Answer {
-        said: said,
-        number: answer_number(said),
-        start: next,
-    }
+    let next = writes::start_after(m.change, start, board[0], bytes);
+    Answer::new(m.said, next)
 }
 
 // A close of the days up to one.
+#[tactic(auto, using(writes::proofs::Places::board_lengths))]
 pub fn close(board: &mut [u16], keys: &mut [u32], day: u32) -> Said
     requires { (encodes board.old ≡ true) × (length keys.old ≡ keys_len) }
     ensures by_index { (s bytes links : List ℕ) (cents : List ℤ)
@@ -94,24 +98,14 @@ pub fn close(board: &mut [u16], keys: &mut [u32], day: u32) -> Said
     Said::Closed
 }
 
-// The day of a sender's call; 0 for a step.
-fn day_of(call: Call) -> u32
-    ensures { result ≡ day_of (call_in call) }
-{
-    match call {
-        Call::Add(_, x) => x.day,
-        Call::Step(_) => 0,
-    }
-}
-
-// A row of the lent calls: a sender's call, or a close of its day.
+// A row of the lent calls: a close of the days up to one, or a sender's call.
 #[derive(Clone, Copy)]
-struct Row {
-    closes: bool,
-    call: Call,
+enum Row {
+    Close(u32),
+    Of(Call),
 }
 
-// A row: a close of its call's day, or the call. The messages below `start` are consumed.
+// A row, played. The messages below `start` are consumed.
 fn turn(
     table: &[u8],
     board: &mut [u16],
@@ -126,49 +120,39 @@ fn turn(
     requires passed { Passed start (get_or board.old 0 0) (statuses_in bytes.old) }
     ensures plays_in { PlaysIn table.now
         (lists board.old bytes.old links.old keys.old cents.old)
-        (pick row.closes (closes (day_of (call_in row.call))) (call_in row.call)) (said_in result.said)
+        (row_in row) (said_in result.said)
         (lists board.new bytes.new links.new keys.new cents.new) }
     ensures number_value { result.number ≡ answer_number (said_in result.said) }
     ensures passed_2 { Passed result.start (get_or board.new 0 0) (statuses_in bytes.new) }
 {
-    let call = row.call;
-    if row.closes {
-        let said = close(board, keys, day_of(call));
-        return Answer {
-            said: said,
-            number: answer_number(said),
-            start: start,
-        };
+    match row {
+        Row::Close(day) => Answer::new(close(board, keys, day), start),
+        Row::Of(call) => play(table, board, bytes, links, keys, cents, call, start),
     }
-    play(table, board, bytes, links, keys, cents, call, start)
 }
 
-// The row of a call.
+// The row of a call: kind 0 is a step, 2 a close, any other an add.
+#[tactic(auto, unfolding(crate::specs::Replays::sender_call))]
 fn row_at(calls: &[u16], numbers: &[u32], amounts: &[i64], k: usize) -> Row
     requires { (4 * k + 4 ≤ length calls.now) × (2 * k + 2 ≤ length numbers.now) × (k < length amounts.now) }
-    ensures call_value { call_in result.call
-        ≡ sender_call (call_rows calls.now numbers.now amounts.now) k }
-    ensures closes_value { result.closes
-        ≡ eqb (kind_at (call_rows calls.now numbers.now amounts.now) k) 2 }
+    ensures { row_in result ≡ call_at (call_rows calls.now numbers.now amounts.now) k }
 {
     let at = 4 * k;
     let i = calls[at + 1];
-    if calls[at] == 0 {
-        return Row {
-            closes: false,
-            call: Call::Step(i),
-        };
-    }
-    let x = Sent {
-        channel: calls[at + 2],
-        property: numbers[2 * k],
-        cents: amounts[k],
-        day: numbers[2 * k + 1],
-        unit: calls[at + 3],
-    };
-    Row {
-        closes: calls[at] == 2,
-        call: Call::Add(i, x),
+    let day = numbers[2 * k + 1];
+    match calls[at] {
+        0 => Row::Of(Call::Step(i)),
+        2 => Row::Close(day),
+        _ => {
+            let x = Sent {
+                channel: calls[at + 2],
+                property: numbers[2 * k],
+                cents: amounts[k],
+                day,
+                unit: calls[at + 3],
+            };
+            Row::Of(Call::Add(i, x))
+        }
     }
 }
 
@@ -203,23 +187,21 @@ pub fn replay_core(
         (lists board.new bytes.new links.new keys.new cents.new) }
 {
     let mut said = Said::Ended;
-    let mut start: u16 = 0;
-    let mut k: usize = 0;
-    while k < amounts.len() {
+    let mut start = 0;
+    for k in 0..amounts.len() {
         let row = row_at(calls, numbers, amounts, k);
         let a = turn(table, board, bytes, links, keys, cents, row, start);
         said = a.said;
         answers[k] = a.number;
         start = a.start;
-        k += 1;
     }
     said
 }
 
 // Whether the lists of calls have as many rows.
+#[tactic(auto, unfolding(crate::specs::Replays::rows_fit))]
 pub fn rows_fit(calls: &[u16], numbers: &[u32], amounts: &[i64]) -> bool
     ensures { result ≡ rows_fit (call_rows calls.now numbers.now amounts.now) }
 {
-    let n = amounts.len();
-    (calls.len() == 4 * n) & (numbers.len() == 2 * n)
+    calls.len() == 4 * amounts.len() && numbers.len() == 2 * amounts.len()
 }

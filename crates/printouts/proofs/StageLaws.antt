@@ -1,7 +1,7 @@
 -- What a chunk of the input, its end and a part of the report add to what was printed.
-use mathlib.Core.Path.{◌≡◌, refl, sym, ap, subst, ◌∙◌}
-use mathlib.Core.Bool.{Bool, true, false}
-use mathlib.Core.List.{List, [], ◌∷◌, ◌++◌, append-nil, append_assoc}
+use mathlib.Core.Path.{◌≡◌, sym, ap, subst, ◌∙◌}
+use mathlib.Core.Bool.{Bool, true, false, ◌||◌}
+use mathlib.Core.List.{List, [], ◌++◌, append-nil, append_assoc}
 use Prim.Native.Nat.{ℕ, ◌<◌, ◌≤◌}
 use native.Mathlib.Omega.{arith}
 use borrow.Author.Tests.{ne_eqb}
@@ -9,7 +9,7 @@ use lib.Dec.{eqb}
 use lib.ListN.{length, get_or, take}
 use Rattle.model.specs.Layout.{table_of}
 use Rattle.model.specs.Sessions.{fed, input_ends, session_of}
-use Rattle.model.proofs.Tests.{never, other-false, eqb_no}
+use Rattle.model.proofs.Tests.{never}
 use Rattle.columns.specs.Columns.{Passed}
 use Rattle.boards.specs.Layout.{Lists, statuses_in}
 use Rattle.refusals.specs.Held.{held_of, Accepted}
@@ -19,7 +19,7 @@ use Rattle.sessions.specs.Serves.{session, ServesChunk, ServesEnd}
 use Rattle.reports.specs.Parts.{lines_on, line_count, all_lines, between}
 use Rattle.reports.proofs.PartLaws.{parts-on}
 use Rattle.printouts.specs.declared.Stage as DS
-use Rattle.printouts.specs.Stages.{read_of, Serving, Reporting, SoFarBy, SoFar, Stands, Advances, done_on, taken}
+use Rattle.printouts.specs.Stages.{read_of, Serving, Reporting, SoFarBy, SoFar, Stands, Advances, taken}
 use Rattle.printouts.proofs.SessionLaws.{after, fed-on, ends_on}
 
 module _ (s before text : List ℕ) {l l' : Lists} {c : DC.Carry} {at : ℕ} {out : List ℕ} (p : Serving s before text c l)
@@ -72,77 +72,49 @@ serving : (s before text : List ℕ) (l : Lists) (g : DS.Stage) → g.ended ≡ 
     → Serving s before text g.carry l
 serving s before text l g e p = subst (λ (b : Bool). SoFarBy b s before text g l) e p
 
-module _ (s : List ℕ) (l : Lists) (g : DS.Stage) (w : Stands s l g) where
-  -- a turn while the input goes on, from what it adds
-  module _ (l' : Lists) (at : ℕ) (out : List ℕ) (e : g.ended ≡ false) (start : ℕ)
-      (passed : Passed start (get_or l'.board 0 0) (statuses_in l'.bytes)) where
-    advances : (input : List ℕ) (c' : DC.Carry) (ended : Bool) → ended ≡ eqb (length input) 0 → Accepted s l'
-        → c'.len ≤ 81 → at ≤ length out
-        → ((before text : List ℕ) → Serving s before text g.carry l
-        → SoFar s (before ++ input) (text ++ take at out) (stage c' start 0 ended) l')
-        → Advances s l g input l' (stage c' start 0 ended) at out
-    advances input c' ended z a k room on =
-        let p : (before text : List ℕ) → SoFar s before text g l
-        → SoFar s (before ++ taken g.ended input) (text ++ take at out) (stage c' start 0 ended) l'
-        = λ before text q. rw e (on before text (serving s before text l g e q)) in
-        record {
-          prints = p;
-          ends = rw e z;
-          further = λ y. never (sym e ∙ y);
-          stands = record {
-            accepted = a;
-            passed = passed;
-            kept = k;
-            listed = omega arith;
-            input = w.input ++ taken g.ended input;
-            text = w.text ++ take at out;
-            reached = p w.input w.text w.reached;
-          };
-          room = room;
-        }
+module _ {s : List ℕ} {l : Lists} {g : DS.Stage} (w : Stands s l g) where
+  -- a turn, from what it adds
+  turn : {l' : Lists} {g' : DS.Stage} {at : ℕ} {out input : List ℕ}
+      → ((before text : List ℕ) → SoFar s before text g l
+      → SoFar s (before ++ taken g.ended input) (text ++ take at out) g' l')
+      → g'.ended ≡ (g.ended || eqb (length input) 0) → (g.ended ≡ true → g.next < g'.next) → Accepted s l'
+      → Passed g'.start (get_or l'.board 0 0) (statuses_in l'.bytes) → g'.carry.len ≤ 81
+      → g'.next ≤ line_count l'.board → at ≤ length out → Advances s l g input l' g' at out
+  turn {l'} {g'} {at} {out} {input} p ends further a passed k n room = record {
+    prints = p;
+    ends = ends;
+    further = further;
+    stands = record {
+      accepted = a;
+      passed = passed;
+      kept = k;
+      listed = n;
+      input = w.input ++ taken g.ended input;
+      text = w.text ++ take at out;
+      reached = p w.input w.text w.reached;
+    };
+    room = room;
+  }
 
-    pub chunk-advances : (input : List ℕ) (c' : DC.Carry) → 0 < length input
-        → ServesChunk s l g.carry input l' c' at out → Advances s l g input l' (stage c' start 0 false) at out
-    chunk-advances input c' h q =
-        advances input c' false (sym (ne_eqb (length input) 0 (λ z. omega (arith, z, h)))) q.accepted q.kept
-        q.room (λ before text p. chunk-on s before text p input q)
+  module _ {l' : Lists} {at : ℕ} {out : List ℕ} (e : g.ended ≡ false) {start : ℕ}
+      (passed : Passed start (get_or l'.board 0 0) (statuses_in l'.bytes)) where
+    pub chunk-advances : {input : List ℕ} {c' : DC.Carry} → 0 < length input
+        → ServesChunk s l g.carry input l' c' at out → Advances s l g input l' (stage c' start 0 g.ended) at out
+    chunk-advances {input} {c'} h q =
+        turn (λ before text p. rw e (chunk-on s before text (serving s before text l g e p) input q))
+        (rw e (sym (ne_eqb (length input) 0 (λ z. omega (arith, z, h))))) (λ y. never (sym e ∙ y)) q.accepted passed
+        q.kept (omega arith) q.room
 
     pub end-advances : 104 ≤ length out → ServesEnd s l g.carry l' at out
         → Advances s l g [] l' (stage g.carry start 0 true) at out
     end-advances h q =
-        advances [] g.carry true refl q.accepted w.kept (omega (arith, h, q.room))
-        (λ before text p. end_on s before text p q)
+        turn (λ before text p. rw e (end_on s before text (serving s before text l g e p) q)) (rw e)
+        (λ y. never (sym e ∙ y)) q.accepted passed w.kept (omega arith) (omega (arith, h, q.room))
 
   -- the report goes on
-  pub unfinished : g.ended ≡ true → done_on l.board g ≡ false → g.next < line_count l.board
-  unfinished e d =
-      omega (arith, w.listed, eqb_no g.next (line_count l.board) (other-false g.ended _ d e))
-
-  pub part-advances : (m at : ℕ) (out : List ℕ) → g.ended ≡ true → g.next < m → m ≤ line_count l.board
+  pub part-advances : {m at : ℕ} {out : List ℕ} → g.ended ≡ true → g.next < m → m ≤ line_count l.board
       → at ≤ length out → take at out ≡ all_lines (between g.next m (lines_on s l))
       → (input : List ℕ) → Advances s l g input l (stage g.carry g.start m g.ended) at out
-  part-advances m at out e h n room q input =
-      let p : (before text : List ℕ) → SoFar s before text g l
-      → SoFar s (before ++ taken g.ended input) (text ++ take at out) (stage g.carry g.start m g.ended) l
-      = λ before text z. rw e (part-on s before text at out h q (rw e at z)) in
-      record {
-        prints = p;
-        ends = rw e;
-        further = λ y. h;
-        stands = record {
-          accepted = w.accepted;
-          passed = w.passed;
-          kept = w.kept;
-          listed = n;
-          input = w.input ++ taken g.ended input;
-          text = w.text ++ take at out;
-          reached = p w.input w.text w.reached;
-        };
-        room = room;
-      }
-
--- a read that puts no bytes
-pub end_read : (s : List ℕ) (l : Lists) (g : DS.Stage) (input : List ℕ) (l' : Lists) (g' : DS.Stage) (at : ℕ)
-    (out : List ℕ) → length input ≡ 0 → Advances s l g [] l' g' at out → Advances s l g input l' g' at out
-end_read s l g [] l' g' at out e a = a
-end_read s l g (b ∷ bs) l' g' at out e a = absurd (omega (arith, e))
+  part-advances {m} {at} {out} e h n room q input =
+      turn (λ before text z. rw e (part-on s before text at out h q (rw e at z))) (rw e) (λ y. h) w.accepted w.passed
+      w.kept n room

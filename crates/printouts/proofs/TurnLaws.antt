@@ -1,15 +1,12 @@
--- Turns, one more, and until all is printed.
-use mathlib.Core.Path.{◌≡◌, refl, ap, ◌∙◌, sym, subst}
-use mathlib.Core.Bool.{true}
+-- Turns, and one more.
+use mathlib.Core.Path.{refl, ap, ◌∙◌, sym, subst}
 use mathlib.Core.List.{List, [], ◌∷◌, ◌++◌, append-nil, append_assoc}
 use Prim.Native.Nat.{ℕ}
 use lib.ListN.{take}
-use Rattle.model.specs.Boards.{builtin_backoffs}
 use Rattle.boards.specs.Layout.{Lists}
-use Rattle.schedules.specs.Schedules.{Opened}
 use Rattle.printouts.specs.declared.Stage as DS
-use Rattle.printouts.specs.Stages.{Begins, Advances, done_on}
-use Rattle.printouts.specs.Prints.{Turns, Turned, Advanced, ServesAll}
+use Rattle.printouts.specs.Stages.{Advances}
+use Rattle.printouts.specs.Prints.{Turns, Turned, Advanced}
 
 module _ (s : List ℕ) where
   more : (l : Lists) (g : DS.Stage) (reads : List (List ℕ)) (text : List ℕ) (m : Lists) (h : DS.Stage)
@@ -46,21 +43,3 @@ module _ (s : List ℕ) where
       → Turned s l g m h → Advanced s m h l' g' → Turned s l g l' g'
   turned_more l g m h l' g' (reads, text, t) (input, at, out, a) =
       (reads ++ (input ∷ []), text ++ take at out, more l g reads text m h input l' g' at out t a)
-
-  pub turned-all : (l : Lists) (g : DS.Stage) (l' : Lists) (g' : DS.Stage) → Opened s builtin_backoffs l → Begins g
-      → Turned s l g l' g' → done_on l'.board g' ≡ true
-      → (reads : List (List ℕ)) × (text : List ℕ) × ServesAll s reads text
-  turned-all l g l' g' o b (reads, text, t) d = (
-    reads,
-    text,
-    record {
-      first = l;
-      opened = o;
-      begun = g;
-      begins = b;
-      last = l';
-      reached = g';
-      turns = t;
-      done = d;
-    },
-  )

@@ -1,6 +1,7 @@
 -- How far the program is (rules 8.2 to 8.5): what has been printed after the bytes that were read, and what a turn adds
 -- to both.
-use Rattle.std.specs.Prelude.{◌≡◌, Bool, true, false, ◌&&◌, ◌||◌, List, [], ◌++◌, ℕ, ◌<◌, ◌≤◌, eqb, length, get_or, take}
+use Rattle.std.specs.Prelude.{◌≡◌, Bool, true, false, ◌&&◌, ◌||◌, List, [], ◌++◌, ℕ, ◌<◌, ◌≤◌, eqb, length, get_or}
+use Rattle.std.specs.Prelude.{take}
 use Rattle.model.specs.Layout.{table_of}
 use Rattle.model.specs.Boards.{empty_board, builtin_backoffs}
 use Rattle.model.specs.Sessions.{Session, fed, session_of}

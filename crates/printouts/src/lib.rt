@@ -31,7 +31,7 @@ pub fn begin() -> Stage
     ensures { Begins result }
 {
     Stage {
-        carry: sessions::no_bytes(),
+        carry: Carry::new(),
         start: 0,
         next: 0,
         ended: false,
@@ -50,7 +50,7 @@ pub fn is_done(board: &[u16], stage: Stage) -> bool
     requires { (length board.now ≡ board_len) × (line_count board.now ≤ 2049) }
     ensures { result ≡ done_on board.now stage }
 {
-    stage.ended & (stage.next == reports::line_count(board))
+    stage.ended && stage.next == reports::line_count(board)
 }
 
 // A chunk of the input.
@@ -73,7 +73,6 @@ fn take_chunk(
         (lists board.new bytes.new links.new keys.new cents.new)
         result.stage result.at out.new }
 {
-    let carry = stage.carry;
     let served = sessions::serve_chunk(
         table,
         board,
@@ -81,20 +80,18 @@ fn take_chunk(
         links,
         keys,
         cents,
-        carry,
+        stage.carry,
         input,
         out,
         stage.start,
     );
-    let rest = served.carry;
-    let next = Stage {
-        carry: rest,
-        start: served.start,
-        next: 0,
-        ended: false,
-    };
     Turn {
-        stage: next,
+        stage: Stage {
+            carry: served.carry,
+            start: served.start,
+            next: 0,
+            ..stage
+        },
         at: served.at,
     }
 }
@@ -118,7 +115,6 @@ fn end_input(
         (lists board.new bytes.new links.new keys.new cents.new)
         result.stage result.at out.new }
 {
-    let carry = stage.carry;
     let served = sessions::serve_end(
         table,
         board,
@@ -126,18 +122,17 @@ fn end_input(
         links,
         keys,
         cents,
-        carry,
+        stage.carry,
         out,
         stage.start,
     );
-    let next = Stage {
-        carry: carry,
-        start: served.start,
-        next: 0,
-        ended: true,
-    };
     Turn {
-        stage: next,
+        stage: Stage {
+            start: served.start,
+            next: 0,
+            ended: true,
+            ..stage
+        },
         at: served.at,
     }
 }
@@ -162,10 +157,11 @@ fn report_more(
         result.stage result.at out.new }
 {
     let part = reports::report_part(table, board, bytes, links, keys, cents, stage.next, out);
-    let mut next = stage;
-    next.next = part.next;
     Turn {
-        stage: next,
+        stage: Stage {
+            next: part.next,
+            ..stage
+        },
         at: part.at,
     }
 }
@@ -194,7 +190,7 @@ pub fn advance(
     if stage.ended {
         return report_more(table, board, bytes, links, keys, cents, stage, out);
     }
-    if input.len() == 0 {
+    if input.is_empty() {
         return end_input(table, board, bytes, links, keys, cents, stage, out);
     }
     take_chunk(table, board, bytes, links, keys, cents, stage, input, out)

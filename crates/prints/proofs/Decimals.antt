@@ -27,31 +27,31 @@ digits_same (suc f) (suc g) n h k =
     (λ l. rw (digits_more f n l, digits_more g n l, digits_same f g (n / 10) (omega arith) (omega arith)))
 
 module _ (n : ℕ) where
-  pub decimal-small : n < 10 → decimal n ≡ digit n ∷ []
+  pub decimal_small : n < 10 → decimal n ≡ digit n ∷ []
   unfolding decimal
-  decimal-small h = digits-small n n h
+  decimal_small h = digits-small n n h
 
-  pub decimal-more : 10 ≤ n → decimal n ≡ decimal (n / 10) ++ (digit (n % 10) ∷ [])
+  pub decimal_more : 10 ≤ n → decimal n ≡ decimal (n / 10) ++ (digit (n % 10) ∷ [])
   unfolding decimal
-  decimal-more h = rw (digits_more n n h, digits_same n (suc (n / 10)) (n / 10) (omega arith) (omega arith))
+  decimal_more h = rw (digits_more n n h, digits_same n (suc (n / 10)) (n / 10) (omega arith) (omega arith))
 
-  pub length-small : n < 10 → length (decimal n) ≡ 1
-  length-small h = rw (decimal-small h)
+  pub length_small : n < 10 → length (decimal n) ≡ 1
+  length_small h = rw (decimal_small h)
 
   pub length_more : 10 ≤ n → length (decimal n) ≡ length (decimal (n / 10)) + 1
-  length_more h = rw (decimal-more h) (length-append (decimal (n / 10)) (digit (n % 10) ∷ []))
+  length_more h = rw (decimal_more h) (length-append (decimal (n / 10)) (digit (n % 10) ∷ []))
 
 -- a number below the power has at most so many digits
 few-digits : (k n : ℕ) → n < 10 ^ suc k → length (decimal n) ≤ suc k
-few-digits zero n h = omega (arith, length-small n (omega arith))
+few-digits zero n h = omega (arith, length_small n (omega arith))
 few-digits (suc k) n h =
     by-range n 10
-    (λ l. omega (arith, length-small n l))
+    (λ l. omega (arith, length_small n l))
     (λ l. omega (arith, length_more n l, few-digits k (n / 10) (omega arith)))
 
 -- of the widths that are printed
-pub digits-16 : (n : ℕ) → n < 2 ^ 16 → length (decimal n) ≤ 5
-digits-16 n h = few-digits 4 n (omega arith)
+pub digits_16 : (n : ℕ) → n < 2 ^ 16 → length (decimal n) ≤ 5
+digits_16 n h = few-digits 4 n (omega arith)
 
-pub digits-63 : (n : ℕ) → n ≤ 2 ^ 63 → length (decimal n) ≤ 19
-digits-63 n h = few-digits 18 n (omega arith)
+pub digits_63 : (n : ℕ) → n ≤ 2 ^ 63 → length (decimal n) ≤ 19
+digits_63 n h = few-digits 18 n (omega arith)

@@ -4,10 +4,9 @@ use mathlib.Core.List.{List, [], ◌∷◌, ◌++◌, append-nil, append_assoc}
 use Prim.Native.Nat.{ℕ, ◌+◌, ◌<◌}
 use native.Mathlib.Omega.{arith}
 use native.Mathlib.Numerals.{add-one}
-use lib.ListN.{length, get_or, set, take, length-append}
+use lib.ListN.{length, get_or, take, length-append}
 use lib.Seq.{length-sets, take-suc}
-use lib.IntN.{ℤ}
-use Rattle.model.specs.Printing.{decimal, signed, spaced, spaced_all, match_text, rule_text, cents_text}
+use Rattle.model.specs.Printing.{spaced, spaced_all}
 use Rattle.model.proofs.Parts.{sets-append}
 use Rattle.prints.specs.Printed.{Printed}
 
@@ -26,14 +25,6 @@ kept {out} {done} {at} {r} {s} p = rw p.bytes (length-sets out at s)
 pub none : (out : List ℕ) (at : ℕ) → Printed out at [] at out
 none out at = record { place = omega arith; bytes = refl }
 
-pub byte : (out : List ℕ) (at b : ℕ) → Printed out at (b ∷ []) (at + 1) (set out at b)
-byte out at b = record { place = refl; bytes = refl }
-
--- one byte more of a text
-pub text-next : {out done : List ℕ} {at r : ℕ} (s : List ℕ) (i : ℕ) → i < length s
-    → Printed out at (take i s) r done → Printed out at (take (i + 1) s) (r + 1) (set done r (get_or s i 0))
-text-next {out} {done} {at} {r} s i h p = rw (add-one i, take-suc s i 0 h) (then p (byte done r (get_or s i 0)))
-
 spaced-last : (ns : List ℕ) (n : ℕ) → spaced_all (ns ++ (n ∷ [])) ≡ spaced_all ns ++ spaced n
 spaced-last [] n = append-nil (spaced n)
 spaced-last (m ∷ ns) n = rw (spaced-last ns n) (sym (append_assoc (spaced m) (spaced_all ns) (spaced n)))
@@ -43,13 +34,3 @@ pub items-next : {out mid done : List ℕ} {at p r : ℕ} (ns : List ℕ) (i : �
     → Printed out at (spaced_all (take i ns)) p mid → Printed mid p (spaced (get_or ns i 0)) r done
     → Printed out at (spaced_all (take (i + 1) ns)) r done
 items-next ns i h p q = rw (add-one i, take-suc ns i 0 h, spaced-last (take i ns) (get_or ns i 0)) (then p q)
-
--- what stands after the head of a match line
-pub after-head : (k c : ℕ) (x : ℤ) (y : List ℕ)
-    → match_text ++ (spaced k ++ (rule_text ++ (spaced c ++ (cents_text ++ signed x)))) ++ y
-    ≡ match_text ++ (spaced k ++ (rule_text ++ (spaced c ++ (cents_text ++ (signed x ++ y)))))
-after-head k c x y =
-    rw (
-      append_assoc (decimal k) (rule_text ++ (spaced c ++ (cents_text ++ signed x))) y,
-      append_assoc (decimal c) (cents_text ++ signed x) y,
-    )

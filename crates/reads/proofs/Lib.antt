@@ -1,5 +1,4 @@
 -- Laws of what the reads answer.
 pub mod Sums
-pub mod MatchLaws
 pub mod QuietLaws
 pub mod BoardLaws

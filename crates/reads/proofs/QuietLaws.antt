@@ -1,17 +1,20 @@
 -- Laws of senders that have no step to take.
-use mathlib.Core.Path.{◌≡◌}
-use mathlib.Core.Bool.{Bool, true, false, not, ◌&&◌}
-use mathlib.Core.List.{List, map}
-use Prim.Native.Nat.{ℕ, suc, ◌+◌, ◌<◌, ◌≤◌}
-use native.Mathlib.Numerals.{add-one}
-use lib.ListN.{length, get_or, drop, drop_of_length-le}
-use lib.Seq.{drop-cons}
+use Rattle.std.proofs.Common.{◌≡◌, Bool, true, false, not, ◌&&◌, List, [], ◌∷◌, map, ℕ, suc, ◌+◌, ◌<◌, ◌≤◌, length}
+use Rattle.std.proofs.Common.{get_or, drop, refl, add-one}
+use Rattle.std.specs.List.{list_all}
+use Rattle.std.proofs.Math.ListN.{drop_of_length-le}
+use Rattle.std.proofs.Math.Seq.{drop-cons}
 use Rattle.model.specs.Basics.{every}
 use Rattle.model.specs.Tables.{Table}
 use Rattle.model.specs.Pools.{can_step}
 use Rattle.state.specs.declared.Sender as DD
-use Rattle.state.specs.Views.{sender_in, steps_in}
+use Rattle.state.specs.Views.{sender_in, steps_in, sender_steps}
 use Rattle.state.proofs.StateLaws.{steps-is}
+
+pub quiet_is : (t : Table) (ds : List DD.Sender)
+    → list_all (λ d. not (sender_steps d)) ds ≡ every (λ d. not (can_step d.state d.signalled)) (map (sender_in t) ds)
+quiet_is t [] = refl
+quiet_is t (d ∷ ds) = rw (steps-is d.state _ d.signalled, quiet_is t ds)
 
 module _ (t : Table) (ds : List DD.Sender) where
   -- the senders from i on have no step to take

@@ -1,8 +1,7 @@
 // What the reads answer of a board that was judged before: a message, a match, and whether the board is quiet.
 #![tactic(auto)]
 
-ghost use Rattle.std.specs.Prelude.{◌≡◌, not, map, ℕ, ◌+◌, ◌<◌, ◌≤◌, pos, length, get_or, drop, replicate};
-ghost use Rattle.std.proofs.Math.Seq.{paste};
+ghost use Rattle.std.specs.Prelude.{◌≡◌, not, map, ℕ, ◌+◌, ◌<◌, ◌≤◌, pos, length, get_or, take, drop, replicate};
 ghost use Rattle.model.specs.Basics.{every};
 ghost use Rattle.model.specs.Tables.{Table};
 ghost use Rattle.model.specs.Boards as MB;
@@ -37,6 +36,7 @@ pub struct MatchRead {
 }
 
 // Message n, by its columns.
+#[tactic(auto, unfolding(columns::specs::Columns::message_in))]
 pub fn message_read(
     n: u16,
     channels: &[u8],
@@ -55,7 +55,7 @@ pub fn message_read(
         units.now) n }
     ensures status_value { result.status ≡ get_or statuses.now n 0 }
 {
-    let i = n as usize;
+    let i = usize::from(n);
     MessageRead {
         channel: channels[i],
         property: keys[i],
@@ -69,17 +69,17 @@ pub fn message_read(
 }
 
 // The numbers of match k's messages.
+#[tactic(auto, using(model::proofs::TableLaws::size_few), unfolding(columns::specs::MatchColumns::match_in))]
 fn match_numbers<'a>(table: &[u8], k: u16, chords: &[u8], messages: &'a [u16]) -> &'a [u16]
     requires table_value { table_refusal table.now ≡ 0 }
     requires cases { MatchLent (table_of table.now) (matches_of chords.now messages.now) k }
-    ensures { result.now ≡ (match_in (table_of table.now)
-        (matches_of chords.now messages.now) k).messages }
+    ensures { (result.now ≡ (match_in (table_of table.now) (matches_of chords.now messages.now) k).messages)
+        × (length result.now ≤ 8) }
 {
-    let i = k as usize;
-    let len = table::chord_len(table, chords[i]) as usize;
-    let at = 8 * i;
-    let end = at + len;
-    &messages[at..end]
+    let k = usize::from(k);
+    let len = usize::from(table::chord_len(table, chords[k]));
+    let at = 8 * k;
+    &messages[at..at + len]
 }
 
 // The cents of up to eight messages, by their numbers.
@@ -90,41 +90,22 @@ fn cents_of(numbers: &[u16], cents: &[i64]) -> i64
         ≡ get_or cents.now (get_or numbers.now j 0) (pos 0))
         → result ≡ MB.cents_of t sent numbers.now }
 {
-    let mut sum: i64 = 0;
-    let mut i = numbers.len();
-    while i > 0 {
-        let k = numbers[i - 1] as usize;
-        sum = cents[k] + sum;
-        i -= 1;
+    let mut sum = 0;
+    for k in numbers {
+        sum += cents[usize::from(*k)];
     }
     sum
-}
-
-// The cents of match k on a board whose first n messages have these cents.
-fn match_cents(table: &[u8], k: u16, chords: &[u8], messages: &[u16], n: u16, cents: &[i64]) -> i64
-    requires table_value { table_refusal table.now ≡ 0 }
-    requires readable { Readable (table_of table.now) (matches_of chords.now messages.now) k n cents.now }
-    ensures { (sent : ℕ → MB.Sent)
-        → ((i : ℕ) → i < n → (sent i).cents ≡ get_or cents.now i (pos 0))
-        → result ≡ MB.cents_of (table_of table.now) sent (match_in (table_of table.now)
-        (matches_of chords.now messages.now) k).messages }
-{
-    let numbers = match_numbers(table, k, chords, messages);
-    cents_of(numbers, cents)
 }
 
 // Up to eight numbers by value, 0 past the last.
 fn copied(numbers: &[u16]) -> [u16; 8]
     requires { length numbers.now ≤ 8 }
-    ensures { result ≡ paste (replicate 8 0) 0 numbers.now (length numbers.now) }
+    ensures { (take (length numbers.now) result ≡ numbers.now)
+        × (drop (length numbers.now) result ≡ drop (length numbers.now) (replicate 8 0)) }
 {
-    let mut r: [u16; 8] = [0; 8];
-    let mut i = 0;
-    while i < numbers.len() {
-        r[i] = numbers[i];
-        i += 1;
-    }
-    r
+    let mut copy = [0; 8];
+    copy[..numbers.len()].copy_from_slice(numbers);
+    copy
 }
 
 // Match k on a board whose first n messages have these cents.
@@ -146,10 +127,10 @@ pub fn match_read(
 {
     let numbers = match_numbers(table, k, chords, messages);
     MatchRead {
-        chord: chords[k as usize],
+        chord: chords[usize::from(k)],
         len: numbers.len() as u8,
         messages: copied(numbers),
-        cents: match_cents(table, k, chords, messages, n, cents),
+        cents: cents_of(numbers, cents),
     }
 }
 
@@ -158,13 +139,5 @@ pub fn is_quiet(senders: [Sender; 32]) -> bool
     ensures { (t : Table)
         → result ≡ every (λ d. not (can_step d.state d.signalled)) (map (sender_in t) senders) }
 {
-    let mut i: usize = 0;
-    while i < 32 {
-        let d = senders[i];
-        if state::can_step(d) {
-            return false;
-        }
-        i += 1;
-    }
-    true
+    senders.iter().all(|d| !state::can_step(*d))
 }

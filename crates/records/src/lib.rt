@@ -22,12 +22,9 @@ pub fn claim(messages: &mut [Message], n: usize) -> bool
     ensures { (result ≡ claimable messages.old n)
         × (messages.new ≡ claimed_at messages.old n) }
 {
-    if n >= messages.len() {
-        return false;
+    let pending = n < messages.len() && messages[n].status == 0;
+    if pending {
+        messages[n].status = 1;
     }
-    if messages[n].status != 0 {
-        return false;
-    }
-    messages[n].status = 1;
-    true
+    pending
 }

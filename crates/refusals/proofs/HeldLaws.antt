@@ -1,10 +1,10 @@
 -- What the lists hold where the first tests accept them, and where not.
 use mathlib.Core.Path.{◌≡◌, refl}
-use mathlib.Core.Bool.{Bool, true, false, ◌&&◌}
+use mathlib.Core.Bool.{true}
 use mathlib.Core.List.{List}
-use Prim.Native.Nat.{ℕ, zero, suc}
+use Prim.Native.Nat.{ℕ}
 use native.Mathlib.Omega.{arith}
-use Rattle.model.specs.Basics.{first_of, unless, pick}
+use Rattle.model.specs.Basics.{first_of, unless}
 use Rattle.model.specs.Layout.{table_refusal}
 use Rattle.boards.specs.Layout.{Lists, lists_ok, Sized, columns_in, matches_in}
 use Rattle.boards.proofs.PartLaws.{length_part}
@@ -33,6 +33,9 @@ columns-sized l n = record {
   messages_len = length_part 2048 8192 l.links (omega (arith, n.links-len));
 }
 
+lent-sized : (l : Lists) → lists_ok l ≡ true → lent_ok (columns_in l) (matches_in l) ≡ true
+lent-sized l e = lengths-ok (columns_in l) (matches_in l) (columns-sized l (sized-by l e))
+
 -- lists that hold nothing are refused
 refusal-none : (s : List ℕ) → refusal_of s nothing ≡ first_of (table_refusal s) 30
 unfolding board_refusal lent_ok
@@ -42,25 +45,11 @@ refusal-none s = refl
 pub refusal_is : (s : List ℕ) (l : Lists)
     → refusal_of s (held_in l) ≡ first_of (table_refusal s) (unless (lists_ok l) 30 (unless (sound_in s l) 30 0))
 unfolding held_in board_refusal
-refusal_is s l = go (lists_ok l) (encodes l.board) refl refl
-  where
-    go : (x y : Bool) → lists_ok l ≡ x → encodes l.board ≡ y
-        → refusal_of s (pick (x && y) (held_of l) nothing)
-        ≡ first_of (table_refusal s) (unless x 30 (unless (sound_in s l) 30 0))
-    go false y e f = refusal-none s
-    go true false e f = rw f (refusal-none s)
-    go true true e f = rw (f, lengths-ok (columns_in l) (matches_in l) (columns-sized l (sized-by l e)))
-
-some-refusal : (x : ℕ) {A : Type 0} → first_of x 30 ≡ 0 → A
-some-refusal zero e = absurd (omega arith)
-some-refusal (suc x) e = absurd (omega arith)
+refusal_is s l = grind (arith, refusal-none, lent-sized)
 
 pub accepted-lists : (s : List ℕ) (l : Lists) → refusal_of s (held_in l) ≡ 0 → Accepted s l
-unfolding held_in board_refusal lent_ok
-accepted-lists s l z = go (lists_ok l) (encodes l.board) refl refl z
-  where
-    go : (x y : Bool) → lists_ok l ≡ x → encodes l.board ≡ y → refusal_of s (pick (x && y) (held_of l) nothing) ≡ 0
-        → Accepted s l
-    go false y e f z = some-refusal (table_refusal s) z
-    go true false e f z = some-refusal (table_refusal s) z
-    go true true e f z = record { numbers = f; sized = sized-by l e; accepted = z }
+unfolding held_in board_refusal
+accepted-lists s l z =
+    let listed : lists_ok l ≡ true = grind (arith, refusal-none) in
+    let coded : encodes l.board ≡ true = grind (arith, refusal-none) in
+    record { numbers = coded; sized = sized-by l listed; accepted = rw (listed, coded) at z }

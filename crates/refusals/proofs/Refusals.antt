@@ -5,8 +5,6 @@ use mathlib.Core.List.{List}
 use Prim.Native.Nat.{ℕ, ◌≤◌}
 use native.Mathlib.Omega.{arith}
 use borrow.Author.Tests.{eqb-true}
-use lib.Dec.{eqb}
-use lib.ListN.{length}
 use Rattle.model.specs.Boards.{backoffs_pass}
 use Rattle.model.specs.Layout.{table_refusal, table_of}
 use Rattle.model.specs.Sound.{sound}
@@ -18,33 +16,24 @@ use Rattle.columns.specs.MatchColumns.{MatchColumns, match_in}
 use Rattle.columns.proofs.ListFrom.{length_from}
 use Rattle.columns.proofs.Messages.{length-messages}
 use Rattle.boards.specs.Boards.{HeldBoard, board_in}
-use Rattle.boards.specs.Layout.{keys_len}
 use Rattle.refusals.specs.Judged.{lent_ok, statuses_ok, board_refusal, Lengths}
+use Rattle.refusals.proofs.Parts.{parts}
 
 module _ (c : Columns) (m : MatchColumns) where
   -- lent columns that are accepted, by their lengths
   pub lengths-by : lent_ok c m ≡ true → Lengths c m
   unfolding lent_ok
-  lengths-by e =
-      let e1 = both {t = eqb (length c.channels) 1024} e in
-      let e2 = both {t = eqb (length c.keys) keys_len} e1.1 in
-      let e3 = both {t = eqb (length c.cents) 1024} e2.1 in
-      let e4 = both {t = eqb (length c.statuses) 1024} e3.1 in
-      let e5 = both {t = eqb (length c.matched) 1024} e4.1 in
-      let e6 = both {t = eqb (length c.wakers) 1024} e5.1 in
-      let e7 = both {t = eqb (length c.units) 1024} e6.1 in
-      let e8 = both {t = eqb (length m.chords) 1024} e7.1 in
-      record {
-        channels-len = eqb-true _ _ e1.0;
-        keys-len = eqb-true _ _ e2.0;
-        cents-len = eqb-true _ _ e3.0;
-        statuses_len = eqb-true _ _ e4.0;
-        matched_len = eqb-true _ _ e5.0;
-        wakers_len = eqb-true _ _ e6.0;
-        units_len = eqb-true _ _ e7.0;
-        chords-len = eqb-true _ _ e8.0;
-        messages_len = eqb-true _ _ e8.1;
-      }
+  lengths-by e = record {
+    channels-len = search (parts, eqb-true) depth 30;
+    keys-len = search (parts, eqb-true) depth 30;
+    cents-len = search (parts, eqb-true) depth 30;
+    statuses_len = search (parts, eqb-true) depth 30;
+    matched_len = search (parts, eqb-true) depth 30;
+    wakers_len = search (parts, eqb-true) depth 30;
+    units_len = search (parts, eqb-true) depth 30;
+    chords-len = search (parts, eqb-true) depth 30;
+    messages_len = search (parts, eqb-true) depth 30;
+  }
 
 module _ (s : List ℕ) (b : HeldBoard) (c : Columns) (m : MatchColumns) (e : board_refusal s b c m ≡ 0) where
   -- the three tests, all passed

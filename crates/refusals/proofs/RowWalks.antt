@@ -1,21 +1,24 @@
 -- Laws of the senders' numbers walked from the front.
-use mathlib.Core.Path.{◌≡◌, refl, ◌∙◌}
-use mathlib.Core.Bool.{Bool, true, false, ◌&&◌}
+use mathlib.Core.Path.{◌≡◌, refl}
+use mathlib.Core.Bool.{◌&&◌}
 use mathlib.Core.List.{List, map}
-use Prim.Native.Nat.{ℕ, zero, suc, ◌+◌, ◌*◌, ◌-◌, ◌<◌, ◌≤◌}
-use lib.ListN.{get_or, take, drop, length}
+use Prim.Native.Nat.{ℕ, zero, suc, ◌+◌, ◌*◌, ◌<◌}
+use lib.ListN.{get_or, drop, length}
 use lib.Seq.{drop-drop}
 use native.Mathlib.Omega.{arith}
+use Rattle.std.specs.List.{list_all, range_with_len}
 use Rattle.model.specs.Basics.{every}
 use Rattle.model.specs.Tables.{Table}
 use Rattle.model.specs.Boards.{Board}
 use Rattle.model.specs.Sound.{sender_ok}
+use Rattle.model.proofs.Tests.{same_test, and}
 use Rattle.state.specs.declared.Sender as DD
 use Rattle.state.specs.Views.{sender_in}
-use Rattle.rows.specs.Numbers.{encodes_sender, encodes_senders}
+use Rattle.rows.specs.Numbers.{encodes_senders}
 use Rattle.rows.proofs.DecodeLaws.{sender-from}
 use Rattle.rows.specs.Decoded.{board_from, sender_from, senders_from}
-use Rattle.refusals.specs.Rows.{row, row_sender, row_ok, rows_ok, senders_in}
+use Rattle.refusals.specs.Rows.{row, row_ok, rows_ok, senders_in}
+use Rattle.refusals.proofs.Parts.{parts}
 
 -- The senders of the numbers
 
@@ -29,6 +32,16 @@ pub nth-sender : (s : List ℕ) (i : ℕ) (z : DD.Sender) → i < 32
 unfolding board_from
 nth-sender s i z h = sender-from s i z h
 
+-- the senders from place i on, as any function of them
+pub senders-all : {A : Type 0} (f : DD.Sender → A) (s : List ℕ) (n i : ℕ)
+    → map (λ j. f (sender_from (row s (2 + 21 * j)))) (range_with_len i n)
+    ≡ map f (senders_from n (drop (2 + 21 * i) s))
+unfolding senders_from
+senders-all f s zero i = refl
+senders-all f s (suc n) i =
+    let z : 2 + 21 * i + 21 ≡ 2 + 21 * (i + 1) = omega arith in
+    rw (drop-drop 21 (2 + 21 * i) s, z, senders-all f s n (i + 1))
+
 -- Their tests
 
 module _ (t : Table) (b : Board) where
@@ -36,31 +49,15 @@ module _ (t : Table) (b : Board) where
       ≡ (encodes_senders n s && every (sender_ok t b) (map (sender_in t) (senders_from n s)))
   unfolding rows_ok row_ok encodes_senders senders_from
   rows_are zero s = refl
-  rows_are (suc n) s = rw (rows_are n (drop 21 s))
-      (swapped (encodes_sender (take 21 s)) (sender_ok t b (row_sender t (take 21 s))) _ _)
-    where
-      swapped : (u v x y : Bool) → ((u && v) && (x && y)) ≡ ((u && x) && (v && y))
-      swapped true true x y = refl
-      swapped true false true y = refl
-      swapped true false false y = refl
-      swapped false v x y = refl
+  rows_are (suc n) s =
+      rw (rows_are n (drop 21 s))
+      (same_test (λ e. search (parts, and) depth 20) (λ e. search (parts, and) depth 20))
 
-  module _ (s : List ℕ) (i : ℕ) (h : i < 32) where
-    rows_step : rows_ok t b (32 - i) (drop (2 + 21 * i) s)
-        ≡ (row_ok t b (row s (2 + 21 * i)) && rows_ok t b (32 - (i + 1)) (drop (2 + 21 * (i + 1)) s))
-    unfolding rows_ok
-    rows_step =
-        let e : 32 - i ≡ suc (32 - (i + 1)) = omega arith in
-        let z : 2 + 21 * i + 21 ≡ 2 + 21 * (i + 1) = omega arith in
-        rw (e, drop-drop 21 (2 + 21 * i) s, z)
-
-    pub rows-no : row_ok t b (row s (2 + 21 * i)) ≡ false → rows_ok t b (32 - i) (drop (2 + 21 * i) s) ≡ false
-    rows-no e = rows_step ∙ rw e
-
-    pub rows_next : row_ok t b (row s (2 + 21 * i)) ≡ true
-        → rows_ok t b (32 - i) (drop (2 + 21 * i) s) ≡ rows_ok t b (32 - (i + 1)) (drop (2 + 21 * (i + 1)) s)
-    rows_next e = rows_step ∙ rw e
-
-  pub rows_none : (i : ℕ) (s : List ℕ) → 32 ≤ i → rows_ok t b (32 - i) s ≡ true
+  -- the rows from place i on
+  pub rows_all : (s : List ℕ) (n i : ℕ)
+      → list_all (λ j. row_ok t b (row s (2 + 21 * j))) (range_with_len i n) ≡ rows_ok t b n (drop (2 + 21 * i) s)
   unfolding rows_ok
-  rows_none i s h = let e : 32 - i ≡ 0 = omega arith in rw e
+  rows_all s zero i = refl
+  rows_all s (suc n) i =
+      let z : 2 + 21 * i + 21 ≡ 2 + 21 * (i + 1) = omega arith in
+      rw (drop-drop 21 (2 + 21 * i) s, z, rows_all s n (i + 1))

@@ -1,16 +1,14 @@
 -- The lines of the report on accepted lists, one by one.
-use mathlib.Core.Path.{◌≡◌, refl, ap, subst, sym, ◌∙◌}
-use mathlib.Core.Bool.{Bool, true, false}
+use mathlib.Core.Path.{◌≡◌, refl, ap, sym, ◌∙◌}
 use mathlib.Core.List.{List, [], ◌∷◌, ◌++◌}
 use Prim.Native.Nat.{ℕ, zero, suc, ◌+◌, ◌<◌, ◌≤◌}
 use native.Mathlib.Nat.{not-suc-le-zero, le_of_suc-le-suc}
 use native.Mathlib.Omega.{arith}
-use borrow.Author.Rules.{rules}
 use lib.ListN.{length, get_or, length-map, length-append, get_or-map, get_or-append}
 use lib.Seq.{get_or_at}
 use Rattle.model.specs.Tables.{Table}
 use Rattle.model.specs.Boards as MB
-use Rattle.model.specs.Pools.{MatchRead, read_match, match_reads, quiet}
+use Rattle.model.specs.Pools.{read_match, match_reads, quiet}
 use Rattle.model.specs.Printing.{match_line, open_line, quiet_line}
 use Rattle.model.proofs.Parts.{nth-second}
 use Rattle.columns.specs.Columns.{Columns, message_in, status_of}
@@ -18,16 +16,8 @@ use Rattle.columns.specs.MatchColumns.{MatchColumns, match_in}
 use Rattle.columns.proofs.ListFrom.{length_from}
 use Rattle.columns.proofs.Messages.{length-messages, nth-message}
 use Rattle.boards.specs.Boards.{HeldBoard, board_in}
-use Rattle.reads.specs.declared.MatchRead as DR
-use Rattle.reads.specs.Reads.{read_of}
 use Rattle.reads.proofs.BoardLaws.{match-at}
-use Rattle.prints.specs.Printed.{Printed}
 use Rattle.reports.specs.Parts.{item_line, message_line, numbered, report_lines}
-
--- the line of a match by what is read of it
-pub as_read : {at r : ℕ} {out done : List ℕ} (k : ℕ) (m : DR.MatchRead) (x : MatchRead) → read_of m ≡ x
-    → Printed out at (match_line k (read_of m)) r done → Printed out at (match_line k x) r done
-as_read {at} {r} {out} {done} k m x e = subst (λ (y : MatchRead). Printed out at (match_line k y) r done) e
 
 -- a consumed message has no line, another has one
 pub item-none : (n s : ℕ) → 3 ≤ s → item_line n (status_of s) ≡ []
@@ -41,10 +31,6 @@ item-line n zero h = refl
 item-line n (suc zero) h = refl
 item-line n (suc (suc zero)) h = refl
 item-line n (suc (suc (suc s))) h = absurd (omega arith)
-
-pub quiet_short : (q : Bool) → length (quiet_line q) ≤ 10
-quiet_short true = search rules
-quiet_short false = search rules
 
 module _ {A : Type 0} (f : ℕ → A → List ℕ) where
   numbered-count : (k : ℕ) (xs : List A) → length (numbered f k xs) ≡ length xs

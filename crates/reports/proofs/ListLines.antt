@@ -4,7 +4,7 @@ use mathlib.Core.List.{List, []}
 use Prim.Native.Nat.{ℕ, ◌+◌, ◌<◌, ◌≤◌}
 use native.Mathlib.Omega.{arith}
 use lib.IntN.{pos}
-use lib.ListN.{length, get_or, take}
+use lib.ListN.{length, get_or}
 use Rattle.model.specs.Boards as MB
 use Rattle.model.specs.Layout.{table_refusal, table_of}
 use Rattle.model.specs.Pools.{read_match, quiet}
@@ -22,8 +22,7 @@ use Rattle.reads.specs.Reads.{Readable}
 use Rattle.reads.proofs.BoardLaws.{cents-at}
 use Rattle.calls.proofs.ListReads as Reads
 use Rattle.prints.specs.Printed.{Printed}
-use Rattle.reports.specs.Parts.{item_line, lines_on, line_count, all_lines, between}
-use Rattle.reports.proofs.PartLaws.{Lined, lined-kept, lined-text}
+use Rattle.reports.specs.Parts.{item_line, lines_on, line_count}
 use Rattle.reports.proofs.BoardLines.{lines-count, match-line, open-line, last_line}
 
 module _ (s : List ℕ) (l : Lists) where
@@ -80,10 +79,3 @@ module _ (s : List ℕ) (l : Lists) where
     last-printed i e p =
         subst (λ (w : List ℕ). Printed out at w r done)
         (last_line (table_of s) (held_of l).board (columns_in l) (matches_in l) i e) p
-
-  -- where no further line is printed
-  pub part-ends : {k n at : ℕ} {out done : List ℕ} → Lined (lines_on s l) k out n at done → k < n
-      → ((k < n) × (n ≤ line_count l.board))
-      × ((at ≤ length done) × (take at done ≡ all_lines (between k n (lines_on s l))))
-  part-ends p h =
-      ((h, omega (arith, p.listed, counted)), (omega (arith, p.inside, lined-kept p), lined-text p))

@@ -7,7 +7,7 @@ use lib.ListN.{length, get_or, take, drop, length-drop}
 use lib.Seq.{take-add, take-suc, get_or-drop}
 use Rattle.model.proofs.Parts.{take-sets}
 use Rattle.prints.specs.Printed.{Printed}
-use Rattle.prints.proofs.Texts.{then, kept, none}
+use Rattle.prints.proofs.Texts.{then, none}
 use Rattle.reports.specs.Parts.{all_lines, between}
 
 pub joined-append : (vs ws : List (List ℕ)) → all_lines (vs ++ ws) ≡ all_lines vs ++ all_lines ws
@@ -41,38 +41,22 @@ written {out} {done} {text} {at} p h =
 
 -- lines k to n - 1 stand at the start of the buffer
 pub record Lined (ws : List (List ℕ)) (k : ℕ) (out : List ℕ) (n at : ℕ) (done : List ℕ) : Type 0 where
-  pub begun : k ≤ n
-  pub listed : n ≤ length ws
   pub inside : at ≤ length out
   pub moved : 1 ≤ at → k < n
   pub text : Printed out 0 (all_lines (between k n ws)) at done
 
 module _ {ws : List (List ℕ)} {k : ℕ} where
   -- no line yet
-  pub lined-none : (out : List ℕ) → k ≤ length ws → Lined ws k out k 0 out
-  lined-none out h =
+  pub lined-none : (out : List ℕ) → Lined ws k out k 0 out
+  lined-none out =
       let z : k - k ≡ 0 = omega arith in
-      record {
-        begun = omega arith;
-        listed = h;
-        inside = omega arith;
-        moved = λ l. omega arith;
-        text = rw z (none out 0);
-      }
+      record { inside = omega arith; moved = λ l. omega arith; text = rw z (none out 0) }
 
   -- one line more
-  pub lined-next : {out mid done : List ℕ} {n at r : ℕ} → Lined ws k out n at mid → n < length ws
+  pub lined-next : {out mid done : List ℕ} {n at r : ℕ} → Lined ws k out n at mid → k ≤ n → n < length ws
       → Printed mid at (get_or ws n []) r done → r ≤ length out → Lined ws k out (n + 1) r done
-  lined-next {out} {mid} {done} {n} {at} {r} p l q h = record {
-    begun = omega (arith, p.begun);
-    listed = omega arith;
-    inside = h;
-    moved = λ m. omega (arith, p.begun);
-    text = line-next ws k n p.begun l p.text q;
-  }
-
-  pub lined-kept : {out done : List ℕ} {n at : ℕ} → Lined ws k out n at done → length done ≡ length out
-  lined-kept p = kept p.text
+  lined-next {out} {mid} {done} {n} {at} {r} p b l q h =
+      record { inside = h; moved = λ m. omega (arith, b); text = line-next ws k n b l p.text q }
 
   pub lined-text : {out done : List ℕ} {n at : ℕ} → Lined ws k out n at done
       → take at done ≡ all_lines (between k n ws)

@@ -33,7 +33,8 @@ fn put_match_line(
     out: &mut [u8],
     at: usize,
 ) -> usize
-    requires table_value { (table_refusal table.now ≡ 0) × (length bytes.now ≡ bytes_len) × (length links.now ≡ links_len) }
+    requires table_value { (table_refusal table.now ≡ 0) × (length bytes.now ≡ bytes_len)
+        × (length links.now ≡ links_len) }
     requires readable { Readable (table_of table.now) (matches_of (chords_in bytes.now) (members_in links.now)) k n
         cents.now }
     requires at_in_bounds { at + 104 ≤ length out.old }
@@ -58,7 +59,7 @@ fn put_open_line(bytes: &[u8], n: u16, out: &mut [u8], at: usize) -> usize
         (item_line n (status_of (get_or (statuses_in bytes.now) n 0))) result out.new }
     ensures upper_bound { result ≤ at + 19 }
 {
-    let status = bytes[boards::STATUSES + (n as usize)];
+    let status = bytes[boards::STATUSES + usize::from(n)];
     if status >= 3 {
         return at;
     }
@@ -126,14 +127,12 @@ pub fn report_part(
         cents.now))) }
 {
     let all = line_count(board);
-    let mut next = from;
-    let mut at: usize = 0;
-    while next < all {
+    let mut at = 0;
+    for next in from..all {
         if out.len() - at < 104 {
-            return Part { next: next, at: at };
+            return Part { next, at };
         }
         at = put_line(table, board, bytes, links, keys, cents, next, out, at);
-        next += 1;
     }
-    Part { next: next, at: at }
+    Part { next: all, at }
 }

@@ -17,19 +17,17 @@ fn resumed(table: &[u8], d: Sender, n: u16, waker: u16, channel: u8) -> Sender
         → sender_in (table_of table.now) result
         ≡ MS.resumed (table_of table.now) b (sender_in (table_of table.now) d) n }
 {
-    let pass = state::new_pass(table, n, channel, 0);
     Sender {
         state: State::Working,
         signalled: false,
-        own: d.own,
-        waker: waker,
-        reply: d.reply,
-        matched: d.matched,
-        job: pass,
+        waker,
+        job: state::new_pass(table, n, channel, 0),
+        ..d
     }
 }
 
 // Answers with the match of a consumed message, resumes a woken one, and stays blocked on another.
+#[tactic(auto, unfolding(model::specs::Steps::resume_step))]
 pub fn resume_step(
     table: &[u8],
     d: Sender,
@@ -45,24 +43,24 @@ pub fn resume_step(
         → effect_in (table_of table.now) result
         ≡ MS.resume_step (table_of table.now) b (sender_in (table_of table.now) d) }
 {
-    if status < 2 {
-        return Effect {
+    match status {
+        0 | 1 => Effect {
             said: Said::Ended,
             change: Change::None,
             sender: state::stays_blocked(d, false),
-        };
-    }
-    let n = state::less(d.own);
-    if status == 2 {
-        return Effect {
-            said: Said::Resumed,
-            change: Change::Turn(n, Turn::Resumes),
-            sender: resumed(table, d, n, waker, channel),
-        };
-    }
-    Effect {
-        said: Said::Answered(state::less(matched)),
-        change: Change::None,
-        sender: state::goes_idle(d, matched),
+        },
+        2 => {
+            let n = state::less(d.own);
+            Effect {
+                said: Said::Resumed,
+                change: Change::Turn(n, Turn::Resumes),
+                sender: resumed(table, d, n, waker, channel),
+            }
+        }
+        _ => Effect {
+            said: Said::Answered(state::less(matched)),
+            change: Change::None,
+            sender: state::goes_idle(d, matched),
+        },
     }
 }

@@ -1,10 +1,8 @@
 -- The board that numbers are has these numbers, and its senders are those of their parts.
 use mathlib.Core.Path.{◌≡◌, refl, sym, ap, ◌∙◌}
-use mathlib.Core.Bool.{true, false}
-use mathlib.Core.List.{List, [], ◌∷◌, ◌++◌, append_assoc}
+use mathlib.Core.Bool.{true}
+use mathlib.Core.List.{List, ◌∷◌, ◌++◌, append_assoc}
 use Prim.Native.Nat.{ℕ, zero, suc, ◌+◌, ◌*◌, ◌<◌, ◌≤◌}
-use borrow.Author.Tests.{eqb-false}
-use lib.Dec.{eqb}
 use lib.ListN.{length, get_or, take, drop, length-drop, take-append-drop}
 use lib.Seq.{drop-drop, drop-cons, length-take-le, take_all}
 use native.Mathlib.Omega.{arith}
@@ -15,53 +13,12 @@ use Rattle.state.specs.declared.Sender as DD
 use Rattle.boards.specs.Layout.{board_len, closed_at, tallies_at, backoffs_at, tallies_in, backoffs_in}
 use Rattle.boards.specs.Parts.{part}
 use Rattle.boards.proofs.PartLaws.{length_part}
-use Rattle.rows.specs.Numbers.{state_number, phase_numbers, sender_numbers, senders_numbers, board_numbers}
-use Rattle.rows.specs.Numbers.{placeless, encodes_phase, encodes_sender, encodes_senders, encodes}
-use Rattle.rows.specs.Decoded.{state_from, phase_from, sender_from, senders_from, board_from}
-use Rattle.rows.specs.Fits.{SenderFits, SendersFit, BoardFits}
-use Rattle.rows.proofs.PhaseLaws.{kind_fits, no_place, no_second}
-use Rattle.rows.proofs.SenderLaws.{sender-fits, sender-is}
+use Rattle.rows.specs.Numbers.{senders_numbers, board_numbers}
+use Rattle.rows.specs.Numbers.{encodes_sender, encodes_senders, encodes}
+use Rattle.rows.specs.Decoded.{sender_from, senders_from, board_from}
+use Rattle.rows.specs.Fits.{SendersFit, BoardFits}
+use Rattle.rows.proofs.SenderLaws.{sender-from-back}
 use Rattle.rows.proofs.WalkLaws.{counts-read, all-numbers}
-
-state-from : (n : ℕ) → n ≤ 2 → state_number (state_from n) ≡ n
-state-from zero h = refl
-state-from (suc zero) h = refl
-state-from (suc (suc zero)) h = refl
-state-from (suc (suc (suc n))) h = absurd (omega arith)
-
--- a phase with no second number, and one with no place either
-module _ (n k s : ℕ) (e : encodes_phase n k s ≡ true) (p : eqb n 3 ≡ false) (q : eqb n 2 ≡ false) where
-  none : 0 ≡ s
-  none = no_second n k s e (eqb-false n 3 p) (eqb-false n 2 q)
-
-  placed : n ∷ k ∷ 0 ∷ [] ≡ n ∷ k ∷ s ∷ []
-  placed = cc none
-
-  bare : placeless n ≡ true → n ∷ 0 ∷ 0 ∷ [] ≡ n ∷ k ∷ s ∷ []
-  bare z = cc (no_place n k s e z, none)
-
-phase-from : (n k s : ℕ) → encodes_phase n k s ≡ true → phase_numbers (phase_from n k s) ≡ n ∷ k ∷ s ∷ []
-phase-from zero k s e = placed 0 k s e refl refl
-phase-from (suc zero) k s e = placed 1 k s e refl refl
-phase-from (suc (suc zero)) k s e = refl
-phase-from (suc (suc (suc zero))) k s e = refl
-phase-from (suc (suc (suc (suc zero)))) k s e = placed 4 k s e refl refl
-phase-from (suc (suc (suc (suc (suc zero))))) k s e = bare 5 k s e refl refl refl
-phase-from (suc (suc (suc (suc (suc (suc zero)))))) k s e = placed 6 k s e refl refl
-phase-from (suc (suc (suc (suc (suc (suc (suc zero))))))) k s e = bare 7 k s e refl refl refl
-phase-from (suc (suc (suc (suc (suc (suc (suc (suc zero)))))))) k s e = bare 8 k s e refl refl refl
-phase-from (suc (suc (suc (suc (suc (suc (suc (suc (suc zero))))))))) k s e = placed 9 k s e refl refl
-phase-from (suc (suc (suc (suc (suc (suc (suc (suc (suc (suc n)))))))))) k s e =
-    absurd (omega (arith, kind_fits _ k s e))
-
--- 21 numbers that pass are those of their sender, which fits its types
-pub sender-from-back : (a : List ℕ) → length a ≡ 21 → encodes_sender a ≡ true
-    → (sender_numbers (sender_from a) ≡ a) × SenderFits (sender_from a)
-sender-from-back a l ok =
-    let f = sender-fits a ok in
-    sender-is a l ok (sender_from a) (state-from (get_or a 0 0) f.state) (flag-byte (get_or a 1 0) f.signalled) refl
-    refl refl refl refl refl (phase-from (get_or a 8 0) (get_or a 9 0) (get_or a 10 0) f.phase)
-    (flag-byte (get_or a 11 0) f.retry) refl refl
 
 senders-from-back : (n : ℕ) (s : List ℕ) → 21 * n ≤ length s → encodes_senders n s ≡ true
     → (senders_numbers (senders_from n s) ++ drop (21 * n) s ≡ s) × SendersFit (senders_from n s)

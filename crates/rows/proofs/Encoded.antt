@@ -1,45 +1,21 @@
 -- A board's numbers pass, and decode to it.
-use mathlib.Core.Path.{◌≡◌, refl, ap, ◌∙◌}
-use mathlib.Core.Bool.{Bool, true, false, ◌||◌}
-use mathlib.Core.List.{List, [], ◌∷◌, ◌++◌, append_assoc}
-use Prim.Native.Nat.{ℕ, ◌+◌, ◌*◌}
-use borrow.Author.Tests.{le-leb, eq-eqb}
-use lib.Dec.{eqb, leb}
-use lib.ListN.{length, drop, take, length-append}
-use lib.Seq.{take_at, take_all, drop_at, get_or_at, drop-append-add}
-use native.Mathlib.Omega.{arith}
+use Rattle.std.proofs.Common.{◌≡◌, true, List, [], ◌∷◌, ◌++◌, ℕ, ◌+◌, ◌*◌, leb, eq-eqb, length, take, drop}
+use Rattle.std.proofs.Common.{length-append, append_assoc, refl, sym, ap, ◌∙◌, arith, rules, tests}
+use Rattle.std.proofs.Math.Seq.{take_at, take_all, drop_at, get_or_at, drop-append-add}
 use Rattle.model.specs.Basics.{flag}
-use Rattle.model.proofs.Tests.{and, flag_small, flag-read}
-use Rattle.state.specs.declared.Phase as DP
-use Rattle.state.specs.declared.Phase.TheVariants as P
+use Rattle.model.proofs.Tests.{flag_small, flag-read}
 use Rattle.state.specs.declared.State as DS
 use Rattle.state.specs.declared.State.TheVariants as S
 use Rattle.state.specs.declared.Sender as DD
 use Rattle.boards.specs.Boards.{HeldBoard}
 use Rattle.boards.specs.Layout.{board_len, closed_at, tallies_at, backoffs_at, tallies_in, backoffs_in}
 use Rattle.boards.specs.Parts.{part}
-use Rattle.rows.specs.Numbers.{state_number, kind, place, second, sender_numbers, senders_numbers, end_numbers}
-use Rattle.rows.specs.Numbers.{board_numbers, encodes_phase, encodes_sender, encodes_senders, encodes}
-use Rattle.rows.specs.Decoded.{state_from, phase_from, sender_from, senders_from, board_from}
-use Rattle.rows.specs.Fits.{PhaseFits, SenderFits, SendersFit, BoardFits}
+use Rattle.rows.specs.Numbers.{state_number, sender_numbers, senders_numbers, end_numbers}
+use Rattle.rows.specs.Numbers.{board_numbers, encodes_sender, encodes_senders, encodes}
+use Rattle.rows.specs.Decoded.{state_from, sender_from, senders_from, board_from}
+use Rattle.rows.specs.Fits.{SenderFits, SendersFit, BoardFits}
+use Rattle.rows.proofs.PhaseLaws.{numbered}
 use Rattle.rows.proofs.SenderLaws.{numbers-listed, sender-long}
-
-phase-passes : (p : DP.Phase) → PhaseFits p → encodes_phase (kind p) (place p) (second p) ≡ true
-unfolding encodes_phase
-phase-passes (P.Look k) h = rw (le-leb k 255 h)
-phase-passes (P.Claim k) h = rw (le-leb k 255 h)
-phase-passes (P.Revert k claims) h = rw (le-leb k 255 h.0, le-leb claims 255 h.1) (either_way (eqb claims 0))
-  where
-    either_way : (t : Bool) → (t || true) ≡ true
-    either_way true = refl
-    either_way false = refl
-phase-passes (P.Consume k match) h = rw (le-leb k 255 h)
-phase-passes (P.Tell k) h = rw (le-leb k 255 h)
-phase-passes P.Wake h = refl
-phase-passes (P.Free k) h = rw (le-leb k 255 h)
-phase-passes P.Signal h = refl
-phase-passes P.PassEnd h = refl
-phase-passes (P.Backoff k) h = rw (le-leb k 255 h)
 
 state-passes : (s : DS.State) → leb (state_number s) 2 ≡ true
 state-passes S.Idle = refl
@@ -49,10 +25,7 @@ state-passes S.Blocked = refl
 sender-passes : (d : DD.Sender) → SenderFits d → encodes_sender (sender_numbers d) ≡ true
 unfolding encodes_sender
 sender-passes d f =
-    rw (numbers-listed d)
-    (and (state-passes d.state) (and (flag_small d.signalled) (and (le-leb d.job.chord 255 f.chord)
-    (and (phase-passes d.job.phase f.phase) (and (flag_small d.job.retry)
-    (le-leb d.job.retries 255 f.retries))))))
+    rw (numbers-listed d) (search (rules, tests, state-passes, flag_small, (numbered d.job.phase).passes))
 
 pub senders-long : (ds : List DD.Sender) → SendersFit ds → length (senders_numbers ds) ≡ 21 * length ds
 unfolding senders_numbers
@@ -63,18 +36,43 @@ senders-long (d ∷ ds) f =
     let e = senders-long ds f.1 in
     omega (arith, a, b, e)
 
-senders-pass : (ds : List DD.Sender) (rest : List ℕ) → SendersFit ds
-    → encodes_senders (length ds) (senders_numbers ds ++ rest) ≡ true
-unfolding senders_numbers encodes_senders
-senders-pass [] rest f = refl
-senders-pass (d ∷ ds) rest f =
+state-back : (s : DS.State) → state_from (state_number s) ≡ s
+state-back S.Idle = refl
+state-back S.Working = refl
+state-back S.Blocked = refl
+
+pub sender-back : (d : DD.Sender) → sender_from (sender_numbers d) ≡ d
+sender-back d =
+    rw (
+      numbers-listed d,
+      state-back d.state,
+      flag-read d.signalled,
+      (numbered d.job.phase).back,
+      flag-read d.job.retry,
+    )
+
+pub read-back : {d : DD.Sender} {a : List ℕ} → sender_numbers d ≡ a → d ≡ sender_from a
+read-back {d} e = rw (← e) (sym (sender-back d))
+
+-- senders' numbers pass, and are those senders'
+senders-kept : (ds : List DD.Sender) (rest : List ℕ) → SendersFit ds
+    → (encodes_senders (length ds) (senders_numbers ds ++ rest) ≡ true)
+    × (senders_from (length ds) (senders_numbers ds ++ rest) ≡ ds)
+unfolding senders_numbers encodes_senders senders_from
+senders-kept [] rest f = (refl, refl)
+senders-kept (d ∷ ds) rest f =
     let l = sender-long d f.0 in
+    let r = senders-kept ds rest f.1 in
     rw (
       append_assoc (sender_numbers d) (senders_numbers ds) rest,
       take_at (sender_numbers d) (senders_numbers ds ++ rest) 21 l,
       drop_at (sender_numbers d) (senders_numbers ds ++ rest) 21 l,
+      sender-passes d f.0,
+      sender-back d,
+      r.0,
+      r.1,
     )
-    (and (sender-passes d f.0) (senders-pass ds rest f.1))
+    (refl, refl)
 
 -- the numbers of every board that the types can hold pass
 pub encoded-ok : (b : HeldBoard) → BoardFits b → encodes (board_numbers b) ≡ true
@@ -93,49 +91,8 @@ encoded-ok b f =
     ) in
     let z = get_or_at (b.messages ∷ b.matches ∷ senders_numbers b.senders) (flag b.closed)
     (b.tallies ++ b.backoffs) 0 closed_at (omega (arith, l, f.all)) in
-    and (eq-eqb _ board_len n)
-    (and (rw f.all at (senders-pass b.senders (end_numbers b) f.each)) (rw z (flag_small b.closed)))
-
-state-back : (s : DS.State) → state_from (state_number s) ≡ s
-state-back S.Idle = refl
-state-back S.Working = refl
-state-back S.Blocked = refl
-
-phase-back : (p : DP.Phase) → phase_from (kind p) (place p) (second p) ≡ p
-phase-back (P.Look k) = refl
-phase-back (P.Claim k) = refl
-phase-back (P.Revert k claims) = refl
-phase-back (P.Consume k match) = refl
-phase-back (P.Tell k) = refl
-phase-back P.Wake = refl
-phase-back (P.Free k) = refl
-phase-back P.Signal = refl
-phase-back P.PassEnd = refl
-phase-back (P.Backoff k) = refl
-
-pub sender-back : (d : DD.Sender) → sender_from (sender_numbers d) ≡ d
-sender-back d =
-    rw (
-      numbers-listed d,
-      state-back d.state,
-      flag-read d.signalled,
-      phase-back d.job.phase,
-      flag-read d.job.retry,
-    )
-
-senders-back : (ds : List DD.Sender) (rest : List ℕ) → SendersFit ds
-    → senders_from (length ds) (senders_numbers ds ++ rest) ≡ ds
-unfolding senders_numbers senders_from
-senders-back [] rest f = refl
-senders-back (d ∷ ds) rest f =
-    let l = sender-long d f.0 in
-    rw (
-      append_assoc (sender_numbers d) (senders_numbers ds) rest,
-      take_at (sender_numbers d) (senders_numbers ds ++ rest) 21 l,
-      drop_at (sender_numbers d) (senders_numbers ds ++ rest) 21 l,
-      sender-back d,
-      senders-back ds rest f.1,
-    )
+    let p = rw f.all at (senders-kept b.senders (end_numbers b) f.each).0 in
+    rw (eq-eqb _ board_len n, p, z) (flag_small b.closed)
 
 module _ (b : HeldBoard) (f : BoardFits b) where
   abbrev front : List ℕ
@@ -163,7 +120,7 @@ module _ (b : HeldBoard) (f : BoardFits b) where
       let l = senders-long b.senders f.each in
       let z = get_or_at front (flag b.closed) (b.tallies ++ b.backoffs) 0 closed_at (omega (arith, l, f.all)) in
       rw (
-        rw f.all at (senders-back b.senders (end_numbers b) f.each),
+        rw f.all at (senders-kept b.senders (end_numbers b) f.each).1,
         z,
         flag-read b.closed,
         tallies-back,

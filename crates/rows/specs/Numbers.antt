@@ -1,7 +1,8 @@
 -- The board as 723 plain numbers (rules 1.11, 9.8, 9.9 and 9.10): how many messages and matches there are, then 21
 -- numbers for each of 32 senders, then whether a day is closed, how many messages each sender has added, and the
 -- backoff table.
-use Rattle.std.specs.Prelude.{Bool, true, ◌&&◌, ◌||◌, not, List, [], ◌∷◌, ◌++◌, ℕ, zero, suc, eqb, leb, length, get_or, drop, take}
+use Rattle.std.specs.Prelude.{Bool, true, ◌&&◌, ◌||◌, not, List, [], ◌∷◌, ◌++◌, ℕ, zero, suc, eqb, leb, length, get_or}
+use Rattle.std.specs.Prelude.{drop, take}
 use Rattle.model.specs.Basics.{all_of, flag}
 use Rattle.state.specs.declared.Phase as DP
 use Rattle.state.specs.declared.Phase.TheVariants as P

@@ -24,182 +24,103 @@
 //                      with room for R answers
 //     p K I C x D,..   a replay of rows of these five numbers: kind, sender, channel, cents and day; all have property
 //                      7 and unit 0
-ghost use Rattle.std.specs.Prelude.{◌≤◌, ◌<◌, length};
+ghost use Rattle.std.specs.Prelude.{◌<◌, ◌≤◌};
 
 use boards::Sent;
 
-#[derive(Clone, Copy)]
-struct Digits {
-    value: u64,
-    next: usize,
-}
+// How many numbers a part has at most.
+const MOST: usize = 100;
 
+// A fixed buffer and how many of its numbers are the part's; the others are 0.
 #[derive(Clone, Copy)]
 pub struct Part {
-    pub kind: u8,
-    pub len: usize,
-    pub next: usize,
-    pub numbers: [u64; 100],
+    pub kind: char,
+    len: usize,
+    numbers: [u64; MOST],
 }
 
-// Where a byte is next; the end where it is not.
-pub fn find(text: &[u8], at: usize, x: u8) -> usize
-    requires { at ≤ length text.now }
-    ensures { (at ≤ result) × (result ≤ length text.now) }
-{
-    let mut k = at;
-    while k < text.len() {
-        if text[k] == x {
-            return k;
+impl Part {
+    // The part of a text; none of an empty one.
+    pub fn read(text: &str) -> Option<Part> {
+        let kind = text.chars().next()?;
+        let mut numbers = [0; MOST];
+        for (to, digits) in numbers.iter_mut().zip(text.split([' ', ',']).skip(1)) {
+            *to = digits.parse().unwrap_or(0);
         }
-        k += 1;
+        let len = text.split([' ', ',']).skip(1).count();
+        Some(Part { kind, len, numbers })
     }
-    k
-}
 
-// The digits from a place on, as a number.
-fn number(text: &[u8], at: usize) -> Digits
-    requires { at ≤ length text.now }
-    ensures { (at ≤ result.next) × (result.next ≤ length text.now) }
-{
-    let mut value: u64 = 0;
-    let mut k = at;
-    while k < text.len() {
-        let digit = text[k];
-        if digit < b'0' {
-            break;
+    // A part with one number; its message is of property 7, of one cent, and of day and unit 0.
+    pub fn ask(kind: char, i: u16) -> Part {
+        let mut numbers = [0; MOST];
+        numbers[0] = u64::from(i);
+        numbers[2] = 7;
+        numbers[3] = 1;
+        Part {
+            kind,
+            len: 4,
+            numbers,
         }
-        if b'9' < digit {
-            break;
+    }
+
+    pub fn len(&self) -> usize
+        ensures { result ≤ 100 }
+    {
+        self.len.min(MOST)
+    }
+
+    // A number; 0 past the last.
+    fn number(&self, k: usize) -> u64 {
+        self.numbers.get(k).copied().unwrap_or(0)
+    }
+
+    pub fn small(&self, k: usize) -> u16 {
+        (self.number(k) & 0xffff) as u16
+    }
+
+    pub fn long(&self, k: usize) -> u32 {
+        (self.number(k) & 0xffff_ffff) as u32
+    }
+
+    // The numbers as bytes.
+    pub fn bytes(&self) -> [u8; MOST] {
+        self.numbers.map(|n| (n & 0xff) as u8)
+    }
+
+    // An amount; of a part with a capital letter it is as far below -1 as the number says.
+    pub fn amount(&self, k: usize) -> i64 {
+        let x = (self.number(k) % 10000000000000) as i64;
+        if self.kind.is_ascii_uppercase() {
+            !x
+        } else {
+            x
         }
-        value = (value % 100000000000000) * 10 + (digit % 16) as u64;
-        k += 1;
     }
-    Digits {
-        value: value,
-        next: k,
-    }
-}
 
-// The part from a place on.
-pub fn read(text: &[u8], at: usize) -> Part
-    requires { at < length text.now }
-    ensures { (at < result.next) × (result.next ≤ length text.now) }
-{
-    let mut numbers = [0u64; 100];
-    let mut len: usize = 0;
-    let mut k = at + 1;
-    while k < text.len() {
-        if (text[k] != b' ') & (text[k] != b',') {
-            break;
+    // What the part says of a message: channel, property, cents, day and unit, from a number of it on.
+    pub fn sent(&self, k: usize) -> Sent
+        requires { k < 16 }
+    {
+        Sent {
+            channel: self.small(k),
+            property: self.long(k + 1),
+            cents: self.amount(k + 2),
+            day: self.long(k + 3),
+            unit: self.small(k + 4),
         }
-        if 100 <= len {
-            break;
-        }
-        let n = number(text, k + 1);
-        numbers[len] = n.value;
-        len += 1;
-        k = n.next;
     }
-    Part {
-        kind: text[at],
-        len: len,
-        next: k,
-        numbers: numbers,
+
+    // A step, an add, a close, or an opening.
+    pub fn is_call(&self) -> bool {
+        self.is_close() || matches!(self.kind, 's' | 'a' | 'A' | 't' | 'u' | 'o' | 'O')
     }
-}
 
-// A number of a part; 0 past its last.
-pub fn at(p: Part, k: usize) -> u64 {
-    if k < 100 {
-        return p.numbers[k];
+    pub fn is_close(&self) -> bool {
+        matches!(self.kind, 'z' | 'Z')
     }
-    0
-}
 
-pub fn small(p: Part, k: usize) -> u16 {
-    (at(p, k) % 65536) as u16
-}
-
-pub fn long(p: Part, k: usize) -> u32 {
-    (at(p, k) % 4294967296) as u32
-}
-
-// The numbers of a part, as bytes.
-pub fn given(p: Part) -> [u8; 100] {
-    let mut bytes = [0u8; 100];
-    let mut k: usize = 0;
-    while k < 100 {
-        bytes[k] = (at(p, k) % 256) as u8;
-        k += 1;
-    }
-    bytes
-}
-
-// The first number of a part, but 0 where it is a sender's.
-pub fn first(p: Part) -> u16 {
-    if p.kind == b'v' {
-        return 0;
-    }
-    small(p, 0)
-}
-
-// An amount; of a part with a capital letter it is as far below -1 as the number says.
-pub fn amount(p: Part, k: usize) -> i64 {
-    let x = (at(p, k) % 10000000000000) as i64;
-    if p.kind < b'a' {
-        return !x;
-    }
-    x
-}
-
-// What a part says of a message: channel, property, cents, day and unit, from a number of it on.
-pub fn sent(p: Part, k: usize) -> Sent
-    requires { k < 16 }
-{
-    Sent {
-        channel: small(p, k),
-        property: long(p, k + 1),
-        cents: amount(p, k + 2),
-        day: long(p, k + 3),
-        unit: small(p, k + 4),
-    }
-}
-
-// A step, an add, a close, or an opening.
-pub fn is_call(kind: u8) -> bool {
-    (kind == b's')
-        | (kind == b'a')
-        | (kind == b'A')
-        | (kind == b't')
-        | (kind == b'u')
-        | (kind == b'o')
-        | (kind == b'O')
-        | is_close(kind)
-}
-
-pub fn is_step(p: Part) -> bool {
-    (p.kind == b's') | (p.kind == b't')
-}
-
-pub fn is_close(kind: u8) -> bool {
-    (kind == b'z') | (kind == b'Z')
-}
-
-pub fn is_replay(kind: u8) -> bool {
-    (kind == b'w') | (kind == b'p')
-}
-
-// A part with one number; its message is of property 7, of one cent, and of day and unit 0.
-pub fn ask(kind: u8, i: u16) -> Part {
-    let mut numbers = [0u64; 100];
-    numbers[0] = i as u64;
-    numbers[2] = 7;
-    numbers[3] = 1;
-    Part {
-        kind: kind,
-        len: 4,
-        next: 0,
-        numbers: numbers,
+    pub fn is_replay(&self) -> bool {
+        matches!(self.kind, 'w' | 'p')
     }
 }

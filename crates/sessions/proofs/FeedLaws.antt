@@ -1,49 +1,49 @@
 -- Bytes fed to a session: up to a line feed the line grows, and of a line the first 81 bytes tell what it reads as.
-use mathlib.Core.Path.{◌≡◌, refl, ap}
-use mathlib.Core.Bool.{Bool, true, false}
-use mathlib.Core.List.{List, [], ◌∷◌, ◌++◌, append-nil}
-use Prim.Native.Nat.{ℕ, suc, ◌<◌, ◌≤◌}
-use native.Mathlib.Nat.{not-suc-le-zero, le_of_suc-le-suc}
-use native.Mathlib.Omega.{arith}
+use Rattle.std.proofs.Common.{◌≡◌, ℕ, suc, ◌+◌, ◌<◌, ◌≤◌, Bool, true, false, List, [], ◌∷◌, ◌++◌, eqb, leb, length}
+use Rattle.std.proofs.Common.{take, refl, ap, add-one, arith}
+use Rattle.std.specs.List.{position_or_len, before_first, after_first}
+use Rattle.std.proofs.lemmas.List.{take_all, length-take-le}
+use mathlib.Core.List.{append-nil}
+use lib.Seq.{append_snoc}
 use borrow.Author.Tests.{leb-true, leb-false}
-use lib.Dec.{eqb, leb}
-use lib.ListN.{length, take, drop}
-use lib.Seq.{take_all, length-take-le, append_snoc}
-use Rattle.model.specs.Basics.{first_by}
 use Rattle.model.specs.Tables.{Table}
 use Rattle.model.specs.Lines.{line_of}
 use Rattle.model.specs.Sessions.{Session, line_ends, fed}
-use Rattle.sessions.specs.Serves.{feed_at}
 
 -- bytes after those since the last line feed
 abbrev pub grown : Session → List ℕ → Session
 grown x bs = record { text = x.text; board = x.board; partial = x.partial ++ bs }
 
-abbrev Ends : Table → List ℕ → Session → Type 0
-Ends t bs x = fed t x bs ≡ fed t (line_ends t (grown x (take (feed_at bs) bs))) (drop (suc (feed_at bs)) bs)
+abbrev pub is_feed : ℕ → Bool
+is_feed b = eqb b 10
 
-pub fed-line : (t : Table) (bs : List ℕ) (x : Session) → feed_at bs < length bs → Ends t bs x
-fed-line t [] x h = absurd (not-suc-le-zero h)
-fed-line t (c ∷ cs) x h = go (eqb c 10) refl h (fed-line t cs)
-  where
-    go : (e : Bool) → eqb c 10 ≡ e → feed_at (c ∷ cs) < length (c ∷ cs)
-        → ((y : Session) → feed_at cs < length cs → Ends t cs y) → Ends t (c ∷ cs) x
-    go true e h ih = rw (e, first_by, append-nil x.partial)
-    go false e h ih =
-        rw (e, first_by, ih (grown x (c ∷ [])) (le_of_suc-le-suc (rw (e, first_by) at h)))
-        (ap (λ p. fed t (line_ends t (record { text = x.text; board = x.board; partial = p })) (drop (suc (feed_at cs))
-        cs))
-        (append_snoc x.partial c (take (feed_at cs) cs)))
+module _ (t : Table) where
+  pub fed-line : (bs : List ℕ) (x : Session) → position_or_len is_feed bs < length bs
+      → fed t x bs ≡ fed t (line_ends t (grown x (before_first is_feed bs))) (after_first is_feed bs)
+  fed-line [] x h = absurd (omega arith)
+  fed-line (c ∷ cs) x h = go (eqb c 10) refl h (fed-line cs)
+    where
+      go : (e : Bool) → eqb c 10 ≡ e → position_or_len is_feed (c ∷ cs) < length (c ∷ cs)
+          → ((y : Session) → position_or_len is_feed cs < length cs
+          → fed t y cs ≡ fed t (line_ends t (grown y (before_first is_feed cs))) (after_first is_feed cs))
+          → fed t x (c ∷ cs)
+          ≡ fed t (line_ends t (grown x (before_first is_feed (c ∷ cs)))) (after_first is_feed (c ∷ cs))
+      go true e h ih = rw (e, append-nil x.partial)
+      go false e h ih =
+          let l = rw e at h in
+          let one : 1 + position_or_len is_feed cs ≡ suc (position_or_len is_feed cs) = omega arith in
+          rw (e, ih (grown x (c ∷ [])) (omega arith)) (simp (one, add-one, append_snoc))
 
-pub fed-rest : (t : Table) (bs : List ℕ) (x : Session) → length bs ≤ feed_at bs → fed t x bs ≡ grown x bs
-fed-rest t [] x h = rw (append-nil x.partial)
-fed-rest t (c ∷ cs) x h = go (eqb c 10) refl h (fed-rest t cs)
-  where
-    go : (e : Bool) → eqb c 10 ≡ e → length (c ∷ cs) ≤ feed_at (c ∷ cs)
-        → ((y : Session) → length cs ≤ feed_at cs → fed t y cs ≡ grown y cs) → fed t x (c ∷ cs) ≡ grown x (c ∷ cs)
-    go true e h ih = absurd (not-suc-le-zero (rw (e, first_by) at h))
-    go false e h ih =
-        rw (e, ih (grown x (c ∷ [])) (le_of_suc-le-suc (rw (e, first_by) at h)), append_snoc x.partial c cs)
+  pub fed-rest : (bs : List ℕ) (x : Session) → length bs ≤ position_or_len is_feed bs → fed t x bs ≡ grown x bs
+  fed-rest [] x h = rw (append-nil x.partial)
+  fed-rest (c ∷ cs) x h = go (eqb c 10) refl h (fed-rest cs)
+    where
+      go : (e : Bool) → eqb c 10 ≡ e → length (c ∷ cs) ≤ position_or_len is_feed (c ∷ cs)
+          → ((y : Session) → length cs ≤ position_or_len is_feed cs → fed t y cs ≡ grown y cs)
+          → fed t x (c ∷ cs) ≡ grown x (c ∷ cs)
+      go true e h ih = absurd (omega (arith, rw e at h))
+      go false e h ih =
+          let l = rw e at h in rw (e, ih (grown x (c ∷ [])) (omega arith), append_snoc x.partial c cs)
 
 -- over 80 bytes both are unreadable
 pub line-cut : (p : List ℕ) → line_of (take 81 p) ≡ line_of p

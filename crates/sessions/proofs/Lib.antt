@@ -1,5 +1,4 @@
 -- Laws of the input's bytes: fed one after another, cut at line feeds, and by its lines.
-pub mod LineLaws
 pub mod FeedLaws
 pub mod ChunkLaws
 pub mod ByLines

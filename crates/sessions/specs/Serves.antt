@@ -6,7 +6,6 @@ use Rattle.model.specs.Lines.{line_of}
 use Rattle.model.specs.Pools.{Answer}
 use Rattle.model.specs.Printing.{answer_line}
 use Rattle.model.specs.Sessions.{Session, line_answer, fed, input_ends}
-use Rattle.lines.specs.Views.{byte_at}
 use Rattle.boards.specs.Layout.{Lists}
 use Rattle.refusals.specs.Held.{held_of, Accepted}
 use Rattle.refusals.specs.Calls.{board_of}
@@ -31,10 +30,6 @@ carry_of c = take c.len c.bytes
 -- rule 8.3: of a line over 80 bytes the first 81 are enough to tell
 abbrev pub Keeps : List ℕ → DC.Carry → Type 0
 Keeps p c = take 81 p ≡ carry_of c
-
--- the place of the first line feed; the length for none
-abbrev pub feed_at : List ℕ → ℕ
-feed_at s = byte_at 10 s
 
 abbrev pub session : List ℕ → Board → List ℕ → Session
 session text board partial = record { text = text; board = board; partial = partial }

@@ -8,7 +8,6 @@ ghost use Rattle.boards.specs.Layout.{lists, statuses_in};
 ghost use Rattle.refusals.specs.Held.{Accepted};
 ghost use Rattle.sessions.specs.Serves.{Serves, ServesChunk, ServesEnd, carry_of};
 
-use lines::Line;
 use state::Said;
 
 // The place after what was printed, and where the messages start that are not all consumed.
@@ -18,11 +17,48 @@ pub struct Served {
     pub start: u16,
 }
 
-// The bytes since the last line feed; of a line over 80 bytes only the first 81.
+// The bytes since the last line feed; of a line over 80 bytes only the first 81. By hand, as the program has no heap: a
+// buffer of fixed size, and how much of it is filled.
 #[derive(Clone, Copy)]
 pub struct Carry {
     pub bytes: [u8; 81],
     pub len: usize,
+}
+
+impl Carry {
+    // No bytes yet.
+    pub fn new() -> Carry
+        ensures { result.len ≡ 0 }
+    {
+        Carry {
+            bytes: [0; 81],
+            len: 0,
+        }
+    }
+
+    // The bytes with those of a slice after them, as many as are kept.
+    pub fn with(self, s: &[u8]) -> Carry
+        requires { self.len ≤ 81 }
+        ensures result_value { carry_of result ≡ take 81 (carry_of self ++ s.now) }
+        ensures len_bound { result.len ≤ 81 }
+    {
+        let mut bytes = self.bytes;
+        let len = self.len;
+        let more = (81 - len).min(s.len());
+        bytes[len..len + more].copy_from_slice(&s[..more]);
+        Carry {
+            bytes,
+            len: len + more,
+        }
+    }
+
+    // The bytes that are kept.
+    pub fn as_slice(&self) -> &[u8]
+        requires { self.now.len ≤ 81 }
+        ensures { result.now ≡ carry_of self.now }
+    {
+        &self.bytes[..self.len]
+    }
 }
 
 // After a chunk of input: the bytes since the last line feed, and as in `Served`.
@@ -56,96 +92,16 @@ pub fn serve_line(
         result.at out.new }
     ensures passed_2 { Passed result.start (get_or board.new 0 0) (statuses_in bytes.new) }
 {
-    let l = lines::read_line(line);
-    let Line::Reads(call) = l else {
-        let e = prints::put_answer(out, at, Said::Refused(16));
-        return Served {
-            at: e,
-            start: start,
-        };
+    let Some(call) = lines::read_line(line) else {
+        let at = prints::put_answer(out, at, Said::Refused(16));
+        return Served { at, start };
     };
-    let a = plays::play(table, board, bytes, links, keys, cents, call, start);
-    let said = a.said;
-    let e = prints::put_answer(out, at, said);
+    let played = plays::play(table, board, bytes, links, keys, cents, call, start);
+    let at = prints::put_answer(out, at, played.said);
     Served {
-        at: e,
-        start: a.start,
-    }
-}
-
-// No bytes yet.
-pub fn no_bytes() -> Carry
-    ensures { result.len ≡ 0 }
-{
-    Carry {
-        bytes: [0; 81],
-        len: 0,
-    }
-}
-
-// The bytes with those of a slice after them, as many as are kept.
-pub fn with_bytes(c: Carry, s: &[u8]) -> Carry
-    requires { c.len ≤ 81 }
-    ensures result_value { carry_of result ≡ take 81 (carry_of c ++ s.now) }
-    ensures len_bound { result.len ≤ 81 }
-{
-    let mut bytes = c.bytes;
-    let mut n = c.len;
-    let mut i: usize = 0;
-    while i < s.len() {
-        if n == 81 {
-            return Carry {
-                bytes: bytes,
-                len: n,
-            };
-        }
-        bytes[n] = s[i];
-        n += 1;
-        i += 1;
-    }
-    Carry {
-        bytes: bytes,
-        len: n,
-    }
-}
-
-// A line whose bytes were kept.
-fn serve_kept(
-    table: &[u8],
-    board: &mut [u16],
-    bytes: &mut [u8],
-    links: &mut [u16],
-    keys: &mut [u32],
-    cents: &mut [i64],
-    kept: Carry,
-    out: &mut [u8],
-    at: usize,
-    start: u16,
-) -> Served
-    requires accepted { Accepted table.now (lists board.old bytes.old links.old keys.old cents.old) }
-    requires passed { Passed start (get_or board.old 0 0) (statuses_in bytes.old) }
-    requires len_bound { (kept.len ≤ 81) × (at + 16 ≤ length out.old) }
-    ensures serves { Serves table.now
-        (lists board.old bytes.old links.old keys.old cents.old)
-        (carry_of kept) out.old at
-        (lists board.new bytes.new links.new keys.new cents.new)
-        result.at out.new }
-    ensures passed_2 { Passed result.start (get_or board.new 0 0) (statuses_in bytes.new) }
-{
-    let line = kept.bytes;
-    let n = kept.len;
-    serve_line(
-        table,
-        board,
-        bytes,
-        links,
-        keys,
-        cents,
-        &line[..n],
-        out,
         at,
-        start,
-    )
+        start: played.start,
+    }
 }
 
 // A chunk of input on lists that the first tests accept: each line that ends in it is served.
@@ -156,7 +112,7 @@ pub fn serve_chunk(
     links: &mut [u16],
     keys: &mut [u32],
     cents: &mut [i64],
-    carry: Carry,
+    mut carry: Carry,
     input: &[u8],
     out: &mut [u8],
     start: u16,
@@ -171,25 +127,29 @@ pub fn serve_chunk(
         result.carry result.at out.new }
     ensures passed_2 { Passed result.start (get_or board.new 0 0) (statuses_in bytes.new) }
 {
-    let mut kept = carry;
-    let mut at: usize = 0;
-    let mut next = start;
-    let mut from: usize = 0;
-    let mut end = lines::byte_from(input, 0, b'\n');
-    while end < input.len() {
-        let line = with_bytes(kept, &input[from..end]);
-        let served = serve_kept(table, board, bytes, links, keys, cents, line, out, at, next);
-        at = served.at;
-        next = served.start;
-        kept = no_bytes();
-        from = end + 1;
-        end = lines::byte_from(input, from, b'\n');
+    let mut served = Served { at: 0, start };
+    let mut left = input;
+    while let Some((end, rest)) = lines::split_once(left, b'\n') {
+        let line = carry.with(end);
+        served = serve_line(
+            table,
+            board,
+            bytes,
+            links,
+            keys,
+            cents,
+            line.as_slice(),
+            out,
+            served.at,
+            served.start,
+        );
+        carry = Carry::new();
+        left = rest;
     }
-    let rest = with_bytes(kept, &input[from..]);
     Chunk {
-        carry: rest,
-        at: at,
-        start: next,
+        carry: carry.with(left),
+        at: served.at,
+        start: served.start,
     }
 }
 
@@ -216,12 +176,18 @@ pub fn serve_end(
     ensures passed_2 { Passed result.start (get_or board.new 0 0) (statuses_in bytes.new) }
 {
     if carry.len == 0 {
-        return Served {
-            at: 0,
-            start: start,
-        };
+        return Served { at: 0, start };
     }
-    serve_kept(
-        table, board, bytes, links, keys, cents, carry, out, 0, start,
+    serve_line(
+        table,
+        board,
+        bytes,
+        links,
+        keys,
+        cents,
+        carry.as_slice(),
+        out,
+        0,
+        start,
     )
 }

@@ -1,2 +1,2 @@
--- Sums over the tallies, and the functions' contracts.
+-- The sums over the tallies, as the library has them.
 pub mod SumLaws

@@ -1,15 +1,19 @@
--- Laws of a test of each number below n: a turn, two tests in one, what it says of a number, and lists by their places.
-use mathlib.Core.Path.{◌≡◌, refl, sym, ◌∙◌}
+-- Laws of a test of each number below n: a turn, two tests in one, what it says of a number, lists by their places, and
+-- tests of a list folded.
+use mathlib.Core.Path.{◌≡◌, refl, sym, ap, ◌∙◌}
 use mathlib.Core.Logic.{◌⊎◌, inl, inr, ◌≢◌}
 use mathlib.Core.Bool.{Bool, true, false, ◌&&◌, and-true, and_assoc}
 use mathlib.Core.List.{List, [], ◌∷◌}
 use Prim.Native.Nat.{ℕ, zero, suc, ◌+◌, ◌<◌, ◌≤◌}
-use native.Mathlib.Nat.{zero-add}
 use native.Mathlib.Numerals.{add-one}
 use native.Mathlib.Omega.{arith}
 use lib.ListN.{length, get_or, take}
+use Rattle.std.specs.List.{fold, zip}
+use Rattle.std.proofs.lemmas.List.Folds.{list_all-append}
 use Rattle.model.specs.Basics.{every}
 use Rattle.model.proofs.Tests.{both, and, never, same?, tested}
+use Rattle.columns.specs.Columns.{list_from}
+use Rattle.columns.proofs.ListFrom.{added-from}
 use Rattle.soundness.specs.Tests.{each_below}
 
 module _ (f : ℕ → Bool) where
@@ -20,13 +24,6 @@ module _ (f : ℕ → Bool) where
   pub each-one : (i : ℕ) → each_below (i + 1) f ≡ (each_below i f && f i)
   unfolding each_below
   each-one i = rw (add-one i)
-
-  pub each-four : (i : ℕ) → each_below (i + 4) f ≡ (each_below i f && (f i && (f (i + 1) && (f (i + 2) && f (i + 3)))))
-  each-four i =
-      let a : i + 4 ≡ i + 3 + 1 = omega arith in
-      let b : i + 3 ≡ i + 2 + 1 = omega arith in
-      let c : i + 2 ≡ i + 1 + 1 = omega arith in
-      rw (a, each-one (i + 3), b, each-one (i + 2), c, each-one (i + 1), each-one i, and_assoc, and_assoc, and_assoc)
 
   pub each_at : (n : ℕ) → each_below n f ≡ true → (i : ℕ) → i < n → f i ≡ true
   unfolding each_below
@@ -42,12 +39,11 @@ module _ (f : ℕ → Bool) where
   at_each zero g = refl
   at_each (suc n) g = and (at_each n (λ i h. g i (omega arith))) (g n (omega arith))
 
-  -- fewer that do not all pass
-  pub each-no : (i n : ℕ) → i ≤ n → each_below i f ≡ false → each_below n f ≡ false
-  each-no i n h e = go (tested (each_below n f))
+  pub each-fails : (n i : ℕ) → i < n → f i ≡ false → each_below n f ≡ false
+  each-fails n i h e = go (tested (each_below n f))
     where
       go : (each_below n f ≡ true) ⊎ (each_below n f ≡ false) → each_below n f ≡ false
-      go (inl z) = never (sym e ∙ at_each i (λ j l. each_at n z j (omega arith)))
+      go (inl z) = never (sym e ∙ each_at n z i h)
       go (inr z) = z
 
   -- the first, then those after it
@@ -80,23 +76,30 @@ each_of p [] z (suc n) h = absurd (omega arith)
 each_of p (x ∷ xs) z (suc n) h =
     rw (each-cons (λ i. p (get_or (x ∷ xs) i z)) n, each_of p xs z n (omega arith))
 
--- a list made from a place on
-module _ {A : Type 0} (p : A → Bool) (at : ℕ → A) (from : ℕ → ℕ → List A)
-    (none : (i : ℕ) → from i 0 ≡ []) (more : (i n : ℕ) → from i (suc n) ≡ at i ∷ from (suc i) n) where
-  made-from : (i n : ℕ) → every p (from i n) ≡ each_below n (λ k. p (at (i + k)))
-  made-from i zero = rw (none i) (sym (each_none _))
-  made-from i (suc n) =
-      let z : i + 0 ≡ i = omega arith in
-      rw (
-        more i n,
-        each-cons (λ k. p (at (i + k))) n,
-        z,
-        made-from (suc i) n,
-        each_same (λ k. p (at (suc i + k))) (λ k. p (at (i + suc k))) n (λ k h. next k),
-      )
-    where
-      next : (k : ℕ) → p (at (suc i + k)) ≡ p (at (i + suc k))
-      next k = let z : suc i + k ≡ i + suc k = omega arith in rw z
+-- two lists, a place at a time
+pub each-pair : (p : ℕ × ℕ → Bool) (xs ys : List ℕ) (n : ℕ) → n ≤ length xs → n ≤ length ys
+    → every p (zip (take n xs) (take n ys)) ≡ each_below n (λ i. p (get_or xs i 0, get_or ys i 0))
+each-pair p xs ys zero h l = sym (each_none _)
+each-pair p [] ys (suc n) h l = absurd (omega arith)
+each-pair p (x ∷ xs) [] (suc n) h l = absurd (omega arith)
+each-pair p (x ∷ xs) (y ∷ ys) (suc n) h l =
+    let e = each-pair p xs ys n (omega arith) (omega arith) in
+    rw (each-cons (λ i. p (get_or (x ∷ xs) i 0, get_or (y ∷ ys) i 0)) n, e)
 
-  pub each-made : (n : ℕ) → every p (from 0 n) ≡ each_below n (λ i. p (at i))
-  each-made n = made-from 0 n ∙ each_same _ _ n (λ i h. rw (zero-add i))
+-- an answer so far, and then a test of each
+pub folded : {A : Type 0} (p q : A → Bool) → ((x : A) → p x ≡ q x) → (ok : Bool) (xs : List A)
+    → fold (λ ok x. ok && p x) ok xs ≡ (ok && every q xs)
+folded p q e true [] = refl
+folded p q e false [] = refl
+folded p q e true (x ∷ xs) = rw (e x) (folded p q e (q x) xs)
+folded p q e false (x ∷ xs) = folded p q e false xs
+
+-- a list made place by place
+pub each-made : {A : Type 0} (p : A → Bool) (f : ℕ → A) (n : ℕ)
+    → every p (list_from f 0 n) ≡ each_below n (λ i. p (f i))
+unfolding each_below
+each-made p f zero = refl
+each-made p f (suc n) =
+    ap (every p) (added-from f f n (f n) (λ j l. refl) refl)
+    ∙ list_all-append p (list_from f 0 n) (f n ∷ [])
+    ∙ rw (each-made p f n, and-true (p (f n)))

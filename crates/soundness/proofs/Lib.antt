@@ -1,4 +1,5 @@
 -- Laws of the tests of lent columns.
 pub mod Each
+pub mod Columns
 pub mod Messages
 pub mod Matches

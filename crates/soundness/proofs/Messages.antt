@@ -9,7 +9,7 @@ use lib.ListN.{length, get_or}
 use Rattle.model.specs.Tables.{Table}
 use Rattle.model.specs.Boards.{Board, Message}
 use Rattle.model.specs.Sound.{message_ok, note_ok}
-use Rattle.columns.specs.Columns.{Columns, status_of, message_in, messages_from}
+use Rattle.columns.specs.Columns.{Columns, status_of, message_in}
 use Rattle.soundness.specs.Tests.{each_below, below, in_range, link_ok, messages_ok}
 use Rattle.soundness.proofs.Each.{each_same, each_and, each_of, each-made}
 
@@ -59,7 +59,7 @@ module _ (t : Table) (b : Board) (c : Columns) where
   messages-are n h =
       rw (
         each_of (λ x. leb x 3) c.statuses 0 n h,
-        each-made (message_ok t b) (message_in c) (messages_from c) (λ i. refl) (λ i k. refl) n,
+        each-made (message_ok t b) (message_in c) n,
       )
       (each_and (λ i. leb (get_or c.statuses i 0) 3) (λ i. message_ok t b (message_in c i)) n
       ∙ each_same _ _ n (λ i l. message-is i)

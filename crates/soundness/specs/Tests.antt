@@ -1,5 +1,6 @@
 -- The tests of lent columns (rules 3.2 and 3.3), by the places of what they test.
-use Rattle.std.specs.Prelude.{Bool, true, ◌&&◌, ◌||◌, not, List, ℕ, zero, suc, ◌*◌, eqb, leb, ltb, ℤ, pos, get_or, take, drop}
+use Rattle.std.specs.Prelude.{Bool, true, ◌&&◌, ◌||◌, not, List, ℕ, zero, suc, ◌*◌, eqb, leb, ltb, ℤ, pos, get_or}
+use Rattle.std.specs.Prelude.{take, drop}
 use Rattle.model.specs.Basics.{every}
 use Rattle.model.specs.Tables.{Table, size}
 use Rattle.model.specs.Boards.{Board}

@@ -1,4 +1,3 @@
 -- Laws of senders, of passes and of a job's end.
 pub mod StateLaws
-pub mod Passes
-pub mod JobEnds
+pub mod Sizes

@@ -1,4 +1,4 @@
--- What the builders make, over the declared types: a record anew with the fields altered that the name says.
+-- What the builders make, over the declared types: a record with the fields altered that the name says.
 use Rattle.std.specs.Prelude.{Bool, true, false, ℕ, replicate}
 use Rattle.state.specs.declared.Phase as DP
 use Rattle.state.specs.declared.State.TheVariants as S
@@ -9,61 +9,23 @@ use Rattle.state.specs.declared.Change as DG
 use Rattle.state.specs.declared.Effect as DE
 
 abbrev pub sender_in_job : DD.Sender → DJ.Job → DD.Sender
-sender_in_job d job = record {
-  state = S.Working;
-  signalled = d.signalled;
-  own = d.own;
-  waker = d.waker;
-  reply = d.reply;
-  matched = d.matched;
-  job = job;
-}
+sender_in_job d job = record d { state = S.Working; job = job }
 
 abbrev pub works_by : DD.Sender → DJ.Job → DW.Said → DG.Change → DE.Effect
 works_by d job said change = record { said = said; change = change; sender = sender_in_job d job }
 
 abbrev pub job_in_phase : DJ.Job → DP.Phase → DJ.Job
-job_in_phase j p = record {
-  subject = j.subject;
-  chord = j.chord;
-  phase = p;
-  chosen = j.chosen;
-  retry = j.retry;
-  retries = j.retries;
-}
+job_in_phase j p = record j { phase = p }
 
 abbrev pub job_with_retry : DJ.Job → DP.Phase → DJ.Job
-job_with_retry j p = record {
-  subject = j.subject;
-  chord = j.chord;
-  phase = p;
-  chosen = j.chosen;
-  retry = true;
-  retries = j.retries;
-}
+job_with_retry j p = record j { phase = p; retry = true }
 
 -- the job stays, unread
 abbrev pub sender_idle : DD.Sender → ℕ → DD.Sender
-sender_idle d reply = record {
-  state = S.Idle;
-  signalled = false;
-  own = d.own;
-  waker = d.waker;
-  reply = reply;
-  matched = d.matched;
-  job = d.job;
-}
+sender_idle d reply = record d { state = S.Idle; signalled = false; reply = reply }
 
 abbrev pub sender_blocked : DD.Sender → Bool → DD.Sender
-sender_blocked d signalled = record {
-  state = S.Blocked;
-  signalled = signalled;
-  own = d.own;
-  waker = d.waker;
-  reply = d.reply;
-  matched = d.matched;
-  job = d.job;
-}
+sender_blocked d signalled = record d { state = S.Blocked; signalled = signalled }
 
 -- a job with nothing chosen
 abbrev pub job_at : ℕ → ℕ → DP.Phase → Bool → ℕ → DJ.Job

@@ -108,6 +108,15 @@ pub struct Effect {
     pub sender: Sender,
 }
 
+// What the end of a job reads: whether the own message's channel is synchronous, the waker's channel, and whether the
+// waker is consumed.
+#[derive(Clone, Copy)]
+pub struct Seen {
+    pub sync: bool,
+    pub channel: u8,
+    pub consumed: bool,
+}
+
 // The word by its number.
 pub fn word_of(said: Said) -> u8
     ensures { (result ≡ word_of (said_in said)) × (result < 19) }
@@ -140,25 +149,19 @@ pub fn value_of(said: Said) -> u16
     ensures { result ≡ value_of (said_in said) }
 {
     match said {
-        Said::Item(n) => n,
-        Said::Looked(n) => n,
-        Said::Missed => 0,
-        Said::Claimed(n) => n,
-        Said::Lost(n) => n,
-        Said::Reverted(n) => n,
-        Said::Matched(n) => n,
-        Said::Answered(n) => n,
-        Said::Consumed(n) => n,
-        Said::Told(n) => n,
-        Said::Woke(n) => n,
-        Said::Freed(n) => n,
-        Said::Signalled(n) => n,
-        Said::Again => 0,
-        Said::Ended => 0,
-        Said::Rested => 0,
-        Said::Resumed => 0,
-        Said::Refused(_) => 0,
-        Said::Closed => 0,
+        Said::Item(n)
+        | Said::Looked(n)
+        | Said::Claimed(n)
+        | Said::Lost(n)
+        | Said::Reverted(n)
+        | Said::Matched(n)
+        | Said::Answered(n)
+        | Said::Consumed(n)
+        | Said::Told(n)
+        | Said::Woke(n)
+        | Said::Freed(n)
+        | Said::Signalled(n) => n,
+        _ => 0,
     }
 }
 
@@ -167,25 +170,8 @@ pub fn number_of(said: Said) -> u8
     ensures { result ≡ number_of (said_in said) }
 {
     match said {
-        Said::Item(_) => 0,
-        Said::Looked(_) => 0,
-        Said::Missed => 0,
-        Said::Claimed(_) => 0,
-        Said::Lost(_) => 0,
-        Said::Reverted(_) => 0,
-        Said::Matched(_) => 0,
-        Said::Consumed(_) => 0,
-        Said::Told(_) => 0,
-        Said::Woke(_) => 0,
-        Said::Freed(_) => 0,
-        Said::Signalled(_) => 0,
-        Said::Again => 0,
-        Said::Ended => 0,
-        Said::Rested => 0,
-        Said::Answered(_) => 0,
-        Said::Resumed => 0,
         Said::Refused(n) => n,
-        Said::Closed => 0,
+        _ => 0,
     }
 }
 
@@ -193,19 +179,14 @@ pub fn number_of(said: Said) -> u8
 pub fn is_idle(s: State) -> bool
     ensures { result ≡ idle_is s }
 {
-    match s {
-        State::Idle => true,
-        State::Working => false,
-        State::Blocked => false,
-    }
+    matches!(s, State::Idle)
 }
 
 // Whether a sender may step.
 pub fn can_step(d: Sender) -> bool
     ensures { result ≡ sender_steps d }
 {
-    let s = d.state;
-    match s {
+    match d.state {
         State::Idle => false,
         State::Working => true,
         State::Blocked => d.signalled,
@@ -218,12 +199,8 @@ pub fn in_job(d: Sender, job: Job) -> Sender
 {
     Sender {
         state: State::Working,
-        signalled: d.signalled,
-        own: d.own,
-        waker: d.waker,
-        reply: d.reply,
-        matched: d.matched,
-        job: job,
+        job,
+        ..d
     }
 }
 
@@ -232,17 +209,9 @@ pub fn works(d: Sender, job: Job, said: Said, change: Change) -> Effect
     ensures { result ≡ works_by d job said change }
 {
     Effect {
-        said: said,
-        change: change,
-        sender: Sender {
-            state: State::Working,
-            signalled: d.signalled,
-            own: d.own,
-            waker: d.waker,
-            reply: d.reply,
-            matched: d.matched,
-            job: job,
-        },
+        said,
+        change,
+        sender: in_job(d, job),
     }
 }
 
@@ -250,29 +219,17 @@ pub fn works(d: Sender, job: Job, said: Said, change: Change) -> Effect
 pub fn in_phase(j: Job, phase: Phase) -> Job
     ensures { result ≡ job_in_phase j phase }
 {
-    let chosen = j.chosen;
-    Job {
-        subject: j.subject,
-        chord: j.chord,
-        phase: phase,
-        chosen: chosen,
-        retry: j.retry,
-        retries: j.retries,
-    }
+    Job { phase, ..j }
 }
 
 // The job in another phase, to be tried again.
 pub fn with_retry(j: Job, phase: Phase) -> Job
     ensures { result ≡ job_with_retry j phase }
 {
-    let chosen = j.chosen;
     Job {
-        subject: j.subject,
-        chord: j.chord,
-        phase: phase,
-        chosen: chosen,
+        phase,
         retry: true,
-        retries: j.retries,
+        ..j
     }
 }
 
@@ -280,15 +237,11 @@ pub fn with_retry(j: Job, phase: Phase) -> Job
 pub fn goes_idle(d: Sender, reply: u16) -> Sender
     ensures { result ≡ sender_idle d reply }
 {
-    let job = d.job;
     Sender {
         state: State::Idle,
         signalled: false,
-        own: d.own,
-        waker: d.waker,
-        reply: reply,
-        matched: d.matched,
-        job: job,
+        reply,
+        ..d
     }
 }
 
@@ -296,15 +249,10 @@ pub fn goes_idle(d: Sender, reply: u16) -> Sender
 pub fn stays_blocked(d: Sender, signalled: bool) -> Sender
     ensures { result ≡ sender_blocked d signalled }
 {
-    let job = d.job;
     Sender {
         state: State::Blocked,
-        signalled: signalled,
-        own: d.own,
-        waker: d.waker,
-        reply: d.reply,
-        matched: d.matched,
-        job: job,
+        signalled,
+        ..d
     }
 }
 
@@ -313,16 +261,17 @@ fn job_at(subject: u16, chord: u8, phase: Phase, retry: bool, retries: u8) -> Jo
     ensures { result ≡ job_at subject chord phase retry retries }
 {
     Job {
-        subject: subject,
-        chord: chord,
-        phase: phase,
+        subject,
+        chord,
+        phase,
         chosen: [0; 8],
-        retry: retry,
-        retries: retries,
+        retry,
+        retries,
     }
 }
 
 // A pass over the chords that name the subject's channel, from a chord on.
+#[tactic(auto, unfolding(model::specs::Jobs::pass_from, chords::specs::Naming::next_naming))]
 fn pass_from(table: &[u8], subject: u16, channel: u8, from: u8, retry: bool, retries: u8) -> Job
     requires { table_refusal table.now ≡ 0 }
     ensures { job_in (table_of table.now) result
@@ -336,6 +285,7 @@ fn pass_from(table: &[u8], subject: u16, channel: u8, from: u8, retry: bool, ret
 }
 
 // The job's pass from its next chord on.
+#[tactic(auto, using(crate::proofs::Sizes::chords_few))]
 pub fn next_chord(table: &[u8], j: Job, channel: u8, retry: bool) -> Job
     requires { (table_refusal table.now ≡ 0) × (j.chord < length (table_of table.now).chords) }
     ensures { (b : Board) → channel_of b j.subject ≡ channel → job_in (table_of table.now) result
@@ -370,54 +320,42 @@ pub fn rests_then(table: &[u8], subject: u16, channel: u8, retries: u8, rests: u
 fn matched_end(d: Sender) -> Sender
     ensures { (t : MT.Table) → sender_in t result ≡ MJ.matched_end (sender_in t d) d.matched }
 {
-    let m = d.matched;
-    if m == 0 {
+    if d.matched == 0 {
         return stays_blocked(d, d.signalled);
     }
-    goes_idle(d, m)
+    goes_idle(d, d.matched)
 }
 
 // The end of a job where the own message's channel is synchronous: on to the waker, unless that is consumed or was the
 // subject.
-fn sync_end(table: &[u8], d: Sender, subject: u16, channel: u8, consumed: bool) -> Sender
+fn sync_end(table: &[u8], d: Sender, subject: u16, v: Seen) -> Sender
     requires { table_refusal table.now ≡ 0 }
-    ensures { (is : List Message) → (get_or is (d.waker - 1) no_message).sent.channel ≡ channel
-        → is_consumed (get_or is (d.waker - 1) no_message).status ≡ consumed
+    ensures { (is : List Message) → (get_or is (d.waker - 1) no_message).sent.channel ≡ v.channel
+        → is_consumed (get_or is (d.waker - 1) no_message).status ≡ v.consumed
         → sender_in (table_of table.now) result ≡ MJ.sync_end (table_of table.now) is
         (sender_in (table_of table.now) d) subject d.waker }
 {
-    let waker = d.waker;
-    if waker == 0 {
-        return matched_end(d);
+    match d.waker.checked_sub(1) {
+        Some(waker) if !v.consumed && waker != subject => {
+            in_job(d, new_pass(table, waker, v.channel, 0))
+        }
+        _ => matched_end(d),
     }
-    let v = waker - 1;
-    if !consumed & (v != subject) {
-        let pass = new_pass(table, v, channel, 0);
-        return in_job(d, pass);
-    }
-    matched_end(d)
 }
 
-// The end of a job, by what was read: whether the own message's channel is synchronous, the waker's channel, and
-// whether the waker is consumed.
-pub fn job_end(
-    table: &[u8],
-    d: Sender,
-    subject: u16,
-    sync: bool,
-    channel: u8,
-    consumed: bool,
-) -> Sender
+// The end of a job, by what was read.
+#[tactic(auto, unfolding(model::specs::Jobs::job_end))]
+pub fn job_end(table: &[u8], d: Sender, subject: u16, v: Seen) -> Sender
     requires { table_refusal table.now ≡ 0 }
     ensures { (is : List Message)
-        → MT.is_sync (table_of table.now) (get_or is (d.own - 1) no_message).sent.channel ≡ sync
-        → (get_or is (d.waker - 1) no_message).sent.channel ≡ channel
-        → is_consumed (get_or is (d.waker - 1) no_message).status ≡ consumed
+        → MT.is_sync (table_of table.now) (get_or is (d.own - 1) no_message).sent.channel ≡ v.sync
+        → (get_or is (d.waker - 1) no_message).sent.channel ≡ v.channel
+        → is_consumed (get_or is (d.waker - 1) no_message).status ≡ v.consumed
         → sender_in (table_of table.now) result ≡ MJ.job_end (table_of table.now) is
         (sender_in (table_of table.now) d) subject }
 {
-    if sync {
-        return sync_end(table, d, subject, channel, consumed);
+    if v.sync {
+        return sync_end(table, d, subject, v);
     }
     goes_idle(d, 0)
 }
@@ -426,21 +364,16 @@ pub fn job_end(
 pub fn less(x: u16) -> u16
     ensures { result ≡ x - 1 }
 {
-    if x == 0 {
-        return 0;
-    }
-    x - 1
+    x.saturating_sub(1)
 }
 
 // A count of retries goes to 16.
 const MOST: u8 = 16;
 
 // The count of retries with one more.
+#[tactic(auto, unfolding(model::specs::Steps::more))]
 pub fn more(k: u8) -> u8
     ensures { (result ≡ MS.more k) × (1 ≤ result) × (result ≤ 16) }
 {
-    if MOST <= k {
-        return MOST;
-    }
-    k + 1
+    k.saturating_add(1).min(MOST)
 }

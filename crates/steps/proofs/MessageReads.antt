@@ -1,16 +1,12 @@
 -- What is read of the columns is what the board's messages have.
 use mathlib.Core.Path.{◌≡◌, ap, ◌∙◌}
-use mathlib.Core.Bool.{Bool}
 use mathlib.Core.List.{List}
-use Prim.Native.Nat.{ℕ, ◌-◌, ◌<◌}
+use Prim.Native.Nat.{ℕ, ◌<◌}
 use lib.Dec.{eqb, ltb, leb}
 use lib.ListN.{get_or}
-use Rattle.model.specs.Tables.{Table, is_sync}
 use Rattle.model.specs.Boards.{Message, no_message, message_at, channel_of, is_pending, is_consumed, is_open}
 use Rattle.columns.specs.Columns.{Columns, Others, columns_by, board_by, status_of, message_in, messages_from}
 use Rattle.columns.proofs.Messages.{nth-message, nth-channel, pending-is, consumed_is, open_is}
-use Rattle.state.specs.declared.Sender as DD
-use Rattle.steps.specs.Ready.{Saw}
 
 module _ (c : Columns) (n k : ℕ) (h : k < n) where
   nth-status : (get_or (messages_from c 0 n) k no_message).status ≡ status_of (get_or c.statuses k 0)
@@ -49,14 +45,4 @@ module _ (channels keys statuses : List ℕ) (o : Others) (n k : ℕ) (h : k < n
       ≡ leb 3 (get_or statuses k 0)
   consumed-read = ap is_consumed status-read ∙ consumed_is (get_or statuses k 0)
 
--- the own message's and the waker's part
-pub saw-is : (t : Table) (channels keys statuses : List ℕ) (o : Others) (n : ℕ) (d : DD.Sender)
-    (own waker : ℕ) (sync : Bool) → own ≡ d.own - 1 → waker ≡ d.waker - 1 → d.own - 1 < n → d.waker - 1 < n
-    → sync ≡ is_sync t (get_or channels own 0)
-    → Saw t channels statuses n d
-    (record { sync = sync; channel = get_or channels waker 0; consumed = leb 3 (get_or statuses waker 0) }) keys o
-saw-is t channels keys statuses o n d own waker sync a b h l e = record {
-  sync_is = ap (is_sync t) (channel-read channels keys statuses o n (d.own - 1) h) ∙ rw (e, a);
-  channel_is = channel-read channels keys statuses o n (d.waker - 1) l ∙ rw b;
-  consumed_is = consumed-read channels keys statuses o n (d.waker - 1) l ∙ rw b;
-}
+pub ruleset reads = (channel-read, status-read, match-read, waker-read, consumed-read)

@@ -95,7 +95,7 @@ module _ (t : Table) (channels keys units statuses : List ℕ) (n count : ℕ) (
           → Left t channels n d.job.subject (take (size t d.job.chord) d.job.chosen) k
       left k p = record {
         messages = (board_by channels keys statuses n r.others).messages;
-        same = nth-channel (columns_by channels keys statuses r.others) n;
+        same = record { channel = nth-channel (columns_by channels keys statuses r.others) n };
         more = subst
             (λ (y : ℕ). k < length
             (to_tell t (board_by channels keys statuses n r.others).messages d.job.subject

@@ -6,7 +6,7 @@ use Rattle.model.proofs.SoundFacts.{SenderFacts}
 use Rattle.columns.specs.Columns.{Others, board_by, Lent}
 use Rattle.state.specs.declared.Sender as DD
 use Rattle.state.specs.Views.{sender_in}
-use Rattle.steps.specs.declared.Seen as DV
+use Rattle.state.specs.declared.Seen as DV
 
 -- the sender's facts on a board of n messages and count matches, by the columns; of the rest of the board only the
 -- number of matches is used

@@ -13,18 +13,10 @@ ghost use Rattle.state.specs.Views.{phase_in, job_in, sender_in, effect_in, send
 ghost use Rattle.boards.specs.Layout.{links_len, matched_in, wakers_in, units_in};
 ghost use Rattle.steps.specs.Ready.{Ready, Saw};
 
-use state::{Change, Effect, Phase, Said, Sender, State};
+use state::{Change, Effect, Phase, Said, Seen, Sender, State};
 
-// What the end of a job reads: whether the own message's channel is synchronous, the waker's channel, and whether the
-// waker is consumed.
-#[derive(Clone, Copy)]
-struct Seen {
-    sync: bool,
-    channel: u8,
-    consumed: bool,
-}
-
-// Reads the own message and the waker, or the first message where there is none.
+// What the end of a job reads of the own message and the waker, or of the first message where there is none.
+#[tactic(auto, using(crate::proofs::MessageReads::reads))]
 fn sees(table: &[u8], d: Sender, n: u16, channels: &[u8], statuses: &[u8]) -> Seen
     requires table_value { (table_refusal table.now ≡ 0) × (1 ≤ n) × (d.own ≤ n) × (d.waker ≤ n) }
     requires n_in_bounds { (n ≤ length channels.now) × (n ≤ length statuses.now) }
@@ -32,11 +24,10 @@ fn sees(table: &[u8], d: Sender, n: u16, channels: &[u8], statuses: &[u8]) -> Se
     ensures { (keys : List ℕ) (o : Others) → Saw (table_of table.now)
         channels.now statuses.now n d result keys o }
 {
-    let own = state::less(d.own) as usize;
-    let waker = state::less(d.waker) as usize;
-    let sync = chords::is_sync(table, channels[own]);
+    let own = usize::from(state::less(d.own));
+    let waker = usize::from(state::less(d.waker));
     Seen {
-        sync: sync,
+        sync: chords::is_sync(table, channels[own]),
         channel: channels[waker],
         consumed: 3 <= statuses[waker],
     }
@@ -65,9 +56,7 @@ fn pass_end(table: &[u8], d: Sender, channel: u8, opened: bool, v: Seen, backoff
 {
     let j = d.job;
     let rests = backoffs::rests_at(backoffs, state::more(j.retries));
-    ends::pass_end_step(
-        table, d, channel, opened, v.sync, v.channel, v.consumed, rests,
-    )
+    ends::pass_end_step(table, d, channel, opened, v, rests)
 }
 
 // The effect of a step of a sender at work, by its job's phase.
@@ -106,17 +95,17 @@ fn job_step(
         Phase::Revert(k, m) => ends::revert_step(table, d, k, m, channel),
         Phase::Consume(k, m) => {
             let v = sees(table, d, n, channels, statuses);
-            consumes::consume_step(table, d, k, m, n, channels, v.sync, v.channel, v.consumed)
+            consumes::consume_step(table, d, k, m, n, channels, v)
         }
         Phase::Tell(k) => {
             let v = sees(table, d, n, channels, statuses);
-            consumes::tell_step(table, d, k, n, channels, v.sync, v.channel, v.consumed)
+            consumes::tell_step(table, d, k, n, channels, v)
         }
         Phase::Wake => wakes::wake_step(table, d),
         Phase::Free(k) => wakes::free_step(table, d, k),
         Phase::Signal => {
             let v = sees(table, d, n, channels, statuses);
-            wakes::signal_step(table, d, v.sync, v.channel, v.consumed)
+            wakes::signal_step(table, d, v)
         }
         Phase::PassEnd => {
             let v = sees(table, d, n, channels, statuses);
@@ -127,6 +116,7 @@ fn job_step(
 }
 
 // The effect of a step of a blocked sender with a signal, by its own message.
+#[tactic(auto, using(crate::proofs::MessageReads::reads))]
 fn blocked_step(
     table: &[u8],
     d: Sender,

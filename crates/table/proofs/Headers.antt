@@ -11,19 +11,19 @@ use Rattle.model.specs.Layout.{word, count_t, count_r, count_m, counts_ok, offse
 use Rattle.model.proofs.Tests.{all-four}
 use Rattle.table.specs.Headers.{Counts, Header}
 
-pub counts-from : (s : List ℕ) → 12 ≤ length s → counts_ok s ≡ true → Counts s
+pub counts_from : (s : List ℕ) → 12 ≤ length s → counts_ok s ≡ true → Counts s
 unfolding counts_ok
-counts-from s h e =
+counts_from s h e =
     let c = all-four (leb 1 (count_t s)) (leb (count_t s) 16) (leb (count_r s) 32) (leb (count_m s) 256) e in
     search leb-true
 
-pub header-from : (s : List ℕ) → Counts s → offsets_ok s ≡ true → Header s
+pub header_from : (s : List ℕ) → Counts s → offsets_ok s ≡ true → Header s
 unfolding offsets_ok
-header-from s c e =
+header_from s c e =
     let o = all-four (eqb (word 3 s) 12) (eqb (word 4 s) _) (eqb (word 5 s) _) (eqb (length s) _) e in
     record { counts = c; whole = eqb-true _ _ o.3 }
 
-pub kinds-below : (ks : List ℕ) → every (λ k. ltb k 2) ks ≡ kinds_ok ks
+pub kinds_below : (ks : List ℕ) → every (λ k. ltb k 2) ks ≡ kinds_ok ks
 unfolding kinds_ok
-kinds-below [] = refl
-kinds-below (k ∷ ks) = rw (leb-suc-suc k 1, kinds-below ks)
+kinds_below [] = refl
+kinds_below (k ∷ ks) = rw (leb-suc-suc k 1, kinds_below ks)

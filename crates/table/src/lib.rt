@@ -2,7 +2,7 @@
 // and a chord's channels as a part of the bytes.
 #![tactic(auto)]
 
-ghost use Rattle.std.specs.Prelude.{◌≡◌, true, ◌+◌, ◌*◌, ◌<◌, ◌≤◌, ltb, length, drop, get_or};
+ghost use Rattle.std.specs.Prelude.{◌≡◌, is_some, IfSome, ◌+◌, ◌*◌, ◌<◌, ◌≤◌, ltb, length, drop, get_or};
 ghost use Rattle.model.specs.Basics.{every};
 ghost use Rattle.model.specs.Tables.{size, chord_at};
 ghost use Rattle.model.specs.Layout.{word, count_t, count_r, kind_bytes, chord_bytes, member_bytes};
@@ -13,150 +13,117 @@ ghost use Rattle.table.specs.Equalities.{equality_in};
 ghost use Rattle.table.specs.Headers.{Counts, Header, entries_sum};
 
 // What a chord wants to be equal of all its messages: nothing, the property, or the property and the unit.
-#[derive(Clone, Copy)]
+#[derive(Clone, Copy, PartialEq, Eq)]
 pub enum Equality {
     Any,
     Property,
     Unit,
 }
 
-// The number of two bytes, low byte first.
-fn joined(low: u8, high: u8) -> u16
-    ensures { result ≡ low + 256 * high }
-{
-    (low as u16) + 256 * (high as u16)
-}
-
 // A u16 of the header, by its place.
-fn word_at(table: &[u8], i: usize) -> u16
-    requires { (i < 6) × (12 ≤ length table.now) }
-    ensures { result ≡ word i table.now }
+#[tactic(auto, using(crate::proofs::Walks::two_bytes), unfolding(model::specs::Layout::word))]
+fn word_at(bytes: &[u8], i: usize) -> u16
+    requires { (i < 6) × (12 ≤ length bytes.now) }
+    ensures { result ≡ word i bytes.now }
 {
-    joined(table[2 * i], table[2 * i + 1])
+    u16::from_le_bytes([bytes[2 * i], bytes[2 * i + 1]])
 }
 
 // Whether each byte is below n.
 pub fn all_below(s: &[u8], n: u8) -> bool
     ensures { result ≡ every (λ x. ltb x n) s.now }
 {
-    let mut i = 0;
-    while i < s.len() {
-        if s[i] >= n {
-            return false;
-        }
-        i += 1;
-    }
-    true
+    s.iter().all(|x| *x < n)
 }
 
 // Whether the four bytes at a place are those of a chord whose first member is `next`.
+#[tactic(auto, using(crate::proofs::Walks::two_bytes, crate::proofs::Walks::chord_from))]
 fn chord_ok(s: &[u8], at: usize, next: u16) -> bool
     requires { at + 4 ≤ length s.now }
     ensures { result ≡ chord_ok next (drop at s.now) }
 {
-    let first = joined(s[at], s[at + 1]);
+    let first = u16::from_le_bytes([s[at], s[at + 1]]);
     let count = s[at + 2];
     let equal = s[at + 3];
-    (first == next) & ((1 <= count) & ((count <= 8) & (equal <= 2)))
+    first == next && 1 <= count && count <= 8 && equal <= 2
 }
 
-// A sum of member counts with one more.
-pub fn more(next: u16, count: u8) -> u16
-    requires { next ≤ 8192 }
-    ensures { (result ≡ next + count) × (result ≤ next + 255) }
-{
-    next + (count as u16)
-}
-
-#[derive(Clone, Copy)]
-struct Chords {
-    ok: bool,
-    sum: u16,
-}
-
-// Whether n chords are right, in order, and then the sum of their member counts.
-fn chords_in(s: &[u8], n: usize) -> Chords
+// The sum of the member counts of n chords; none where one of them is wrong, or stands after others than it says.
+fn members_in(s: &[u8], n: usize) -> Option<u16>
     requires { (n ≤ 32) × (4 * n ≤ length s.now) }
-    ensures ok_value { result.ok ≡ chords_ok n 0 s.now }
-    ensures sum_value { result.ok ≡ true → result.sum ≡ members_sum n s.now }
+    ensures ok { is_some result ≡ chords_ok n 0 s.now }
+    ensures sum { IfSome result (λ m. m ≡ members_sum n s.now) }
 {
-    let mut i: usize = 0;
-    let mut next: u16 = 0;
-    while i < n {
-        let at = 4 * i;
-        if !chord_ok(s, at, next) {
-            return Chords { ok: false, sum: 0 };
+    let mut next = 0;
+    for i in 0..n {
+        if !chord_ok(s, 4 * i, next) {
+            return None;
         }
-        next = more(next, s[at + 2]);
-        i += 1;
+        next += u16::from(s[4 * i + 2]);
     }
-    Chords {
-        ok: true,
-        sum: next,
-    }
+    Some(next)
 }
 
 // Whether the counts T, R and M are in range.
-fn counts_ok(table: &[u8]) -> bool
-    requires { 12 ≤ length table.now }
-    ensures { result ≡ counts_ok table.now }
+#[tactic(auto, unfolding(model::specs::Layout::counts_ok))]
+fn counts_ok(bytes: &[u8]) -> bool
+    requires { 12 ≤ length bytes.now }
+    ensures { result ≡ counts_ok bytes.now }
 {
-    let t = word_at(table, 0);
-    let r = word_at(table, 1);
-    let m = word_at(table, 2);
-    (1 <= t) & ((t <= 16) & ((r <= 32) & (m <= 256)))
+    let t = word_at(bytes, 0);
+    let r = word_at(bytes, 1);
+    let m = word_at(bytes, 2);
+    1 <= t && t <= 16 && r <= 32 && m <= 256
 }
 
 // Whether the offsets and the length are those of the counts.
-fn offsets_ok(table: &[u8]) -> bool
-    requires { Counts table.now }
-    ensures { result ≡ offsets_ok table.now }
+#[tactic(auto, unfolding(model::specs::Layout::offsets_ok))]
+fn offsets_ok(bytes: &[u8]) -> bool
+    requires { Counts bytes.now }
+    ensures { result ≡ offsets_ok bytes.now }
 {
-    let t = word_at(table, 0);
-    let r = word_at(table, 1);
-    let m = word_at(table, 2);
-    let kinds = word_at(table, 3);
-    let chords = word_at(table, 4);
-    let members = word_at(table, 5);
-    let start = 12 + (t + 4 * r);
-    let total = (start + m) as usize;
-    (kinds == 12) & ((chords == 12 + t) & ((members == start) & (table.len() == total)))
+    let chords = 12 + word_at(bytes, 0);
+    let members = chords + 4 * word_at(bytes, 1);
+    let end = members + word_at(bytes, 2);
+    word_at(bytes, 3) == 12
+        && word_at(bytes, 4) == chords
+        && word_at(bytes, 5) == members
+        && bytes.len() == usize::from(end)
 }
 
 // Whether each channel's kind is known.
-fn kinds_ok(table: &[u8]) -> bool
-    requires { Header table.now }
-    ensures { result ≡ kinds_ok (kind_bytes table.now) }
+#[tactic(auto, unfolding(model::specs::Layout::kinds_ok), using(crate::proofs::Headers::kinds_below))]
+fn kinds_ok(bytes: &[u8]) -> bool
+    requires { Header bytes.now }
+    ensures { result ≡ kinds_ok (kind_bytes bytes.now) }
 {
-    let t = word_at(table, 0);
-    let end = (12 + t) as usize;
-    all_below(&table[12..end], 2)
+    let end = usize::from(12 + word_at(bytes, 0));
+    all_below(&bytes[12..end], 2)
 }
 
-// Whether the chords' entries are right, and then the sum of their member counts.
-fn chords_found(table: &[u8]) -> Chords
-    requires { Header table.now }
-    ensures ok_value { result.ok ≡ chords_ok (count_r table.now) 0 (chord_bytes table.now) }
-    ensures sum_value { result.ok ≡ true → result.sum ≡ entries_sum table.now }
+// The sum of the chords' member counts; none where an entry is wrong.
+fn members_sum(bytes: &[u8]) -> Option<u16>
+    requires { Header bytes.now }
+    ensures ok { is_some result ≡ chords_ok (count_r bytes.now) 0 (chord_bytes bytes.now) }
+    ensures sum { IfSome result (λ m. m ≡ entries_sum bytes.now) }
 {
-    let t = word_at(table, 0);
-    let r = word_at(table, 1) as usize;
-    let start = (12 + t) as usize;
-    chords_in(&table[start..], r)
+    let start = usize::from(12 + word_at(bytes, 0));
+    members_in(&bytes[start..], usize::from(word_at(bytes, 1)))
 }
 
 // Whether each member is a channel of the table.
-fn members_ok(table: &[u8]) -> bool
-    requires { Header table.now }
-    ensures { result ≡ members_ok (count_t table.now) (member_bytes table.now) }
+#[tactic(auto, unfolding(model::specs::Layout::members_ok))]
+fn members_ok(bytes: &[u8]) -> bool
+    requires { Header bytes.now }
+    ensures { result ≡ members_ok (count_t bytes.now) (member_bytes bytes.now) }
 {
-    let t = word_at(table, 0);
-    let r = word_at(table, 1);
-    let start = (12 + (t + 4 * r)) as usize;
-    all_below(&table[start..], t as u8)
+    let t = word_at(bytes, 0);
+    let start = usize::from(12 + (t + 4 * word_at(bytes, 1)));
+    all_below(&bytes[start..], t as u8)
 }
 
 // The first refusal of table bytes, in the order of the layout; 0 for none.
+#[tactic(auto, unfolding(model::specs::Layout::table_refusal), using(crate::proofs::Headers::counts_from, crate::proofs::Headers::header_from))]
 pub fn table_refusal(bytes: &[u8]) -> u8
     ensures { result ≡ table_refusal bytes.now }
 {
@@ -172,11 +139,10 @@ pub fn table_refusal(bytes: &[u8]) -> u8
     if !kinds_ok(bytes) {
         return 4;
     }
-    let found = chords_found(bytes);
-    if !found.ok {
+    let Some(sum) = members_sum(bytes) else {
         return 5;
-    }
-    if found.sum != word_at(bytes, 2) {
+    };
+    if sum != word_at(bytes, 2) {
         return 6;
     }
     if !members_ok(bytes) {
@@ -193,11 +159,10 @@ pub fn chord_refusal(table: &[u8], chord: u32) -> u8
     if number != 0 {
         return number;
     }
-    let r = word_at(table, 1) as u32;
-    if chord < r {
-        return 0;
+    if u32::from(word_at(table, 1)) <= chord {
+        return 32;
     }
-    32
+    0
 }
 
 // The number of channels.
@@ -221,8 +186,8 @@ fn entry_byte(table: &[u8], chord: u8, k: usize) -> u8
     requires { (table_refusal table.now ≡ 0) × (chord < length (table_of table.now).chords) × (k < 4) }
     ensures { result ≡ get_or (chord_entry table.now chord) k 0 }
 {
-    let t = word_at(table, 0) as usize;
-    table[12 + t + 4 * (chord as usize) + k]
+    let chords = 12 + usize::from(word_at(table, 0));
+    table[chords + 4 * usize::from(chord) + k]
 }
 
 // Where a chord's channels start.
@@ -230,10 +195,10 @@ fn chord_start(table: &[u8], chord: u8) -> usize
     requires { (table_refusal table.now ≡ 0) × (chord < length (table_of table.now).chords) }
     ensures { result ≡ part_start table.now chord }
 {
-    let t = word_at(table, 0) as usize;
-    let r = word_at(table, 1) as usize;
-    let first = joined(entry_byte(table, chord, 0), entry_byte(table, chord, 1)) as usize;
-    12 + (t + 4 * r) + first
+    let t = usize::from(word_at(table, 0));
+    let r = usize::from(word_at(table, 1));
+    let first = u16::from_le_bytes([entry_byte(table, chord, 0), entry_byte(table, chord, 1)]);
+    12 + (t + 4 * r) + usize::from(first)
 }
 
 // The number of a chord's channels.
@@ -248,13 +213,11 @@ pub fn chord_len(table: &[u8], chord: u8) -> u8
 fn equality_of(byte: u8) -> Equality
     ensures { equality_in result ≡ equality_of byte }
 {
-    if byte == 0 {
-        return Equality::Any;
+    match byte {
+        0 => Equality::Any,
+        1 => Equality::Property,
+        _ => Equality::Unit,
     }
-    if byte == 1 {
-        return Equality::Property;
-    }
-    Equality::Unit
 }
 
 // What a chord wants to be equal.
@@ -271,8 +234,7 @@ pub fn members<'a>(table: &'a [u8], chord: u8) -> &'a [u8]
     ensures { result.now ≡ (chord_at (table_of table.now) chord).channels }
 {
     let start = chord_start(table, chord);
-    let len = chord_len(table, chord) as usize;
-    let end = start + len;
+    let end = start + usize::from(chord_len(table, chord));
     &table[start..end]
 }
 

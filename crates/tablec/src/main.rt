@@ -3,7 +3,7 @@
 // Standard output gets nothing unless the whole text is right; what is wrong goes to standard error as one line.
 #![tactic(auto)]
 
-ghost use Rattle.std.specs.Prelude.{◌≡◌, ◌<◌, ◌≤◌, length, take};
+ghost use Rattle.std.specs.Prelude.{◌<◌, take, IfSome};
 ghost use Rattle.texts.specs.Counts.{IsPrefixLen};
 ghost use Rattle.tablec.specs.Encoded.{Encoded};
 
@@ -11,13 +11,18 @@ use std::io;
 use std::io::Read;
 use std::rt::Env;
 use table::Equality;
-use texts::{complain, complain_number, has_arg, is_same, least, past, table_refused, word_at};
+use texts::{complain, has_arg, past, read_full, table_refused, word_at};
 
-// A name, with zeros past it; one of no bytes is no name.
-#[derive(Clone, Copy)]
+const NO_CHORD: codec::Chord = codec::Chord {
+    channels: [0; 8],
+    len: 0,
+    equal: Equality::Any,
+};
+
+// A name of 1 to 24 bytes, with zeros past them.
+#[derive(Clone, Copy, PartialEq)]
 struct Name {
     bytes: [u8; 24],
-    len: u8,
 }
 
 // The names of trays or of rules, in the order of their lines.
@@ -27,739 +32,430 @@ struct Names {
     count: u8,
 }
 
-// What the lines so far declare; `failed` where one of them was wrong, which was said then.
+// What the lines so far declare.
 #[derive(Clone, Copy)]
 struct Text {
     trays: Names,
     rules: Names,
     table: codec::Table,
-    failed: bool,
 }
 
-// A rule's trays as they are read: where the text goes on, and whether a word was wrong.
+// A rule's trays as they are read, and where the text goes on.
 #[derive(Clone, Copy)]
 struct Reading {
     chord: codec::Chord,
     at: usize,
-    failed: bool,
 }
 
-// The line that is being read, its number, and the text before it; `more` until the input ends or a line is wrong.
+// The line that is being read, as far as it fits, its length and its number, and the text before it.
 #[derive(Clone, Copy)]
 struct Input {
     bytes: [u8; 1024],
     len: usize,
-    long: bool,
-    more: bool,
     number: u64,
     text: Text,
 }
 
-// Text to standard output, to which `out` prints; whether it could be written, here and in what follows.
-fn say(out: &impl Print, text: &[u8]) -> bool {
-    out.write_all(text).is_ok()
-}
-
-fn say_number(out: &impl Print, n: usize) -> bool {
-    out.print(n).is_ok()
-}
+// The text is wrong, which was said on standard error.
+#[derive(Clone, Copy)]
+struct Complained;
 
 // The one line on standard error, about a word that stands between two texts.
-fn wrong_word(err: &impl Print, number: u64, ahead: &[u8], word: &[u8], behind: &[u8]) {
-    complain_number(err, b"line ", number, b": ");
-    complain(err, ahead);
+fn wrong_word(err: &impl Print, number: u64, ahead: &str, word: &[u8], behind: &str) -> Complained {
+    let _ = print!(err; "line {number}: {ahead}");
     complain(err, word);
-    complain(err, behind);
-    complain(err, b"\n");
+    let _ = println!(err; "{behind}");
+    Complained
 }
 
-fn wrong(err: &impl Print, number: u64, reason: &[u8]) {
-    wrong_word(err, number, reason, b"", b"");
+fn wrong(err: &impl Print, number: u64, reason: &str) -> Complained {
+    let _ = println!(err; "line {number}: {reason}");
+    Complained
 }
 
-fn failed(t: Text) -> Text {
-    let mut next = t;
-    next.failed = true;
-    next
+// Puts an item behind the first `len`, if there is room.
+fn push<T: Copy>(list: &mut [T], len: &mut u8, item: T) {
+    if let Some(place) = list.get_mut(usize::from(*len)) {
+        *place = item;
+        *len = len.saturating_add(1);
+    }
 }
 
 // The bytes of a line.
 
 // Whether a byte may stand in a name.
 fn is_letter(b: u8) -> bool {
-    let small = (b'a' <= b) & (b <= b'z');
-    let large = (b'A' <= b) & (b <= b'Z');
-    let digit = (b'0' <= b) & (b <= b'9');
-    small | large | digit | (b == b'-') | (b == b'_')
+    b.is_ascii_alphanumeric() || matches!(b, b'-' | b'_')
 }
 
-// The length of a line without a carriage return at its end.
-fn without_return(line: &[u8], len: usize) -> usize
-    requires { len ≤ length line.now }
-    ensures { result ≤ length line.now }
-{
-    if len == 0 {
-        return len;
+// A line without its comment, and without the carriage return before its line feed.
+fn bare(line: &[u8]) -> &[u8] {
+    match line.iter().position(|b| *b == b'#') {
+        Some(n) => &line[..n],
+        None => line.strip_suffix(b"\r").unwrap_or(line),
     }
-    let last = len - 1;
-    if line[last] == b'\r' {
-        return last;
-    }
-    len
-}
-
-// The length of a line without its comment, and without the carriage return before its line feed.
-fn bare_len(line: &[u8], len: usize) -> usize
-    ensures { IsPrefixLen result line.now }
-{
-    let n = least(len, line.len());
-    let mut i: usize = 0;
-    while i < n {
-        if line[i] == b'#' {
-            return i;
-        }
-        i += 1;
-    }
-    without_return(line, n)
 }
 
 // Names.
 
-fn no_name() -> Name {
-    Name {
-        bytes: [0; 24],
-        len: 0,
-    }
-}
-
 // A word as a name: 1 to 24 letters, digits, `-` and `_`.
-fn name_of(word: &[u8]) -> Name {
-    if 24 < word.len() {
-        return no_name();
+fn name_of(word: &[u8]) -> Option<Name> {
+    if word.is_empty() || !word.iter().all(|b| is_letter(*b)) {
+        return None;
     }
     let mut bytes = [0; 24];
-    let mut i: usize = 0;
-    while i < word.len() {
-        let b = word[i];
-        if !is_letter(b) {
-            return no_name();
-        }
-        bytes[i] = b;
-        i += 1;
-    }
-    Name {
-        bytes: bytes,
-        len: i as u8,
-    }
+    bytes.get_mut(..word.len())?.copy_from_slice(word);
+    Some(Name { bytes })
 }
 
-fn is_named(a: Name, b: Name) -> bool {
-    let mut i: usize = 0;
-    while i < 24 {
-        if a.bytes[i] != b.bytes[i] {
-            return false;
-        }
-        i += 1;
-    }
-    a.len == b.len
+// The number of a name that is there.
+fn number_of(names: &Names, name: Name) -> Option<usize>
+    ensures { IfSome result (λ i. i < 32) }
+{
+    let count = usize::from(names.count);
+    names
+        .list
+        .iter()
+        .take(count)
+        .position(|other| *other == name)
 }
 
-// The number of a name; 32 where it is not there.
-fn number_of(names: Names, name: Name) -> usize {
-    let n = least(names.count as usize, 32);
-    let mut i: usize = 0;
-    while i < n {
-        let other = names.list[i];
-        if is_named(other, name) {
-            return i;
-        }
-        i += 1;
+// A word as a name that can be declared.
+fn new_name(
+    err: &impl Print,
+    names: &Names,
+    number: u64,
+    label: &str,
+    word: &[u8],
+) -> Result<Name, Complained> {
+    let Some(name) = name_of(word) else {
+        return Err(wrong(err, number, "a name is 1 to 24 letters, digits, - or _"));
+    };
+    if number_of(names, name).is_some() {
+        return Err(wrong_word(err, number, label, word, " is declared already"));
     }
-    32
+    Ok(name)
 }
 
-fn with_name(names: Names, name: Name) -> Names {
-    let at = names.count as usize;
-    let mut next = names;
-    if at < 32 {
-        next.list[at] = name;
-        next.count = (at + 1) as u8;
-        return next;
-    }
-    next
-}
-
-// Whether a name can be declared; if not, that was said.
-fn is_new(err: &impl Print, names: Names, number: u64, label: &[u8], word: &[u8]) -> bool {
-    let name = name_of(word);
-    if name.len == 0 {
-        wrong(err, number, b"a name is 1 to 24 letters, digits, - or _");
-        return false;
-    }
-    if number_of(names, name) < 32 {
-        wrong_word(err, number, label, word, b" is declared already");
-        return false;
-    }
-    true
-}
-
-// Whether a line has no further word; if it has, that was said.
-fn is_end(err: &impl Print, line: &[u8], at: usize, number: u64) -> bool {
+// A line has no further word.
+fn expect_end(err: &impl Print, line: &[u8], at: usize, number: u64) -> Result<(), Complained> {
     let word = word_at(line, at);
-    if word.len() == 0 {
-        return true;
+    if word.is_empty() {
+        return Ok(());
     }
-    wrong_word(
-        err,
-        number,
-        b"expected the end of the line, not ",
-        word,
-        b"",
-    );
-    false
+    Err(wrong_word(err, number, "expected the end of the line, not ", word, ""))
 }
 
 // Tray lines.
 
-fn with_tray(t: Text, name: Name, kind: u8) -> Text {
-    let mut next = t;
-    let trays = t.trays;
-    let mut table = t.table;
-    let at = table.kinds_len as usize;
-    if at < 16 {
-        table.kinds[at] = kind;
-        table.kinds_len = (at + 1) as u8;
-        next.table = table;
-        let more = with_name(trays, name);
-        next.trays = more;
-        return next;
+// 0 for leave, 1 for waiting.
+fn kind_of(word: &[u8]) -> Option<u8> {
+    match word {
+        b"leave" => Some(0),
+        b"waiting" => Some(1),
+        _ => None,
     }
-    next
-}
-
-// 0 for leave, 1 for waiting, 2 for another word.
-fn kind_of(word: &[u8]) -> u8 {
-    if is_same(word, b"leave") {
-        return 0;
-    }
-    if is_same(word, b"waiting") {
-        return 1;
-    }
-    2
 }
 
 // `NAME leave` or `NAME waiting` from a place on.
-fn tray_line(err: &impl Print, t: Text, number: u64, line: &[u8], at: usize) -> Text {
-    let word = word_at(line, at);
+fn tray_line(
+    err: &impl Print,
+    t: &mut Text,
+    number: u64,
+    line: &[u8],
+    at: usize,
+) -> Result<(), Complained> {
+    let name = new_name(err, &t.trays, number, "tray ", word_at(line, at))?;
+    if 16 <= t.trays.count {
+        return Err(wrong(err, number, "more than 16 trays"));
+    }
     let second = past(line, at);
-    let trays = t.trays;
-    if !is_new(err, trays, number, b"tray ", word) {
-        return failed(t);
-    }
-    if 16 <= trays.count {
-        wrong(err, number, b"more than 16 trays");
-        return failed(t);
-    }
-    let kind = kind_of(word_at(line, second));
-    if 1 < kind {
-        wrong(err, number, b"expected leave or waiting");
-        return failed(t);
-    }
-    if !is_end(err, line, past(line, second), number) {
-        return failed(t);
-    }
-    with_tray(t, name_of(word), kind)
+    let Some(kind) = kind_of(word_at(line, second)) else {
+        return Err(wrong(err, number, "expected leave or waiting"));
+    };
+    expect_end(err, line, past(line, second), number)?;
+    push(&mut t.trays.list, &mut t.trays.count, name);
+    push(&mut t.table.kinds, &mut t.table.kinds_len, kind);
+    Ok(())
 }
 
 // Rule lines.
-
-fn with_rule(t: Text, name: Name, chord: codec::Chord) -> Text {
-    let mut next = t;
-    let rules = t.rules;
-    let mut table = t.table;
-    let at = table.chords_len as usize;
-    if at < 32 {
-        table.chords[at] = chord;
-        table.chords_len = (at + 1) as u8;
-        next.table = table;
-        let more = with_name(rules, name);
-        next.rules = more;
-        return next;
-    }
-    next
-}
-
-fn stopped(r: Reading) -> Reading {
-    let mut next = r;
-    next.failed = true;
-    next
-}
-
-// The chord with one channel more.
-fn with_channel(c: codec::Chord, channel: u8) -> codec::Chord {
-    let at = c.len as usize;
-    let mut next = c;
-    if at < 8 {
-        next.channels[at] = channel;
-        next.len = (at + 1) as u8;
-        return next;
-    }
-    next
-}
 
 // The name of one tray, at the place where the text goes on.
 fn member(
     err: &impl Print,
     r: Reading,
-    trays: Names,
+    trays: &Names,
     number: u64,
     line: &[u8],
-    missing: &[u8],
-) -> Reading {
-    let at = r.at;
-    let word = word_at(line, at);
-    if word.len() == 0 {
-        wrong(err, number, missing);
-        return stopped(r);
+    missing: &str,
+) -> Result<Reading, Complained> {
+    let word = word_at(line, r.at);
+    if word.is_empty() {
+        return Err(wrong(err, number, missing));
     }
-    let channel = number_of(trays, name_of(word));
-    if 32 <= channel {
-        wrong_word(err, number, b"no tray is called ", word, b"");
-        return stopped(r);
-    }
-    let c = r.chord;
-    Reading {
-        chord: with_channel(c, channel as u8),
-        at: past(line, at),
-        failed: false,
-    }
-}
-
-// A `+` and a tray, if the next word is `+`.
-fn next_member(err: &impl Print, r: Reading, trays: Names, number: u64, line: &[u8]) -> Reading {
-    let at = r.at;
-    if r.failed {
-        return r;
-    }
-    if !is_same(word_at(line, at), b"+") {
-        return r;
-    }
-    let mut next = r;
-    next.at = past(line, at);
-    member(err, next, trays, number, line, b"expected a tray after +")
+    let Some(channel) = name_of(word).and_then(|name| number_of(trays, name)) else {
+        return Err(wrong_word(err, number, "no tray is called ", word, ""));
+    };
+    let mut chord = r.chord;
+    push(&mut chord.channels, &mut chord.len, channel as u8);
+    Ok(Reading {
+        chord,
+        at: past(line, r.at),
+    })
 }
 
 // The trays of a rule, at most eight.
-fn members(err: &impl Print, trays: Names, number: u64, line: &[u8], at: usize) -> Reading {
-    let none = codec::Chord {
-        channels: [0; 8],
-        len: 0,
-        equal: Equality::Any,
-    };
+fn members(
+    err: &impl Print,
+    trays: &Names,
+    number: u64,
+    line: &[u8],
+    at: usize,
+) -> Result<Reading, Complained> {
     let start = Reading {
-        chord: none,
-        at: at,
-        failed: false,
+        chord: NO_CHORD,
+        at,
     };
-    let mut r = member(err, start, trays, number, line, b"a rule has 1 to 8 trays");
-    let mut k: u8 = 1;
-    while k < 8 {
-        r = next_member(err, r, trays, number, line);
-        k += 1;
+    let mut r = member(err, start, trays, number, line, "a rule has 1 to 8 trays")?;
+    for _ in 1..8 {
+        if !matches!(word_at(line, r.at), b"+") {
+            break;
+        }
+        let next = Reading {
+            at: past(line, r.at),
+            ..r
+        };
+        r = member(err, next, trays, number, line, "expected a tray after +")?;
     }
-    r
+    Ok(r)
 }
 
-// What a rule wants to be equal by the word after `same`, which is `property` or `unit`: a unit with its property.
-fn wanted(word: &[u8]) -> Equality {
-    if is_same(word, b"unit") {
-        return Equality::Unit;
-    }
-    Equality::Property
-}
-
-fn with_equal(c: codec::Chord, equal: Equality) -> codec::Chord {
-    let channels = c.channels;
-    codec::Chord {
-        channels: channels,
-        len: c.len,
-        equal: equal,
-    }
-}
-
-// What follows the trays: nothing, `same property`, or `same unit`.
-fn rule_end(err: &impl Print, r: Reading, number: u64, line: &[u8]) -> Reading {
-    let at = r.at;
-    let word = word_at(line, at);
-    if word.len() == 0 {
-        return r;
-    }
-    if is_same(word, b"+") {
-        wrong(err, number, b"a rule has 1 to 8 trays");
-        return stopped(r);
-    }
+// What follows the trays: nothing, `same property`, or `same unit`, a unit with its property.
+fn rule_end(err: &impl Print, number: u64, line: &[u8], at: usize) -> Result<Equality, Complained> {
     let second = past(line, at);
-    let last = word_at(line, second);
-    let known = is_same(last, b"property") | is_same(last, b"unit");
-    if !(is_same(word, b"same") & known) {
-        wrong(err, number, b"expected +, same property or same unit");
-        return stopped(r);
-    }
-    if !is_end(err, line, past(line, second), number) {
-        return stopped(r);
-    }
-    let c = r.chord;
-    Reading {
-        chord: with_equal(c, wanted(last)),
-        at: at,
-        failed: false,
-    }
+    let equal = match (word_at(line, at), word_at(line, second)) {
+        (b"", _) => return Ok(Equality::Any),
+        (b"+", _) => return Err(wrong(err, number, "a rule has 1 to 8 trays")),
+        (b"same", b"property") => Equality::Property,
+        (b"same", b"unit") => Equality::Unit,
+        _ => return Err(wrong(err, number, "expected +, same property or same unit")),
+    };
+    expect_end(err, line, past(line, second), number)?;
+    Ok(equal)
 }
 
 // `NAME = A + B` from a place on.
-fn rule_line(err: &impl Print, t: Text, number: u64, line: &[u8], at: usize) -> Text {
-    let word = word_at(line, at);
+fn rule_line(
+    err: &impl Print,
+    t: &mut Text,
+    number: u64,
+    line: &[u8],
+    at: usize,
+) -> Result<(), Complained> {
+    let name = new_name(err, &t.rules, number, "rule ", word_at(line, at))?;
+    if 32 <= t.rules.count {
+        return Err(wrong(err, number, "more than 32 rules"));
+    }
     let second = past(line, at);
-    let rules = t.rules;
-    let trays = t.trays;
-    if !is_new(err, rules, number, b"rule ", word) {
-        return failed(t);
+    if !matches!(word_at(line, second), b"=") {
+        return Err(wrong(err, number, "expected ="));
     }
-    if 32 <= rules.count {
-        wrong(err, number, b"more than 32 rules");
-        return failed(t);
-    }
-    if !is_same(word_at(line, second), b"=") {
-        wrong(err, number, b"expected =");
-        return failed(t);
-    }
-    let r = members(err, trays, number, line, past(line, second));
-    if r.failed {
-        return failed(t);
-    }
-    let whole = rule_end(err, r, number, line);
-    if whole.failed {
-        return failed(t);
-    }
-    let chord = whole.chord;
-    with_rule(t, name_of(word), chord)
+    let Reading { chord, at } = members(err, &t.trays, number, line, past(line, second))?;
+    let equal = rule_end(err, number, line, at)?;
+    push(&mut t.rules.list, &mut t.rules.count, name);
+    push(
+        &mut t.table.chords,
+        &mut t.table.chords_len,
+        codec::Chord { equal, ..chord },
+    );
+    Ok(())
 }
 
 // Lines.
 
-// The text with one line more, whose comment is cut.
-fn with_line(err: &impl Print, t: Text, number: u64, line: &[u8]) -> Text {
+// The text gets one line more, whose comment is cut.
+fn add_line(err: &impl Print, t: &mut Text, number: u64, line: &[u8]) -> Result<(), Complained> {
     let word = word_at(line, 0);
     let at = past(line, 0);
-    if word.len() == 0 {
-        return t;
+    match word {
+        b"" => Ok(()),
+        b"tray" => tray_line(err, t, number, line, at),
+        b"rule" => rule_line(err, t, number, line, at),
+        _ => Err(wrong_word(err, number, "expected tray or rule, not ", word, "")),
     }
-    if is_same(word, b"tray") {
-        return tray_line(err, t, number, line, at);
-    }
-    if is_same(word, b"rule") {
-        return rule_line(err, t, number, line, at);
-    }
-    wrong_word(err, number, b"expected tray or rule, not ", word, b"");
-    failed(t)
-}
-
-// The same with the first bytes of a buffer.
-fn with_bytes(err: &impl Print, t: Text, number: u64, buf: &[u8], len: usize) -> Text {
-    let n = bare_len(buf, len);
-    with_line(err, t, number, &buf[..n])
 }
 
 fn no_text() -> Text {
-    let name = no_name();
     let names = Names {
-        list: [name; 32],
+        list: [Name { bytes: [0; 24] }; 32],
         count: 0,
-    };
-    let chord = codec::Chord {
-        channels: [0; 8],
-        len: 0,
-        equal: Equality::Any,
-    };
-    let table = codec::Table {
-        kinds: [0; 16],
-        kinds_len: 0,
-        chords: [chord; 32],
-        chords_len: 0,
     };
     Text {
         trays: names,
         rules: names,
-        table: table,
-        failed: false,
+        table: codec::Table {
+            kinds: [0; 16],
+            kinds_len: 0,
+            chords: [NO_CHORD; 32],
+            chords_len: 0,
+        },
     }
 }
 
 fn no_input() -> Input {
-    let text = no_text();
     Input {
         bytes: [0; 1024],
         len: 0,
-        long: false,
-        more: true,
         number: 1,
-        text: text,
+        text: no_text(),
     }
-}
-
-// The text with the line in hand.
-fn text_with(err: &impl Print, input: Input) -> Text {
-    let t = input.text;
-    let number = input.number;
-    if input.long {
-        wrong(err, number, b"longer than 1024 bytes");
-        return failed(t);
-    }
-    let bytes = input.bytes;
-    let len = input.len;
-    with_bytes(err, t, number, &bytes, len)
 }
 
 // The line in hand is whole: it is read, and the next one begins.
-fn line_done(err: &impl Print, input: Input) -> Input {
-    let t = text_with(err, input);
-    let n = input.number;
-    let mut next = input;
-    next.text = t;
-    next.more = !t.failed;
-    next.len = 0;
-    if n < u64::MAX {
-        next.number = n + 1;
-        return next;
-    }
-    next
+fn line_done(err: &impl Print, input: &mut Input) -> Result<(), Complained> {
+    let Some(line) = input.bytes.get(..input.len) else {
+        return Err(wrong(err, input.number, "longer than 1024 bytes"));
+    };
+    add_line(err, &mut input.text, input.number, bare(line))?;
+    input.len = 0;
+    input.number = input.number.saturating_add(1);
+    Ok(())
 }
 
-// The line in hand with one byte more.
-fn with_byte(input: Input, b: u8) -> Input {
-    let at = input.len;
-    let mut next = input;
-    if at < 1024 {
-        next.bytes[at] = b;
-        next.len = at + 1;
-        return next;
-    }
-    next.long = true;
-    next
-}
-
-fn taken(err: &impl Print, input: Input, b: u8) -> Input {
-    if !input.more {
-        return input;
-    }
+fn take_byte(err: &impl Print, input: &mut Input, b: u8) -> Result<(), Complained> {
     if b == b'\n' {
         return line_done(err, input);
     }
-    with_byte(input, b)
+    let at = input.len;
+    if let Some(place) = input.bytes.get_mut(at) {
+        *place = b;
+    }
+    input.len = at.saturating_add(1);
+    Ok(())
 }
 
-fn taken_all(err: &impl Print, input: Input, s: &[u8]) -> Input {
-    let mut next = input;
-    let mut i: usize = 0;
-    while i < s.len() {
-        next = taken(err, next, s[i]);
-        i += 1;
+fn take_all(err: &impl Print, input: &mut Input, s: &[u8]) -> Result<(), Complained> {
+    for b in s {
+        take_byte(err, input, *b)?;
     }
-    next
+    Ok(())
 }
 
 // The input ends: bytes after the last line feed are a line too.
-fn ended(err: &impl Print, input: Input) -> Input {
-    let mut last = input;
+fn ended(err: &impl Print, input: &mut Input) -> Result<(), Complained> {
     if 0 < input.len {
-        last = line_done(err, input);
+        line_done(err, input)?;
     }
-    last.more = false;
-    last
+    Ok(())
 }
 
-// One read of standard input.
-fn read_some(err: &impl Print, reader: &mut impl Read, input: Input) -> Input {
-    let mut buf = [0u8; 4096];
-    match reader.read(&mut buf) {
-        Ok(0) => ended(err, input),
-        Ok(n) => taken_all(err, input, &buf[..n]),
-        Err(_) => {
-            complain(err, b"cannot read the text\n");
-            let t = input.text;
-            let mut last = input;
-            let bad = failed(t);
-            last.text = bad;
-            last.more = false;
-            last
-        }
-    }
-}
-
-fn read_text(err: &impl Print, reader: &mut impl Read) -> Text {
+// The whole text; a read that fails is said.
+fn read_text(err: &impl Print, reader: &mut impl Read) -> Result<Text, Complained> {
     let mut input = no_input();
-    let mut turns = u64::MAX;
-    while turns > 0 {
-        input = read_some(err, reader, input);
-        if !input.more {
-            return input.text;
+    let mut buf = [0u8; 4096];
+    for _ in 0..u64::MAX {
+        let Ok(n) = reader.read(&mut buf) else {
+            break;
+        };
+        if n == 0 {
+            ended(err, &mut input)?;
+            return Ok(input.text);
         }
-        turns -= 1;
+        take_all(err, &mut input, &buf[..n])?;
     }
-    let t = input.text;
-    failed(t)
+    let _ = println!(err; "cannot read the text");
+    Err(Complained)
 }
 
 // Table bytes.
 
-// The table's bytes at the start of a buffer, and how many they are; 0 where the writer refuses the table.
+// The table's bytes at the start of a buffer, and how many they are; none where the writer refuses the table.
 // The writer stores only bytes that the reader accepts, so what is written to standard output always passes it.
-fn encode(table: codec::Table, out: &mut [u8; 412]) -> usize
-    ensures prefix_len { IsPrefixLen result out.new }
-    ensures encoded { (result ≡ 0 → ⊥) → Encoded table (take result out.new) }
+fn encode(table: codec::Table, out: &mut [u8; 412]) -> Option<usize>
+    ensures { IfSome result (λ n. IsPrefixLen n out.new × Encoded table (take n out.new)) }
 {
-    if writer::write_table(table, out) != 0 {
-        return 0;
+    match writer::write_table(table, out) {
+        0 => Some(texts::table_len(out)),
+        _ => None,
     }
-    texts::table_len(out)
 }
 
 // From text to bytes.
 fn compile(rt: &(impl io::Input + Print), err: &impl Print) {
-    let t = read_text(err, &mut rt.reader());
-    if t.failed {
+    let Ok(text) = read_text(err, &mut rt.reader()) else {
         return;
-    }
-    let table = t.table;
-    if table.kinds_len == 0 {
-        complain(err, b"the table has no tray\n");
+    };
+    if text.table.kinds_len == 0 {
+        let _ = println!(err; "the table has no tray");
         return;
     }
     let mut out = [0u8; 412];
-    let n = encode(table, &mut out);
-    if n == 0 {
-        complain(err, b"the table cannot be written\n");
+    let Some(n) = encode(text.table, &mut out) else {
+        let _ = println!(err; "the table cannot be written");
         return;
-    }
-    if !say(rt, &out[..n]) {
-        complain(err, b"cannot write the table\n");
+    };
+    if rt.write_all(&out[..n]).is_err() {
+        let _ = println!(err; "cannot write the table");
     }
 }
 
 // From bytes to text.
 
-fn say_tray(out: &impl Print, table: codec::Table, i: usize) -> bool
-    requires { i < 16 }
-{
-    let n = table.kinds_len as usize;
-    if n <= i {
-        return true;
+fn say_trays(out: &impl Print, table: &codec::Table) -> io::Result<()> {
+    let n = usize::from(table.kinds_len);
+    for (i, kind) in table.kinds.iter().take(n).enumerate() {
+        let word = if *kind == 0 { "leave" } else { "waiting" };
+        println!(out; "tray t{i} {word}")?;
     }
-    let named = say(out, b"tray t") & say_number(out, i);
-    if table.kinds[i] == 0 {
-        return named & say(out, b" leave\n");
-    }
-    named & say(out, b" waiting\n")
+    Ok(())
 }
 
-fn say_member(out: &impl Print, chord: codec::Chord, k: usize) -> bool
-    requires { k < 8 }
-{
-    let n = chord.len as usize;
-    if n <= k {
-        return true;
+fn say_chord(out: &impl Print, chord: &codec::Chord) -> io::Result<()> {
+    let n = usize::from(chord.len);
+    for (k, channel) in chord.channels.iter().take(n).enumerate() {
+        let plus = if k == 0 { "" } else { " +" };
+        print!(out; "{plus} t{channel}")?;
     }
-    let channel = chord.channels[k];
-    if 0 < k {
-        return say(out, b" + t") & say_number(out, channel as usize);
-    }
-    say(out, b" t") & say_number(out, channel as usize)
-}
-
-fn say_end(out: &impl Print, equal: Equality) -> bool {
-    match equal {
-        Equality::Any => say(out, b"\n"),
-        Equality::Property => say(out, b" same property\n"),
-        Equality::Unit => say(out, b" same unit\n"),
+    match chord.equal {
+        Equality::Any => println!(out),
+        Equality::Property => println!(out; " same property"),
+        Equality::Unit => println!(out; " same unit"),
     }
 }
 
-fn say_chord(out: &impl Print, chord: codec::Chord) -> bool {
-    let mut said = true;
-    let mut k: usize = 0;
-    while k < 8 {
-        said = said & say_member(out, chord, k);
-        k += 1;
+fn say_rules(out: &impl Print, table: &codec::Table) -> io::Result<()> {
+    let n = usize::from(table.chords_len);
+    for (i, chord) in table.chords.iter().take(n).enumerate() {
+        print!(out; "rule r{i} =")?;
+        say_chord(out, chord)?;
     }
-    let equal = chord.equal;
-    said & say_end(out, equal)
+    Ok(())
 }
 
-fn say_rule(out: &impl Print, table: codec::Table, i: usize) -> bool
-    requires { i < 32 }
-{
-    let n = table.chords_len as usize;
-    if n <= i {
-        return true;
-    }
-    let named = say(out, b"rule r") & (say_number(out, i) & say(out, b" ="));
-    let chord = table.chords[i];
-    named & say_chord(out, chord)
-}
-
-fn say_trays(out: &impl Print, table: codec::Table) -> bool {
-    let mut said = true;
-    let mut i: usize = 0;
-    while i < 16 {
-        said = said & say_tray(out, table, i);
-        i += 1;
-    }
-    said
-}
-
-fn say_rules(out: &impl Print, table: codec::Table) -> bool {
-    let mut said = true;
-    let mut i: usize = 0;
-    while i < 32 {
-        said = said & say_rule(out, table, i);
-        i += 1;
-    }
-    said
-}
-
-// Reads until a buffer is full, the input ends or a read fails; how many of its bytes were read.
-fn read_full(reader: &mut impl Read, buf: &mut [u8]) -> usize
-    ensures { IsPrefixLen result buf.new }
-{
-    let mut n: usize = 0;
-    while n < buf.len() {
-        match reader.read(&mut buf[n..]) {
-            Ok(more) if 0 < more => n += more,
-            _ => return n,
-        }
-    }
-    n
+fn say_table(out: &impl Print, table: &codec::Table) -> io::Result<()> {
+    say_trays(out, table)?;
+    say_rules(out, table)
 }
 
 // One byte more than the longest table is read, so that longer input is refused.
 fn decompile(rt: &(impl io::Input + Print), err: &impl Print) {
     let mut bytes = [0u8; 413];
-    let n = read_full(&mut rt.reader(), &mut bytes);
+    let (n, _) = read_full(&mut rt.reader(), &mut bytes);
     let read = codec::read_table(&bytes[..n]);
     if read.number != 0 {
-        table_refused(err, read.number, b"");
+        table_refused(err, read.number, "");
         return;
     }
-    let table = read.table;
-    if !(say_trays(rt, table) & say_rules(rt, table)) {
-        complain(err, b"cannot write the text\n");
+    if say_table(rt, &read.table).is_err() {
+        let _ = println!(err; "cannot write the text");
     }
 }
 
 fn is_back(env: &impl Env) -> bool {
     let mut word = [0u8; 3];
     match env.arg(1, &mut word) {
-        Ok(n) => is_same(&word[..n], b"-r"),
+        Ok(n) => matches!(&word[..n], b"-r"),
         Err(_) => false,
     }
 }
@@ -768,16 +464,11 @@ fn main(rt: HostRuntime) {
     let err = rt.stderr();
     if !has_arg(&rt, 1) {
         compile(&rt, &err);
-        return;
+    } else if !has_arg(&rt, 2) && is_back(&rt) {
+        decompile(&rt, &err);
+    } else {
+        let _ = println!(err;
+            "usage: tablec < table.txt > rules.bin, or tablec -r < rules.bin > table.txt"
+        );
     }
-    if !has_arg(&rt, 2) {
-        if is_back(&rt) {
-            decompile(&rt, &err);
-            return;
-        }
-    }
-    complain(
-        &err,
-        b"usage: tablec < table.txt > rules.bin, or tablec -r < rules.bin > table.txt\n",
-    );
 }

@@ -1,54 +1,32 @@
-// What the programs on tables share: the words of a line, how long a written table is, and the one line on standard
-// error for a table that is refused.
+// What the programs on tables share: the words of a line, bytes that are read into a buffer, how long a written table
+// is, and the one line on standard error for a table that is refused.
 #![tactic(auto)]
 
 ghost use Rattle.std.specs.Prelude.{◌≡◌, List, ◌++◌, ℕ, ◌+◌, ◌*◌, ◌≤◌, length};
 ghost use Rattle.model.specs.Tables.{Table};
 ghost use Rattle.model.specs.Layout.{table_bytes};
+ghost use Rattle.texts.specs.Counts.{IsPrefixLen};
 
 use std::env::FillError;
+use std::io;
+use std::io::Read;
 use std::rt::Env;
-
-// How many bytes of a buffer hold what was read; not `ok` where that failed, which was said then.
-#[derive(Clone, Copy)]
-pub struct Loaded {
-    pub len: usize,
-    pub ok: bool,
-}
-
-pub fn none_loaded() -> Loaded
-    ensures { result.len ≡ 0 }
-{
-    Loaded { len: 0, ok: false }
-}
 
 // Words of a line.
 
 fn is_blank(b: u8) -> bool {
-    (b == b' ') | (b == b'\t')
-}
-
-pub fn least(a: usize, b: usize) -> usize
-    ensures { (result ≤ a) × (result ≤ b) }
-{
-    if a < b {
-        return a;
-    }
-    b
+    matches!(b, b' ' | b'\t')
 }
 
 // Where the next word starts, or the line's end.
 fn word_start(line: &[u8], at: usize) -> usize
     ensures { result ≤ length line.now }
 {
-    let mut i = least(at, line.len());
-    while i < line.len() {
-        if !is_blank(line[i]) {
-            return i;
-        }
-        i += 1;
+    let from = at.min(line.len());
+    match line[from..].iter().position(|b| !is_blank(*b)) {
+        Some(n) => from + n,
+        None => line.len(),
     }
-    i
 }
 
 // Where the word at a place ends.
@@ -56,14 +34,10 @@ fn word_end(line: &[u8], at: usize) -> usize
     requires { at ≤ length line.now }
     ensures { (at ≤ result) × (result ≤ length line.now) }
 {
-    let mut i = at;
-    while i < line.len() {
-        if is_blank(line[i]) {
-            return i;
-        }
-        i += 1;
+    match line[at..].iter().position(|b| is_blank(*b)) {
+        Some(n) => at + n,
+        None => line.len(),
     }
-    i
 }
 
 // The next word from a place on; no bytes at the line's end.
@@ -75,35 +49,38 @@ pub fn word_at(line: &[u8], at: usize) -> &[u8] {
 
 // The place behind that word.
 pub fn past(line: &[u8], at: usize) -> usize {
-    let from = word_start(line, at);
-    word_end(line, from)
+    word_end(line, word_start(line, at))
 }
 
-pub fn is_same(a: &[u8], b: &[u8]) -> bool {
-    if a.len() != b.len() {
-        return false;
-    }
-    let mut i: usize = 0;
-    while i < a.len() {
-        if a[i] != b[i] {
-            return false;
+// Bytes that are read.
+
+// Reads until a buffer is full, the input ends or a read fails; how many bytes it put, and what failed.
+// By hand: `read_to_end` takes memory of its own, and `read_exact` does not say how many bytes it put.
+pub fn read_full<R: Read>(reader: &mut R, buf: &mut [u8]) -> (usize, io::Result<()>)
+    ensures { IsPrefixLen result.0 buf.new }
+{
+    let mut n = 0;
+    while n < buf.len() {
+        match reader.read(&mut buf[n..]) {
+            Ok(0) => break,
+            Ok(more) => n += more,
+            Err(error) => return (n, Err(error)),
         }
-        i += 1;
     }
-    true
+    (n, Ok(()))
 }
 
 // Table bytes.
 
 // Two bytes as a number, low byte first.
 fn two(low: u8, high: u8) -> usize
-    ensures value { result ≡ low + 256 * high }
-    ensures upper_bound { result ≤ 65535 }
+    ensures { result ≡ low + 256 * high }
 {
-    (low as usize) + 256 * (high as usize)
+    usize::from(u16::from_le_bytes([low, high]))
 }
 
 // How many bytes the table at the start of a buffer takes: its members' offset and their number.
+#[tactic(auto, using(crate::proofs::Sizes::size_is))]
 pub fn table_len(buf: &[u8]) -> usize
     requires { 12 ≤ length buf.now }
     ensures { (t : Table) (rest : List ℕ) → buf.now ≡ table_bytes t ++ rest
@@ -114,43 +91,28 @@ pub fn table_len(buf: &[u8]) -> usize
 
 // Standard error, to which `err` prints.
 
+// Bytes that need not be text.
 pub fn complain(err: &impl Print, text: &[u8]) {
     let _ = err.write_all(text);
 }
 
-// A number between two texts.
-pub fn complain_number(err: &impl Print, ahead: &[u8], n: u64, behind: &[u8]) {
-    complain(err, ahead);
-    let _ = err.print(n);
-    complain(err, behind);
-}
-
-pub fn complain_refused(err: &impl Print, number: u8) {
-    complain_number(err, b"refused ", number as u64, b": ");
-}
-
 // When the reader gives a number.
-fn complain_when(err: &impl Print, number: u8) {
+fn when(number: u8) -> &'static str {
     match number {
-        1 => complain(err, b"under 12 bytes"),
-        2 => complain(err, b"T, R or M out of range"),
-        3 => complain(err, b"offsets or length wrong"),
-        4 => complain(err, b"byte over 1"),
-        5 => complain(
-            err,
-            b"wrong first member, count not 1 to 8, or last byte over 2",
-        ),
-        6 => complain(err, b"member counts do not sum to M"),
-        _ => complain(err, b"tray number T or more"),
+        1 => "under 12 bytes",
+        2 => "T, R or M out of range",
+        3 => "offsets or length wrong",
+        4 => "byte over 1",
+        5 => "wrong first member, count not 1 to 8, or last byte over 2",
+        6 => "member counts do not sum to M",
+        _ => "tray number T or more",
     }
 }
 
 // The whole line for the reader's number, with a text that says of which table it is.
-pub fn table_refused(err: &impl Print, number: u8, label: &[u8]) {
-    complain_refused(err, number);
-    complain(err, label);
-    complain_when(err, number);
-    complain(err, b"\n");
+pub fn table_refused(err: &impl Print, number: u8, label: &str) {
+    let reason = when(number);
+    let _ = println!(err; "refused {number}: {label}{reason}");
 }
 
 // The arguments.

@@ -1,2 +1,2 @@
--- Laws of the steps that wake, free and signal.
-pub mod Waking
+-- Laws of the steps that wake and free.
+pub mod Freeing

@@ -1,25 +1,23 @@
--- A value's lists as the model's: their lengths, and the chords walked from the front.
-use mathlib.Core.Path.{◌≡◌, refl, ap, ◌∙◌}
-use mathlib.Core.Bool.{true, ◌&&◌}
+-- A value's lists as the model's: their lengths, and what its chords are, one by one.
+use mathlib.Core.Path.{◌≡◌, refl, ap}
 use mathlib.Core.List.{List, [], ◌∷◌, map}
-use Prim.Native.Nat.{ℕ, zero, suc, ◌+◌, ◌<◌, ◌≤◌}
-use native.Mathlib.Nat.{le_of_suc-le-suc, not-suc-le-zero}
-use native.Mathlib.Numerals.{add-one}
-use native.Mathlib.Omega.{arith}
-use borrow.Author.Tests.{leb-true}
-use lib.Dec.{leb}
-use lib.ListN.{length, get_or, take, drop, get_or-map, drop_of_length-le}
-use lib.Seq.{drop-cons}
+use Prim.Native.Nat.{ℕ, zero, suc, ◌<◌, ◌≤◌}
+use borrow.Author.Tests.{lt-ltb}
+use lib.Dec.{ltb}
+use lib.ListN.{length, take, length-map}
+use lib.Seq.{take-nil}
+use Rattle.std.proofs.lemmas.List.{take-map, length-append}
+use Rattle.std.proofs.lemmas.List.Folds.{list_all-map}
+use Rattle.std.proofs.lemmas.List.Sums.{sum_by-cons}
 use Rattle.model.specs.Basics.{every}
 use Rattle.model.specs.Tables.{no_chord}
-use Rattle.model.proofs.Tests.{both}
-use Rattle.model.proofs.Lists.{every-nth}
+use Rattle.model.specs.Layout.{members_ok, written_members}
 use Rattle.table.specs.declared.Equality.TheVariants as E
 use Rattle.codec.specs.declared.Chord as DC
 use Rattle.codec.specs.declared.Table as DT
 use Rattle.codec.specs.Views.{firsts, chord_in, table_in}
 use Rattle.codec.proofs.Views.{firsts-take}
-use Rattle.writer.specs.Writes.{sized}
+use Rattle.writer.specs.Writes.{sized, table_with, members_len, len_ok, channels_below}
 
 -- the first n of an array
 length-firsts : {A : Type 0} (d : A) (n : ℕ) (xs : List A) → length (firsts d n xs) ≡ n
@@ -27,21 +25,21 @@ length-firsts d zero xs = refl
 length-firsts d (suc n) [] = ap suc (length-firsts d n [])
 length-firsts d (suc n) (x ∷ xs) = ap suc (length-firsts d n xs)
 
-nth-firsts : {A : Type 0} (d : A) (n : ℕ) (xs : List A) (i : ℕ) → i < n → get_or (firsts d n xs) i d ≡ get_or xs i d
-nth-firsts d zero xs i h = absurd (not-suc-le-zero h)
-nth-firsts d (suc n) [] zero h = refl
-nth-firsts d (suc n) [] (suc i) h = nth-firsts d n [] i (le_of_suc-le-suc h)
-nth-firsts d (suc n) (x ∷ xs) zero h = refl
-nth-firsts d (suc n) (x ∷ xs) (suc i) h = nth-firsts d n xs i (le_of_suc-le-suc h)
-
-pub kinds-part : (t : DT.Table) → t.kinds_len ≤ length t.kinds
-    → (table_in t).kinds ≡ take t.kinds_len t.kinds
+-- the fronts of a value's arrays hold its kinds and chords
+pub fronts : (t : DT.Table) → t.kinds_len ≤ length t.kinds → t.chords_len ≤ length t.chords
+    → table_with (take t.kinds_len t.kinds) (take t.chords_len t.chords) ≡ table_in t
 unfolding table_in
-kinds-part t h = firsts-take 0 t.kinds_len t.kinds h
+fronts t h k =
+    let g : t.chords_len ≤ length (map chord_in t.chords) = simp length-map k in
+    rw (
+      firsts-take 0 t.kinds_len t.kinds h,
+      firsts-take no_chord t.chords_len (map chord_in t.chords) g,
+      take-map,
+    )
 
-pub channels-part : (c : DC.Chord) → c.len ≤ length c.channels → (chord_in c).channels ≡ take c.len c.channels
+pub channels-part : (c : DC.Chord) → c.len ≤ length c.channels → take c.len c.channels ≡ (chord_in c).channels
 unfolding chord_in
-channels-part c h = firsts-take 0 c.len c.channels h
+channels-part c h = rw (firsts-take 0 c.len c.channels h)
 
 pub length-kinds-in : (t : DT.Table) → length (table_in t).kinds ≡ t.kinds_len
 unfolding table_in
@@ -59,31 +57,24 @@ length-channels-in c = length-firsts 0 c.len c.channels
 abbrev pub zero_chord : DC.Chord
 zero_chord = record { channels = []; len = 0; equal = E.Any }
 
--- the chords left from i on
-module _ (t : DT.Table) (i : ℕ) where
-  nth-chord : i < t.chords_len → get_or (table_in t).chords i no_chord ≡ chord_in (get_or t.chords i zero_chord)
-  unfolding table_in chord_in
-  nth-chord h =
-      nth-firsts no_chord t.chords_len (map chord_in t.chords) i h ∙ get_or-map chord_in t.chords i zero_chord
+pub length-members : (cs : List DC.Chord) → length (written_members (map chord_in cs)) ≡ members_len cs
+length-members [] = refl
+length-members (c ∷ cs) =
+    rw (length-append, length-channels-in, length-members cs, sum_by-cons (λ (c : DC.Chord). c.len))
 
-  pub chords-left : i < t.chords_len
-      → drop i (table_in t).chords ≡ chord_in (get_or t.chords i zero_chord) ∷ drop (i + 1) (table_in t).chords
-  chords-left h =
-      let l = length-chords-in t in
-      rw (drop-cons (table_in t).chords i no_chord (omega arith), nth-chord h, add-one i)
-
-  pub none_left : t.chords_len ≤ i → drop i (table_in t).chords ≡ []
-  none_left h = let l = length-chords-in t in drop_of_length-le (table_in t).chords {i = i} (omega arith)
-
-pub sized-is : (c : DC.Chord) → sized (chord_in c) ≡ (leb 1 c.len && leb c.len 8)
+-- the tests of each chord, as the code makes them
+pub sized-each : (cs : List DC.Chord) → every sized (map chord_in cs) ≡ every len_ok cs
 unfolding sized
-sized-is c = rw (length-channels-in c)
+sized-each cs = simp (list_all-map, length-channels-in)
 
-pub sized-at : (t : DT.Table) (i : ℕ) → every sized (table_in t).chords ≡ true → i < t.chords_len
-    → (get_or t.chords i zero_chord).len ≤ 8
-sized-at t i e h =
-    let x = get_or t.chords i zero_chord in
-    let l = length-chords-in t in
-    let f = every-nth sized (table_in t).chords no_chord e i (omega arith) in
-    let g = rw (nth-chord t i h, sized-is x) at f in
-    leb-true x.len 8 (both {t = leb 1 x.len} g).1
+below-front : (n k : ℕ) (xs : List ℕ) → 0 < n
+    → every (λ x. ltb x n) (firsts 0 k xs) ≡ every (λ x. ltb x n) (take k xs)
+below-front n zero xs h = refl
+below-front n (suc k) [] h = rw (lt-ltb 0 n h, below-front n k [] h, take-nil)
+below-front n (suc k) (x ∷ xs) h = rw (below-front n k xs h)
+
+pub members-below : (n : ℕ) (cs : List DC.Chord) → 0 < n
+    → every (λ c. members_ok n c.channels) (map chord_in cs) ≡ every (channels_below n) cs
+unfolding members_ok chord_in
+members-below n [] h = refl
+members-below n (c ∷ cs) h = rw (below-front n c.len c.channels h, members-below n cs h)

@@ -1,27 +1,31 @@
 -- Which number a written table is refused with: the layout's own rules always hold of it,
 -- so only its counts, its kinds, its chords' sizes and its members decide.
 use mathlib.Core.Path.{◌≡◌, refl, ◌∙◌}
-use mathlib.Core.Bool.{true, false, ◌&&◌, and-true, and-false}
+use mathlib.Core.Bool.{Bool, true, false, ◌&&◌, and-true}
 use mathlib.Core.List.{List, [], ◌∷◌, ◌++◌}
 use Prim.Native.Nat.{ℕ, ◌+◌, ◌<◌, ◌≤◌}
 use native.Mathlib.Nat.{mod-add-div}
 use native.Mathlib.Omega.{arith}
 use borrow.Author.Tests.{eq-eqb, ne_eqb, le-leb, lt-leb, leb-true}
 use lib.Dec.{leb, ltb}
-use lib.ListN.{length}
+use lib.ListN.{length, length-map}
+use Rattle.std.specs.List.{All}
 use Rattle.model.specs.Basics.{every, unless}
 use Rattle.model.specs.Tables.{Chord, Table}
-use Rattle.model.specs.Layout.{word, chord_ok, chords_ok, members_ok, kinds_ok, written_chords, written_members, table_bytes}
-use Rattle.model.specs.Layout.{table_refusal, counts_ok, offsets_ok, count_t, count_r, count_m, chords_start, members_start}
+use Rattle.model.specs.Layout.{word, chord_ok, chords_ok, members_ok, kinds_ok, written_chords, written_members}
+use Rattle.model.specs.Layout.{table_bytes, table_refusal, counts_ok, offsets_ok, count_t, count_r, count_m}
+use Rattle.model.specs.Layout.{chords_start, members_start}
 use Rattle.model.specs.Layout.{write_refusal, written}
-use Rattle.model.proofs.Tests.{and, unless-none, all-four, refused-first}
-use Rattle.model.proofs.Lists.{every-each}
+use Rattle.model.proofs.Tests.{and, both, unless-none, refused-first}
+use Rattle.model.proofs.Lists.{every-each, every-nth}
 use Rattle.model.proofs.Written.{header, whole-written, kinds-written, chords-written, members-written}
 use Rattle.model.proofs.Written.{sum-written, equality-small}
+use Rattle.codec.specs.declared.Chord as DC
 use Rattle.codec.specs.declared.Table as DT
 use Rattle.codec.specs.Views.{table_in}
 use Rattle.writer.specs.Writes.{counts_in, sized, members_written, stored}
-use Rattle.writer.proofs.Chords.{length-kinds-in, length-chords-in}
+use Rattle.writer.specs.Writes.{table_with, members_len, len_ok, channels_below, Counted}
+use Rattle.writer.proofs.Chords.{length-kinds-in, length-chords-in, length-members, sized-each, members-below}
 
 entries-sized : (rest : List ℕ) (next : ℕ) (cs : List Chord)
     → chords_ok (length cs) next (written_chords next cs ++ rest) ≡ every sized cs
@@ -84,39 +88,50 @@ module _ (t : Table) where
         members-each (length t.kinds) t.chords,
       )
 
--- the counts of a value, as the code tests them
-module _ (t : DT.Table) where
-  counts-are : counts_in (table_in t)
-      ≡ (leb 1 t.kinds_len && (leb t.kinds_len 16 && (leb t.chords_len 32 &&
-      leb (length (written_members (table_in t).chords)) 256)))
-  unfolding counts_in
-  counts-are = rw (length-kinds-in t, length-chords-in t)
+-- counts out of range, as the code tests them
+pub counts-out : (t : DT.Table) → (leb 1 t.kinds_len && (leb t.kinds_len 16 && leb t.chords_len 32)) ≡ false
+    → table_refusal (table_bytes (table_in t)) ≡ 2
+unfolding counts_in
+counts-out t e =
+    let m = leb (length (written_members (table_in t).chords)) 256 in
+    rw (
+      refusal-written (table_in t),
+      length-kinds-in t,
+      length-chords-in t,
+      and-more (leb 1 t.kinds_len) (leb t.kinds_len 16) (leb t.chords_len 32) m e,
+    )
+  where
+    and-more : (a b c d : Bool) → (a && (b && c)) ≡ false → (a && (b && (c && d))) ≡ false
+    and-more true true c d e = rw e
+    and-more true false c d e = refl
+    and-more false b c d e = refl
 
-  pub counts-many : 32 < t.chords_len → counts_in (table_in t) ≡ false
-  counts-many h = counts-are ∙ rw (
-    lt-leb t.chords_len 32 h,
-    and-false (leb t.kinds_len 16),
-    and-false (leb 1 t.kinds_len),
-  )
+-- the refusals of kinds and chords whose counts are in range, as the code tests them
+pub refusal_tested : (ks : List ℕ) (cs : List DC.Chord) → Counted ks cs
+    → table_refusal (table_bytes (table_with ks cs))
+    ≡ unless (leb (members_len cs) 256) 2
+    (unless (every (λ k. leb k 1) ks) 4
+    (unless (every len_ok cs) 5 (unless (every (channels_below (length ks)) cs) 7 0)))
+unfolding counts_in kinds_ok members_written
+refusal_tested ks cs h =
+    rw (
+      refusal-written (table_with ks cs),
+      le-leb 1 (length ks) h.kinds_some,
+      le-leb (length ks) 16 h.kinds_few,
+      length-map,
+      le-leb (length cs) 32 h.chords_few,
+      length-members cs,
+      sized-each cs,
+      members-below (length ks) cs h.kinds_some,
+    )
 
-  pub counts-few : (m : ℕ) → m ≡ length (written_members (table_in t).chords) → t.chords_len ≤ 32
-      → counts_in (table_in t) ≡ (leb 1 t.kinds_len && (leb t.kinds_len 16 && leb m 256))
-  counts-few m e h = counts-are ∙ rw (le-leb t.chords_len 32 h, e)
-
--- a value that is not refused
-pub record Kept (t : DT.Table) : Type 0 where
-  pub kinds_few : t.kinds_len ≤ 16
-  pub chords_few : t.chords_len ≤ 32
-  pub all_sized : every sized (table_in t).chords ≡ true
-
-pub kept : (t : DT.Table) → table_refusal (table_bytes (table_in t)) ≡ 0 → Kept t
-kept t e =
-    let p = unless-none (counts_in (table_in t)) 1 _ (rw (refusal-written (table_in t)) at e) in
-    let q = unless-none (kinds_ok (table_in t).kinds) 3 _ p.1 in
-    let r = unless-none (every sized (table_in t).chords) 4 _ q.1 in
-    let c = rw (counts-are t) at p.0 in
-    let k = all-four (leb 1 t.kinds_len) (leb t.kinds_len 16) (leb t.chords_len 32) _ c in
-    record { kinds_few = leb-true _ _ k.1; chords_few = leb-true _ _ k.2; all_sized = r.0 }
+pub channels-few : (ks : List ℕ) (cs : List DC.Chord) → Counted ks cs
+    → table_refusal (table_bytes (table_with ks cs)) ≡ 0 → All (λ (c : DC.Chord). c.len ≤ 8) cs
+channels-few ks cs h e =
+    let p = unless-none (leb (members_len cs) 256) 1 _ (rw (refusal_tested ks cs h) at e) in
+    let q = unless-none (every (λ k. leb k 1) ks) 3 _ p.1 in
+    let r = unless-none (every len_ok cs) 4 _ q.1 in
+    λ k d l. leb-true _ 8 (both {t = leb 1 _} (every-nth len_ok cs d r.0 k l)).1
 
 -- the number and the buffer of a write
 module _ (v : Table) (out : List ℕ) where

@@ -1,53 +1,52 @@
 -- Laws of a table's bytes stored chord by chord: the entries and the members left, stored from here on,
 -- give what storing all of them gave.
 use mathlib.Core.Path.{◌≡◌, refl, sym, ◌∙◌}
-use mathlib.Core.List.{List, ◌++◌}
+use mathlib.Core.List.{List, ◌++◌, map}
 use Prim.Native.Nat.{ℕ, suc, ◌+◌, ◌*◌, ◌<◌, ◌≤◌}
 use native.Mathlib.Omega.{arith}
-use lib.ListN.{length, get_or, drop, length-append}
-use lib.Seq.{sets, sets-eq}
-use Rattle.model.specs.Tables.{Table}
+use lib.ListN.{length, get_or, drop, length-map}
+use lib.Seq.{drop-cons, sets, sets-eq}
+use native.Mathlib.Numerals.{add-one}
+use Rattle.model.specs.Tables.{Chord}
 use Rattle.model.specs.Layout.{table_bytes, written_header, written_chords, written_members}
 use Rattle.model.proofs.Written.{whole-written, length-entries}
 use Rattle.model.proofs.Parts.{sets-append}
 use Rattle.codec.specs.declared.Chord as DC
-use Rattle.codec.specs.declared.Table as DT
 use Rattle.table.specs.Equalities.{equality_in}
-use Rattle.codec.specs.Views.{chord_in, table_in}
-use Rattle.writer.specs.Writes.{entry_bytes, stored}
-use Rattle.writer.proofs.Chords.{chords-left, length-channels-in, length-kinds-in, length-chords-in, zero_chord}
+use Rattle.codec.specs.Views.{chord_in}
+use Rattle.writer.specs.Writes.{entry_bytes, stored, table_with, members_len}
+use Rattle.writer.proofs.Chords.{length-channels-in, length-members}
 
 equal-in : (c : DC.Chord) → (chord_in c).equal ≡ equality_in c.equal
 unfolding chord_in
 equal-in c = refl
 
-module _ (t : DT.Table) (i : ℕ) (h : i < t.chords_len) where
+-- the chords left from i on
+module _ (cs : List DC.Chord) (i : ℕ) (z : DC.Chord) (h : i < length cs) where
   abbrev x : DC.Chord
-  x = get_or t.chords i zero_chord
+  x = get_or cs i z
 
-  pub members-left : length (written_members (drop i (table_in t).chords))
-      ≡ x.len + length (written_members (drop (i + 1) (table_in t).chords))
-  members-left = rw (chords-left t i h, length-append (chord_in x).channels, length-channels-in x)
+  abbrev rest : List Chord
+  rest = map chord_in (drop (i + 1) cs)
 
   module _ (out : List ℕ) (at : ℕ) where
-    pub entries_next : (next : ℕ) → sets out at (written_chords next (drop i (table_in t).chords))
+    pub entries_next : (next : ℕ) → sets out at (written_chords next (map chord_in (drop i cs)))
         ≡ sets (sets out at (entry_bytes next x.len (equality_in x.equal))) (at + 4)
-        (written_chords (next + x.len) (drop (i + 1) (table_in t).chords))
+        (written_chords (next + x.len) rest)
     entries_next next =
-        let z : at + 4 ≡ suc (suc (suc (suc at))) = omega arith in
-        rw (chords-left t i h, length-channels-in x, equal-in x, z)
+        let e : at + 4 ≡ suc (suc (suc (suc at))) = omega arith in
+        rw (drop-cons cs i z h, length-channels-in x, equal-in x, e, add-one)
 
-    pub members-next : sets out at (written_members (drop i (table_in t).chords))
-        ≡ sets (sets out at (chord_in x).channels) (at + x.len) (written_members (drop (i + 1) (table_in t).chords))
-    members-next = rw (chords-left t i h, sets-append, length-channels-in x)
+    pub members-next : sets out at (written_members (map chord_in (drop i cs)))
+        ≡ sets (sets out at (chord_in x).channels) (at + x.len) (written_members rest)
+    members-next = rw (drop-cons cs i z h, sets-append, length-channels-in x, add-one)
 
 -- the four sections stored in turn are the table's bytes, and what is past them is kept
-pub length-written : (t : DT.Table) → length (table_bytes (table_in t))
-    ≡ 12 + t.kinds_len + 4 * t.chords_len + length (written_members (table_in t).chords)
-length-written t =
-    let k = length-kinds-in t in
-    let c = length-chords-in t in
-    omega (arith, whole-written (table_in t).kinds (table_in t).chords)
+pub length-written : (ks : List ℕ) (cs : List DC.Chord)
+    → length (table_bytes (table_with ks cs)) ≡ 12 + length ks + 4 * length cs + members_len cs
+length-written ks cs =
+    let r = length-map cs chord_in in
+    omega (arith, whole-written ks (map chord_in cs), length-members cs)
 
 in-turn : (out h k e m : List ℕ) (a b c : ℕ) → length h ≡ a → a + length k ≡ b → b + length e ≡ c →
     let w = h ++ (k ++ (e ++ m)) in
@@ -62,16 +61,19 @@ in-turn out h k e m a b c p q r l =
     let n = sets-append (sets (sets out 0 h) a k) b e m in
     sym (rw y at f ∙ (rw q at g ∙ rw r at n)) ∙ s
 
-module _ (v : Table) (T R M : ℕ) where
-  pub table-stored : length v.kinds ≡ T → length v.chords ≡ R → length (written_members v.chords) ≡ M
-      → (out : List ℕ) → length (table_bytes v) ≤ length out
-      → sets (sets (sets (sets out 0 (written_header T R M)) 12 v.kinds) (12 + T) (written_chords 0 v.chords))
-      (12 + T + 4 * R) (written_members v.chords)
-      ≡ stored (table_bytes v) out
-  unfolding table_bytes
-  table-stored k c m out l =
-      let e = length-entries 0 v.chords in
-      let h = written_header (length v.kinds) (length v.chords) (length (written_members v.chords)) in
-      rw (← k, ← c, ← m)
-      (in-turn out h v.kinds (written_chords 0 v.chords) (written_members v.chords) 12 _ _ refl refl
-      (omega arith) l)
+pub table-stored : (ks : List ℕ) (cs : List DC.Chord) (out : List ℕ)
+    → 12 + length ks + 4 * length cs + members_len cs ≤ length out
+    → sets (sets (sets (sets out 0 (written_header (length ks) (length cs) (members_len cs))) 12 ks)
+    (12 + length ks) (written_chords 0 (map chord_in cs))) (12 + length ks + 4 * length cs)
+    (written_members (map chord_in cs))
+    ≡ stored (table_bytes (table_with ks cs)) out
+unfolding table_bytes
+table-stored ks cs out h =
+    let r = length-map cs chord_in in
+    let m = length-members cs in
+    let e = length-entries 0 (map chord_in cs) in
+    let w = length-written ks cs in
+    rw (← r, ← m)
+    (in-turn out (written_header (length ks) (length (map chord_in cs)) (length (written_members (map chord_in cs)))) ks
+    (written_chords 0 (map chord_in cs)) (written_members (map chord_in cs)) 12 _ _ refl refl
+    (omega arith) (omega arith))

@@ -2,137 +2,82 @@
 // A refusal leaves the buffer as it was.
 #![tactic(auto)]
 
-ghost use Rattle.std.specs.Prelude.{◌≡◌, true, ◌+◌, ◌*◌, ◌<◌, ◌≤◌, length};
+ghost use Rattle.std.specs.Prelude.{◌≡◌, ◌&&◌, map, ◌+◌, ◌*◌, ◌≤◌, leb, length};
 ghost use Rattle.std.proofs.lemmas.List.Edits.{sets};
 ghost use Rattle.model.specs.Basics.{every};
-ghost use Rattle.model.specs.Layout.{table_refusal, kinds_ok, members_ok, two, write_refusal, written};
+ghost use Rattle.model.specs.Layout.{table_refusal, two, write_refusal, written};
 ghost use Rattle.model.specs.Layout.{equality_byte, table_bytes, written_header, written_chords, written_members};
 ghost use Rattle.table.specs.Equalities.{equality_in};
 ghost use Rattle.codec.specs.Views.{chord_in, table_in};
-ghost use Rattle.writer.specs.Writes.{sized, members_written, stored, entry_bytes, MembersFit, Writable};
+ghost use Rattle.writer.specs.Writes.{table_with, members_len, len_ok, channels_below, stored, entry_bytes};
+ghost use Rattle.writer.specs.Writes.{Counted, MembersFit, Writable};
 
-// The number of members of all chords.
-fn members_len(table: codec::Table) -> u16
-    requires { table.chords_len ≤ 32 }
-    ensures { result ≡ length (written_members (table_in table).chords) }
+// Whether the counts of channels and chords are in range.
+fn counts_ok(table: &codec::Table) -> bool
+    ensures { result ≡ (leb 1 table.now.kinds_len && (leb table.now.kinds_len 16 && leb table.now.chords_len 32)) }
 {
-    let n = table.chords_len;
-    let mut sum: u16 = 0;
-    let mut i: u8 = 0;
-    while i < n {
-        let k = i as usize;
-        let c = table.chords[k];
-        sum = table::more(sum, c.len);
-        i += 1;
-    }
-    sum
+    (1..=16).contains(&table.kinds_len) && table.chords_len <= 32
 }
 
-// Whether each channel's kind is known.
-fn kinds_known(table: codec::Table) -> bool
-    requires { table.kinds_len ≤ 16 }
-    ensures { result ≡ kinds_ok (table_in table).kinds }
+// The number of members of all chords.
+fn members_len(chords: &[codec::Chord]) -> u16
+    requires { length chords.now ≤ 32 }
+    ensures { result ≡ members_len chords.now }
 {
-    let n = table.kinds_len as usize;
-    let kinds = table.kinds;
-    table::all_below(&kinds[..n], 2)
+    chords.iter().map(|c| u16::from(c.len)).sum()
 }
 
 // Whether each chord has 1 to 8 channels.
-fn chords_sized(table: codec::Table) -> bool
-    requires { table.chords_len ≤ 32 }
-    ensures { result ≡ every sized (table_in table).chords }
+fn chords_sized(chords: &[codec::Chord]) -> bool
+    ensures { result ≡ every len_ok chords.now }
 {
-    let n = table.chords_len;
-    let mut i: u8 = 0;
-    while i < n {
-        let k = i as usize;
-        let c = table.chords[k];
-        let len = c.len;
-        if !((1 <= len) & (len <= 8)) {
-            return false;
-        }
-        i += 1;
-    }
-    true
+    chords.iter().all(|c| (1..=8).contains(&c.len))
 }
 
 // Whether a chord's channels are below a number.
-fn channels_below(chord: codec::Chord, n: u8) -> bool
-    requires { chord.len ≤ 8 }
-    ensures { result ≡ members_ok n (chord_in chord).channels }
+fn channels_below(chord: &codec::Chord, n: u8) -> bool
+    ensures { result ≡ channels_below n chord.now }
 {
-    let len = chord.len as usize;
-    let channels = chord.channels;
-    table::all_below(&channels[..len], n)
+    chord
+        .channels
+        .iter()
+        .take(usize::from(chord.len))
+        .all(|x| *x < n)
 }
 
-// Whether each chord's channels are the table's.
-fn members_in(table: codec::Table) -> bool
-    requires { (table.chords_len ≤ 32) × (every sized (table_in table).chords ≡ true) }
-    ensures { result ≡ members_written (table_in table) }
+// Whether each chord's channels are below a number.
+fn members_in(chords: &[codec::Chord], n: u8) -> bool
+    ensures { result ≡ every (channels_below n) chords.now }
 {
-    let t = table.kinds_len;
-    let n = table.chords_len;
-    let mut i: u8 = 0;
-    while i < n {
-        let k = i as usize;
-        let c = table.chords[k];
-        if !channels_below(c, t) {
-            return false;
-        }
-        i += 1;
-    }
-    true
+    chords.iter().all(|c| channels_below(c, n))
 }
 
-// The reader's number for the bytes of a table.
-fn value_refusal(table: codec::Table) -> u8
-    ensures { result ≡ table_refusal (table_bytes (table_in table)) }
+// Whether each kind is known.
+fn kinds_known(kinds: &[u8]) -> bool
+    ensures { result ≡ every (λ k. leb k 1) kinds.now }
 {
-    let t = table.kinds_len;
-    let n = table.chords_len;
-    if 32 < n {
+    kinds.iter().all(|k| *k <= 1)
+}
+
+// The reader's number for the bytes of a table with these kinds and chords, whose counts are in range.
+#[tactic(auto, using(crate::proofs::Refusals::refusal_tested))]
+fn lists_refusal(kinds: &[u8], chords: &[codec::Chord]) -> u8
+    requires { Counted kinds.now chords.now }
+    ensures { result ≡ table_refusal (table_bytes (table_with kinds.now chords.now)) }
+{
+    if 256 < members_len(chords) {
         return 2;
     }
-    let m = members_len(table);
-    if !((1 <= t) & ((t <= 16) & (m <= 256))) {
-        return 2;
-    }
-    if !kinds_known(table) {
+    if !kinds_known(kinds) {
         return 4;
     }
-    if !chords_sized(table) {
+    if !chords_sized(chords) {
         return 5;
     }
-    if !members_in(table) {
+    if !members_in(chords, kinds.len() as u8) {
         return 7;
     }
     0
-}
-
-// A number at a place, low byte first.
-fn put_two(out: &mut [u8], at: usize, v: u16)
-    requires { at + 2 ≤ length out.old }
-    ensures { out.new ≡ sets out.old at (two v) }
-{
-    out[at] = (v % 256) as u8;
-    out[at + 1] = (v / 256) as u8;
-}
-
-// The header of a table with these counts.
-fn put_header(out: &mut [u8], t: u8, r: u8, m: u16)
-    requires { 12 ≤ length out.old }
-    ensures { out.new ≡ sets out.old 0 (written_header t r m) }
-{
-    let kinds = t as u16;
-    let chords = r as u16;
-    put_two(out, 0, kinds);
-    put_two(out, 2, chords);
-    put_two(out, 4, m);
-    put_two(out, 6, 12);
-    put_two(out, 8, 12 + kinds);
-    put_two(out, 10, 12 + (kinds + 4 * chords));
 }
 
 // Bytes from a place on.
@@ -140,11 +85,29 @@ fn put_bytes(out: &mut [u8], at: usize, src: &[u8])
     requires { at + length src.now ≤ length out.old }
     ensures { out.new ≡ sets out.old at src.now }
 {
-    let mut i: usize = 0;
-    while i < src.len() {
-        out[at + i] = src[i];
-        i += 1;
-    }
+    let end = at + src.len();
+    out[at..end].copy_from_slice(src);
+}
+
+// A number at a place, low byte first.
+fn put_two(out: &mut [u8], at: usize, v: u16)
+    requires { at + 2 ≤ length out.old }
+    ensures { out.new ≡ sets out.old at (two v) }
+{
+    put_bytes(out, at, &v.to_le_bytes());
+}
+
+// The header of a table with these counts.
+fn put_header(out: &mut [u8], t: u16, r: u16, m: u16)
+    requires { (t ≤ 16) × (r ≤ 32) × (12 ≤ length out.old) }
+    ensures { out.new ≡ sets out.old 0 (written_header t r m) }
+{
+    put_two(out, 0, t);
+    put_two(out, 2, r);
+    put_two(out, 4, m);
+    put_two(out, 6, 12);
+    put_two(out, 8, 12 + t);
+    put_two(out, 10, 12 + (t + 4 * r));
 }
 
 // The byte of what a chord wants to be equal.
@@ -159,83 +122,78 @@ fn byte_of(equal: table::Equality) -> u8
 }
 
 // A chord's entry: its first member, the number of its channels, and what it wants to be equal.
-fn put_entry(out: &mut [u8], at: usize, next: u16, len: u8, equal: table::Equality)
+fn put_entry(out: &mut [u8], at: usize, next: u16, chord: &codec::Chord)
     requires { at + 4 ≤ length out.old }
-    ensures { out.new ≡ sets out.old at (entry_bytes next len (equality_in equal)) }
+    ensures { out.new ≡ sets out.old at (entry_bytes next chord.now.len (equality_in chord.now.equal)) }
 {
-    put_two(out, at, next);
-    out[at + 2] = len;
-    out[at + 3] = byte_of(equal);
+    let [low, high] = next.to_le_bytes();
+    put_bytes(out, at, &[low, high, chord.len, byte_of(chord.equal)]);
 }
 
 // The chords' entries from a place on.
-fn put_entries(table: codec::Table, out: &mut [u8], at: usize)
-    requires { (table.chords_len ≤ 32) × (at + 4 * table.chords_len ≤ length out.old) }
-    ensures { out.new ≡ sets out.old at (written_chords 0 (table_in table).chords) }
+fn put_entries(chords: &[codec::Chord], out: &mut [u8], at: usize)
+    requires { (length chords.now ≤ 32) × (at + 4 * length chords.now ≤ length out.old) }
+    ensures { out.new ≡ sets out.old at (written_chords 0 (map chord_in chords.now)) }
 {
-    let n = table.chords_len;
-    let mut next: u16 = 0;
-    let mut i: u8 = 0;
-    while i < n {
-        let k = i as usize;
-        let c = table.chords[k];
-        let equal = c.equal;
-        put_entry(out, at + 4 * k, next, c.len, equal);
-        next = table::more(next, c.len);
-        i += 1;
+    let mut next = 0;
+    for (i, c) in chords.iter().enumerate() {
+        put_entry(out, at + 4 * i, next, c);
+        next += u16::from(c.len);
     }
 }
 
-// A chord's channels from a place on.
-fn put_channels(chord: codec::Chord, out: &mut [u8], at: usize)
-    requires { (chord.len ≤ 8) × (at + chord.len ≤ length out.old) }
-    ensures { out.new ≡ sets out.old at (chord_in chord).channels }
+// The channels that a chord has.
+fn channels_of(chord: &codec::Chord) -> &[u8]
+    requires { chord.now.len ≤ 8 }
+    ensures value { result.now ≡ (chord_in chord.now).channels }
+    ensures len { length result.now ≡ chord.now.len }
 {
-    let len = chord.len as usize;
-    let channels = chord.channels;
-    put_bytes(out, at, &channels[..len]);
+    &chord.channels[..usize::from(chord.len)]
 }
 
 // The members of all chords from a place on.
-fn put_members(table: codec::Table, out: &mut [u8], at: usize)
-    requires { MembersFit table at out.old }
-    ensures { out.new ≡ sets out.old at (written_members (table_in table).chords) }
+fn put_members(chords: &[codec::Chord], out: &mut [u8], at: usize)
+    requires { MembersFit chords.now at out.old }
+    ensures { out.new ≡ sets out.old at (written_members (map chord_in chords.now)) }
 {
-    let n = table.chords_len;
     let mut next = at;
-    let mut i: u8 = 0;
-    while i < n {
-        let k = i as usize;
-        let c = table.chords[k];
-        put_channels(c, out, next);
-        next += c.len as usize;
-        i += 1;
+    for c in chords {
+        let channels = channels_of(c);
+        put_bytes(out, next, channels);
+        next += channels.len();
     }
 }
 
-// The kinds of the channels from a place on.
-fn put_kinds(table: codec::Table, out: &mut [u8], at: usize)
-    requires { (table.kinds_len ≤ 16) × (at + table.kinds_len ≤ length out.old) }
-    ensures { out.new ≡ sets out.old at (table_in table).kinds }
+// The four sections of a table, each after the one before.
+fn put_table(kinds: &[u8], chords: &[codec::Chord], out: &mut [u8])
+    requires { Writable kinds.now chords.now out.old }
+    ensures { out.new ≡ stored (table_bytes (table_with kinds.now chords.now)) out.old }
 {
-    let n = table.kinds_len as usize;
-    let kinds = table.kinds;
-    put_bytes(out, at, &kinds[..n]);
+    let t = kinds.len();
+    let r = chords.len();
+    let entries = 12 + t;
+    let members = entries + 4 * r;
+    put_header(out, t as u16, r as u16, members_len(chords));
+    put_bytes(out, 12, kinds);
+    put_entries(chords, out, entries);
+    put_members(chords, out, members);
 }
 
-// The four sections of a table, each after the one before.
-fn put_table(table: codec::Table, out: &mut [u8], m: u16)
-    requires { Writable table m out.old }
-    ensures { out.new ≡ stored (table_bytes (table_in table)) out.old }
+// A table with these kinds and chords, whose counts are in range, written as `write_table` does.
+fn write_lists(kinds: &[u8], chords: &[codec::Chord], out: &mut [u8]) -> u8
+    requires { Counted kinds.now chords.now }
+    ensures value { result ≡ write_refusal (table_with kinds.now chords.now) out.old }
+    ensures out_after { out.new ≡ written (table_with kinds.now chords.now) out.old }
 {
-    let t = table.kinds_len;
-    let r = table.chords_len;
-    let chords = 12 + (t as usize);
-    let members = chords + 4 * (r as usize);
-    put_header(out, t, r, m);
-    put_kinds(table, out, 12);
-    put_entries(table, out, chords);
-    put_members(table, out, members);
+    let number = lists_refusal(kinds, chords);
+    if number != 0 {
+        return number;
+    }
+    if out.len() < 12 + kinds.len() + 4 * chords.len() + usize::from(members_len(chords)) {
+        return 31;
+    }
+    put_table(kinds, chords, out);
+    0
 }
 
 // The bytes of the table from the start of a buffer, and 0; the bytes past them are kept.
@@ -244,16 +202,10 @@ pub fn write_table(table: codec::Table, out: &mut [u8]) -> u8
     ensures value { result ≡ write_refusal (table_in table) out.old }
     ensures out_after { out.new ≡ written (table_in table) out.old }
 {
-    let number = value_refusal(table);
-    if number != 0 {
-        return number;
+    if !counts_ok(&table) {
+        return 2;
     }
-    let t = table.kinds_len as usize;
-    let r = table.chords_len as usize;
-    let m = members_len(table);
-    if out.len() < 12 + t + 4 * r + (m as usize) {
-        return 31;
-    }
-    put_table(table, out, m);
-    0
+    let kinds = &table.kinds[..usize::from(table.kinds_len)];
+    let chords = &table.chords[..usize::from(table.chords_len)];
+    write_lists(kinds, chords, out)
 }

@@ -1,5 +1,4 @@
 -- What a move is, and what it writes.
 pub mod Writes
 pub mod Moves
-pub mod Signals
 pub mod Written

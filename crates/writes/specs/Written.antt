@@ -1,5 +1,5 @@
--- A change, written to the lent lists.
-use Rattle.std.specs.Prelude.{◌≡◌, ℕ, length}
+-- What is written to the lent lists.
+use Rattle.std.specs.Prelude.{◌≡◌, ℕ}
 use Rattle.columns.specs.Columns.{Columns, columns_of}
 use Rattle.columns.specs.MatchColumns.{MatchColumns, matches_of}
 use Rattle.state.specs.declared.Change as DG
@@ -16,9 +16,7 @@ columns_after g c =
 abbrev pub matches_with : DG.Change → ℕ → DJ.Job → MatchColumns → MatchColumns
 matches_with g k j m = matches_of (chords_by g k j.chord m.chords) (match_messages_by g k j.chosen m.messages)
 
--- l' is l with a change written
-pub record Written (g : DG.Change) (k : ℕ) (j : DJ.Job) (l l' : Lists) : Type 0 where
-  pub columns : columns_in l' ≡ columns_after g (columns_in l)
-  pub matches : matches_in l' ≡ matches_with g k j (matches_in l)
-  pub bytes-len : length l'.bytes ≡ length l.bytes
-  pub links-len : length l'.links ≡ length l.links
+-- the lists l hold the columns c and the matches m
+pub record ListsHold (c : Columns) (m : MatchColumns) (l : Lists) : Type 0 where
+  pub columns : columns_in l ≡ c
+  pub matches : matches_in l ≡ m

@@ -1,6 +1,5 @@
 use mathlib.Core.Path.{◌≡◌}
 use mathlib.Core.List.{map}
-use Prim.Native.Nat.{◌≤◌, ◌-◌}
 use lib.ListN.{drop, replicate}
 use lib.Seq.{sets}
 use Rattle.model.specs.Layout.{table_of}
@@ -9,8 +8,5 @@ use Rattle.codec.proofs.chords_read.Given as goal
 
 abbrev pub invariant-loop-i : goal.invariant-loop-i
 invariant-loop-i l =
-    (l.i ≤ l.r) × (sets l.chords l.i (drop l.i (map chord_for (table_of l.table).chords))
-    ≡ sets (replicate 32 empty_chord) 0 (map chord_for (table_of l.table).chords))
-
-abbrev pub decreases-loop-i : goal.decreases-loop-i
-decreases-loop-i l = l.r - l.i
+    sets l.chords l.i (drop l.i (map chord_for (table_of l.table).chords))
+    ≡ sets (replicate 32 empty_chord) 0 (map chord_for (table_of l.table).chords)

@@ -1,5 +1,4 @@
-use Prim.Native.Nat.{◌-◌}
-use lib.ListN.{length, get_or}
+use Rattle.std.proofs.Common.{get_or}
 use Rattle.columns.specs.Columns.{Passed}
 use Rattle.state.specs.Views.{said_in}
 use Rattle.boards.specs.Layout.{lists, statuses_in}
@@ -15,10 +14,9 @@ invariant-loop-k l =
     let before = lists i.board i.bytes i.links i.keys i.cents in
     let now = lists l.board l.bytes l.links l.keys l.cents in
     let rows = call_rows l.calls l.numbers l.amounts in
-    Accepted l.table now
-    × Passed l.start (get_or l.board 0 0) (statuses_in l.bytes)
-    × Played l.table (held_of before) rows i.answers l.k (held_of now) l.answers
-    × First l.table before rows l.k (said_in l.said) now
-
-abbrev pub decreases-loop-k : goal.decreases-loop-k
-decreases-loop-k l = length l.amounts - l.k
+    record {
+      accepted : Accepted l.table now;
+      passed : Passed l.start (get_or l.board 0 0) (statuses_in l.bytes);
+      played : Played l.table (held_of before) rows i.answers l.k (held_of now) l.answers;
+      first : First l.table before rows l.k (said_in l.said) now;
+    }

@@ -1,14 +1,10 @@
-use Prim.Native.Nat.{◌≤◌, ◌-◌, ◌+◌, ◌*◌}
-use lib.ListN.{length, take}
+-- `prints::put_items` meets its contract: the numbers so far are printed.
+use Rattle.std.proofs.Common.{◌+◌, ◌*◌, ◌≤◌, take}
 use Rattle.model.specs.Printing.{spaced_all}
 use Rattle.prints.specs.Printed.{Printed}
 use Rattle.prints.proofs.put_items.Given as goal
 
-abbrev pub invariant-loop-i : goal.invariant-loop-i
-invariant-loop-i l =
-    (l.i ≤ length l.numbers)
-    × (l.next ≤ l.at + 6 * l.i)
-    × Printed l.initial.out l.at (spaced_all (take l.i l.numbers)) l.next l.out
-
-abbrev pub decreases-loop-i : goal.decreases-loop-i
-decreases-loop-i l = length l.numbers - l.i
+abbrev pub invariant-loop-n : goal.invariant-loop-n
+invariant-loop-n l =
+    (l.next ≤ l.at + 6 * l.n-index)
+    × Printed l.initial.out l.at (spaced_all (take l.n-index l.numbers)) l.next l.out

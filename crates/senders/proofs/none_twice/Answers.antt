@@ -1,22 +1,22 @@
--- `senders::none_twice` meets its contract: the answer for all marks is the answer for those left.
--- The measure is the number of marks left.
-use mathlib.Core.Path.{refl, sym, ◌∙◌}
-use native.Mathlib.Omega.{arith}
-use borrow.Author.Rules.{rules}
-use Rattle.senders.proofs.Alone.{twice-end}
+-- `senders::none_twice` meets its contract: each mark but 0 is looked for among those after it.
+use Rattle.std.proofs.Common.{sym, ◌∙◌}
+use Rattle.senders.proofs.Alone.{twice-idle, twice-step}
 use Rattle.senders.proofs.none_twice.Goals as goal
+use Rattle.senders.proofs.none_twice.Goals.{else-m-ne0-via-then-m-ne0+else-contains, else-m-ne0-via-else-m-ne0}
 
-pub loop-i-init : goal.loop-i-init
-loop-i-init c = (search rules, refl)
-
-pub returns-then-not-is_alone : goal.returns-then-not-is_alone
-returns-then-not-is_alone c =
-    sym (c.loop-i.invariant.1 ∙ rw c.if-not-is_alone.true at c.is_alone.ensures)
+pub returns-then-contains : goal.returns-then-contains
+returns-then-contains c =
+    sym (c.loop-i.invariant
+    ∙ twice-step c.args.marks.now c.loop-i.i c.loop-i-test.true c.if-m-ne0.true _
+    (sym c.contains.ensures.value ∙ c.if-contains.true))
 
 pub loop-i-preserved : goal.loop-i-preserved
 loop-i-preserved c =
-    (search rules, c.loop-i.invariant.1 ∙ rw c.if-not-is_alone.false at c.is_alone.ensures)
-
-pub returns : goal.returns
-returns c =
-    sym (c.loop-i.invariant.1 ∙ twice-end c.args.marks.now c.loop-i.i (omega arith))
+    let marks = c.args.marks.now in
+    let i = c.loop-i.i in
+    elim c.else-m-ne0.branch [
+      | else-m-ne0-via-then-m-ne0+else-contains w ↦ c.loop-i.invariant
+          ∙ twice-step marks i c.loop-i-test.true w.if-m-ne0.true _
+          (sym w.contains.ensures.value ∙ w.if-contains.false)
+      | else-m-ne0-via-else-m-ne0 w ↦ c.loop-i.invariant ∙ twice-idle marks i c.loop-i-test.true w.if-m-ne0.false
+    ]

@@ -1,16 +1,16 @@
--- `soundness::match_ok` meets its contract: the part that is tested starts with the match's numbers.
-use native.Mathlib.Omega.{arith}
-use lib.ListN.{length-drop}
+-- `soundness::match_ok` meets its contract: no chord has more channels than a match has numbers.
+use Rattle.std.proofs.Common.{arith, refl, ◌∙◌}
+use lib.ListN.{length-take}
 use Rattle.model.proofs.TableLaws.{size_few}
-use Rattle.model.proofs.Parts.{to_end}
+use Rattle.soundness.proofs.Columns.{below-at}
 use Rattle.soundness.proofs.match_ok.Goals as goal
 
-pub numbers_below-requires : goal.numbers_below-requires
-numbers_below-requires c =
-    let a = c.args in
-    let k = size_few a.table.now a.chord c.requires.table_value.0 c.requires.table_value.1 in
-    rw (to_end a.messages.now a.at) (simp length-drop (omega (arith, c.chord_len-n.ensures)))
+pub slice_bounds-below-end : goal.slice_bounds-below-end
+slice_bounds-below-end c =
+    let k = size_few _ c.args.chord c.requires.table_value.0 c.requires.table_value.1 in
+    rw length-take (omega (arith, c.chord_len.ensures))
 
 pub returns : goal.returns
 returns c =
-    rw (← c.chord_len-n.ensures, ← to_end) c.numbers_below.ensures
+    let k = size_few _ c.args.chord c.requires.table_value.0 c.requires.table_value.1 in
+    below-at c.args.numbers.now c.below.ensures refl (c.from-n.ensures ∙ c.chord_len.ensures) (omega arith)

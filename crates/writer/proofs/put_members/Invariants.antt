@@ -1,17 +1,12 @@
-use mathlib.Core.Path.{◌≡◌}
-use Prim.Native.Nat.{◌≤◌, ◌-◌, ◌+◌}
-use lib.ListN.{length, drop}
-use lib.Seq.{sets}
+use Rattle.std.proofs.Common.{◌≡◌, map, ◌+◌, ◌≤◌, length, drop}
+use Rattle.std.proofs.lemmas.List.Edits.{sets}
 use Rattle.model.specs.Layout.{written_members}
-use Rattle.codec.specs.Views.{table_in}
+use Rattle.codec.specs.Views.{chord_in}
+use Rattle.writer.specs.Writes.{members_len}
 use Rattle.writer.proofs.put_members.Given as goal
 
-abbrev pub invariant-loop-i : goal.invariant-loop-i
-invariant-loop-i l =
-    (l.i ≤ l.n) × (l.n ≡ l.table.chords_len) × (length l.out ≡ length l.initial.out)
-    × (l.next + length (written_members (drop l.i (table_in l.table).chords)) ≤ length l.initial.out)
-    × (sets l.out l.next (written_members (drop l.i (table_in l.table).chords))
-    ≡ sets l.initial.out l.at (written_members (table_in l.table).chords))
-
-abbrev pub decreases-loop-i : goal.decreases-loop-i
-decreases-loop-i l = l.n - l.i
+abbrev pub invariant-loop-c : goal.invariant-loop-c
+invariant-loop-c l =
+    (l.next + members_len (drop l.c-index l.chords) ≤ length l.out)
+    × (sets l.out l.next (written_members (map chord_in (drop l.c-index l.chords)))
+    ≡ sets l.initial.out l.at (written_members (map chord_in l.chords)))

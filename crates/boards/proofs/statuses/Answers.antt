@@ -1,8 +1,0 @@
--- `boards::statuses` meets its contract: a part of the list.
-use Rattle.boards.specs.Parts.{part}
-use borrow.Author.Rules.{rules}
-use Rattle.boards.proofs.statuses.Goals as goal
-
-pub returns : goal.returns
-unfolding part
-returns c = search rules

@@ -1,2 +1,0 @@
--- Laws of a claim.
-pub mod Claiming

@@ -1,2 +1,0 @@
--- Laws of claims.
-pub mod Claims

@@ -1,2 +1,0 @@
--- Laws of a blocked sender's step.
-pub mod Resuming

@@ -1,9 +1,0 @@
--- `table_edges::full_kinds` is safe and ends: a place for each kind.
-use Prim.Native.Nat.{◌≤◌, ◌-◌}
-use Rattle.table_edges.proofs.full_kinds.Given as goal
-
-abbrev pub invariant-loop-i : goal.invariant-loop-i
-invariant-loop-i l = l.i ≤ 16
-
-abbrev pub decreases-loop-i : goal.decreases-loop-i
-decreases-loop-i l = 16 - l.i

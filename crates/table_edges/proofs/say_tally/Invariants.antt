@@ -1,9 +1,0 @@
--- `table_edges::say_tally` is safe and ends: eight counts are printed.
-use Prim.Native.Nat.{◌≤◌, ◌-◌}
-use Rattle.table_edges.proofs.say_tally.Given as goal
-
-abbrev pub invariant-loop-k : goal.invariant-loop-k
-invariant-loop-k l = l.k ≤ 8
-
-abbrev pub decreases-loop-k : goal.decreases-loop-k
-decreases-loop-k l = 8 - l.k

@@ -1,9 +1,0 @@
--- `tablec::number_of` is safe and ends: at most 32 names are compared.
-use Rattle.std.proofs.Common.{◌-◌, ◌≤◌}
-use Rattle.tablec.proofs.number_of.Given as goal
-
-abbrev pub invariant-loop-i : goal.invariant-loop-i
-invariant-loop-i l = l.i ≤ 32
-
-abbrev pub decreases-loop-i : goal.decreases-loop-i
-decreases-loop-i l = 32 - l.i

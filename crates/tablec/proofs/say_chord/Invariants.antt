@@ -1,9 +1,0 @@
--- `tablec::say_chord` is safe and ends: eight places of a chord.
-use Rattle.std.proofs.Common.{◌-◌, ◌≤◌}
-use Rattle.tablec.proofs.say_chord.Given as goal
-
-abbrev pub invariant-loop-k : goal.invariant-loop-k
-invariant-loop-k g l = l.k ≤ 8
-
-abbrev pub decreases-loop-k : goal.decreases-loop-k
-decreases-loop-k g l = 8 - l.k
