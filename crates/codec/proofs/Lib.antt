@@ -1,3 +1,4 @@
--- Laws of a table as a value, seen as the table, and of lists copied.
+-- Laws of a table as a value, seen as the table, of parts of its bytes, and of lists copied.
 pub mod Copies
 pub mod Views
+pub mod Parts

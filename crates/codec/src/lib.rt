@@ -57,6 +57,7 @@ fn padded<const N: usize>(bytes: &[u8]) -> [u8; N]
 }
 
 // The kinds of a table's channels, the part of the bytes that holds them.
+#[tactic(auto, using(crate::proofs::Parts::kinds_from))]
 pub fn kinds(table: &[u8]) -> &[u8]
     requires { table_refusal table.now ≡ 0 }
     ensures { result.now ≡ (table_of table.now).kinds }

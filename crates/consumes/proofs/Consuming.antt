@@ -6,20 +6,30 @@ use Rattle.model.specs.Basics.{pick}
 use Rattle.model.specs.Tables.{Table, size}
 use Rattle.model.specs.Boards.{Board, Message, no_message, Sender, Job, is_consumed, tell}
 use Rattle.model.specs.Effects.{Turn, turn, consumes, messages_after}
+use Rattle.model.specs.Jobs as MJ
 use Rattle.model.specs.Jobs.{in_job, in_phase, job_end}
 use Rattle.model.specs.Steps.{to_tell, consumed_end, consumed_to, consume_step, tell_step}
 use Rattle.columns.specs.Columns.{Others, columns_by, board_by}
 use Rattle.columns.proofs.Messages.{nth-channel}
+use Rattle.state.specs.declared.Phase as DP
 use Rattle.state.specs.declared.Phase.TheVariants as P
 use Rattle.state.specs.declared.Said.TheVariants as W
 use Rattle.state.specs.declared.Turn.TheVariants as U
 use Rattle.state.specs.declared.Change.TheVariants as G
 use Rattle.state.specs.declared.Sender as DD
+use Rattle.state.specs.Builders as B
 use Rattle.state.specs.Builders.{sender_in_job, job_in_phase}
-use Rattle.state.specs.Views.{job_in, sender_in, effect_in}
+use Rattle.state.specs.Views.{phase_in, chosen_by, job_in, sender_in, effect_in}
 use Rattle.state.proofs.Sizes.{chord_few}
 use Rattle.consumes.specs.Holds.{Channels, ChoiceLent, is_told, with_match}
 use Rattle.consumes.proofs.Telling.{tells, all_lent, tells_is}
+
+-- the sender at work in another phase that has as many chosen
+pub goes_on : (t : Table) (d : DD.Sender) (p : DP.Phase)
+    → chosen_by p (size t d.job.chord) ≡ chosen_by d.job.phase (size t d.job.chord)
+    → sender_in t (B.sender_in_job d (B.job_in_phase d.job p))
+    ≡ MJ.in_job (sender_in t d) (MJ.in_phase (job_in t d.job) (phase_in p))
+goes_on t d p e = rw e
 
 -- a message that turns keeps its channel
 pub channel-after : (is : List Message) (x i : ℕ) (u : Turn)

@@ -124,7 +124,8 @@ fn line(stdout: Stdout, table: &[u8], w: &mut World, text: &str) {
         return;
     };
     if !label.is_empty() {
-        let _ = print!(stdout; "{label}:");
+        say::text(stdout, label);
+        say::text(stdout, ":");
     }
     for p in parts.split(';').filter_map(Part::read) {
         act(stdout, table, w, &p);

@@ -1,6 +1,7 @@
 // Full boards: the last message, and refusals in their order.
 use crate::acts;
 use crate::tables::ONE;
+use scripts::say;
 use scripts::script::Part;
 use scripts::world::World;
 use state::Said;
@@ -32,7 +33,9 @@ fn is_added(stdout: Stdout, table: &[u8], w: &mut World, i: u16, n: u16) -> bool
 pub fn fill(stdout: Stdout, table: &[u8], w: &mut World, alone: bool, from: u16, to: u16) {
     let refused = (from..to).find(|n| !is_added(stdout, table, w, whose(alone, *n), *n));
     let n = refused.unwrap_or(to);
-    let _ = println!(stdout; "taken {n}, ended {n}");
+    say::word(stdout, "taken", n);
+    say::word(stdout, ", ended", n);
+    say::text(stdout, "\n");
 }
 
 // Adds to a full board where day 5 is closed, whose last sender is at work.

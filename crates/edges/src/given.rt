@@ -4,6 +4,7 @@ ghost use Rattle.std.specs.Prelude.{◌≤◌, ◌<◌};
 
 use crate::tables::P;
 use crate::{acts, sound};
+use scripts::say;
 use scripts::world::World;
 use std::io::Stdout;
 
@@ -86,7 +87,8 @@ fn damaged(stdout: Stdout, number: u16, len: usize, at: usize, b: u8)
 {
     let mut table = P;
     table[at] = b;
-    let _ = println!(stdout; "a table refused {number}");
+    say::word(stdout, "a table refused", number);
+    say::text(stdout, "\n");
     acts::lines(
         stdout,
         &table[0..len],

@@ -6,7 +6,8 @@ use std::io::Stdout;
 
 // Whether a chord is refused, and the bytes that name its channels.
 fn members(stdout: Stdout, label: &str, table: &[u8], chord: u32) {
-    let _ = print!(stdout; "{label}:");
+    say::text(stdout, label);
+    say::text(stdout, ":");
     say::next(stdout, table::chord_refusal(table, chord));
     for channel in table::chord_channels(table, chord) {
         say::next(stdout, *channel);
@@ -31,11 +32,12 @@ fn record(status: u8) -> Message {
 fn claim(stdout: Stdout, label: &str, n: usize) {
     let mut messages = [record(0), record(1)];
     let claimed = if records::claim(&mut messages, n) {
-        "claimed"
+        ": claimed\n"
     } else {
-        "not claimed"
+        ": not claimed\n"
     };
-    let _ = println!(stdout; "{label}: {claimed}");
+    say::text(stdout, label);
+    say::text(stdout, claimed);
 }
 
 fn rules(stdout: Stdout) {

@@ -6,7 +6,7 @@ ghost use Rattle.std.specs.Prelude.{◌≡◌, ◌<◌, length, IfSome};
 ghost use Rattle.model.specs.Layout.{table_refusal, table_of};
 ghost use Rattle.texts.specs.Counts.{IsPrefixLen};
 
-use texts::{complain, past, table_refused, word_at};
+use texts::{complain, complain_number, complain_refused, past, table_refused, word_at};
 
 // From text to bytes.
 
@@ -36,10 +36,17 @@ fn byte_of(word: &[u8]) -> Option<u8> {
     Some(n)
 }
 
+// What follows `the map` in a line about one of its words, which count from 1.
+fn complain_word(err: &impl Print, number: usize) {
+    complain_number(err, b": word ", number as u64, b": ");
+}
+
 fn wrong_word(err: &impl Print, number: usize, word: &[u8]) {
-    let _ = print!(err; "the map: word {number}: expected a number or new, not ");
+    complain(err, b"the map");
+    complain_word(err, number);
+    complain(err, b"expected a number or new, not ");
     complain(err, word);
-    let _ = println!(err);
+    complain(err, b"\n");
 }
 
 // The map's bytes at the start of a buffer, one for each word, as many as it holds; how many they are.
@@ -65,17 +72,39 @@ pub fn read_map(err: &impl Print, text: &[u8], map: &mut [u8]) -> Option<usize>
 
 // A merge that is turned away, in words.
 
-fn plural(n: usize) -> &'static str {
-    if n == 1 { "" } else { "s" }
+fn complain_some(err: &impl Print, ahead: &[u8], n: usize, one: &[u8]) {
+    complain_number(err, ahead, n as u64, one);
+    if n != 1 {
+        complain(err, b"s");
+    }
 }
 
-fn kind_name(sync: bool) -> &'static str {
-    if sync { "waiting" } else { "leave" }
+fn kind_name(sync: bool) -> &'static [u8] {
+    if sync { b"waiting" } else { b"leave" }
 }
 
 // The place where a word of the text starts, or the blanks before it.
 fn place_of(text: &[u8], i: u8) -> usize {
     (0..i).fold(0, |at, _| past(text, at))
+}
+
+fn complain_taken(err: &impl Print, number: usize, m: u8, other: usize) {
+    complain_word(err, number);
+    complain_number(
+        err,
+        b"tray ",
+        u64::from(m),
+        b" of the first is taken already",
+    );
+    complain_number(err, b" by word ", other as u64, b"");
+}
+
+fn complain_kinds(err: &impl Print, number: usize, m: u8, own: bool, i: u8, other: bool) {
+    complain_word(err, number);
+    complain_number(err, b"tray ", u64::from(m), b" of the first is ");
+    complain(err, kind_name(own));
+    complain_number(err, b", tray ", u64::from(i), b" of the second ");
+    complain(err, kind_name(other));
 }
 
 // What is wrong with a word of the map, and whether anything is.
@@ -98,15 +127,13 @@ fn complain_at(
         return false;
     }
     if table::channels_len(first) <= m {
-        let _ = print!(err; ": word {number}: the first table has no tray ");
+        complain_word(err, number);
+        complain(err, b"the first table has no tray ");
         complain(err, word_at(text, place_of(text, i)));
         return true;
     }
     if let Some(j) = map[..place].iter().position(|x| *x == m) {
-        let _ = print!(err;
-            ": word {number}: tray {m} of the first is taken already by word {}",
-            j + 1
-        );
+        complain_taken(err, number, m, j + 1);
         return true;
     }
     let own = chords::is_sync(first, m);
@@ -114,10 +141,7 @@ fn complain_at(
     if own == other {
         return false;
     }
-    let (own, other) = (kind_name(own), kind_name(other));
-    let _ = print!(err;
-        ": word {number}: tray {m} of the first is {own}, tray {i} of the second {other}"
-    );
+    complain_kinds(err, number, m, own, i, other);
     true
 }
 
@@ -137,15 +161,15 @@ fn complain_words(err: &impl Print, first: &[u8], second: &[u8], map: &[u8], tex
 fn complain_map(err: &impl Print, first: &[u8], second: &[u8], map: &[u8], text: &[u8])
     requires { (table_refusal first.now ≡ 0) × (table_refusal second.now ≡ 0) }
 {
-    let _ = print!(err; "the map");
+    complain(err, b"the map");
     let words = map.len();
     let trays = usize::from(table::channels_len(second));
     if words == trays {
         complain_words(err, first, second, map, text);
         return;
     }
-    let (some, more) = (plural(words), plural(trays));
-    let _ = print!(err; " has {words} word{some}, the second table {trays} tray{more}");
+    complain_some(err, b" has ", words, b" word");
+    complain_some(err, b", the second table ", trays, b" tray");
 }
 
 // The ground of 18: the rules, or else the trays.
@@ -153,25 +177,26 @@ fn complain_limits(err: &impl Print, first: &[u8], second: &[u8])
     requires { (table_refusal first.now ≡ 0) × (table_refusal second.now ≡ 0) }
 {
     let rules = u16::from(table::chords_len(first)) + u16::from(table::chords_len(second));
-    let limit = if 32 < rules { "32 rules" } else { "16 trays" };
-    let _ = print!(err; "the merged table would have more than {limit}");
+    let limit = if 32 < rules { b"32 rules" } else { b"16 trays" };
+    complain(err, b"the merged table would have more than ");
+    complain(err, limit);
 }
 
 // The line for a merge that a number turns away.
 pub fn explain(err: &impl Print, first: &[u8], second: &[u8], map: &[u8], text: &[u8], number: u8) {
     if table::table_refusal(first) != 0 {
-        table_refused(err, number, "the first table: ");
+        table_refused(err, number, b"the first table: ");
         return;
     }
     if table::table_refusal(second) != 0 {
-        table_refused(err, number, "the second table: ");
+        table_refused(err, number, b"the second table: ");
         return;
     }
-    let _ = print!(err; "refused {number}: ");
+    complain_refused(err, number);
     if number == 17 {
         complain_map(err, first, second, map, text);
     } else {
         complain_limits(err, first, second);
     }
-    let _ = println!(err);
+    complain(err, b"\n");
 }

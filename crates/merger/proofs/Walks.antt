@@ -4,18 +4,19 @@ use mathlib.Core.Bool.{Bool, true, false, cond, ◌&&◌, ◌||◌}
 use mathlib.Core.List.{List, [], ◌∷◌}
 use Prim.Native.Nat.{ℕ, zero, suc, ◌+◌, ◌<◌}
 use native.Mathlib.Omega.{arith}
-use borrow.Author.Tests.{ltb-true, eqb-true}
+use borrow.Author.Tests.{ltb-true, eqb-true, eq-eqb, ne_eqb}
 use lib.Dec.{eqb, ltb, leb}
 use lib.ListN.{length, get_or, drop}
 use lib.Seq.{drop-cons}
 use native.Mathlib.Numerals.{add-one}
+use Rattle.std.proofs.Common.{not, ⊎_elim, set, get_or-set_same, get_or-set_other}
 use Rattle.std.specs.List.{zip, slice_get}
 use Rattle.std.specs.Option.{option_eq}
 use Rattle.std.specs.Prelude.{Some}
 use Rattle.std.proofs.lemmas.List.Sums.{sum_by-cons}
-use Rattle.model.specs.Basics.{every, pick, flag}
+use Rattle.model.specs.Basics.{is_in, every, pick, flag}
 use Rattle.model.specs.Tables.{Table}
-use Rattle.model.proofs.Tests.{both}
+use Rattle.model.proofs.Tests.{never, both, same?, or-not}
 use Rattle.merging.specs.Merges.{is_new, new_kinds, joined_once, kinds_agree, map_ok, counts_fit, merged_of}
 use Rattle.merging.proofs.WriteLaws.{fits-by-two}
 use Rattle.model.specs.Layout.{table_of}
@@ -57,6 +58,42 @@ map_tested t u ms = go (eqb (length ms) (length u.kinds)) (every (λ m. is_new m
     go false b e h = refl
     go true false e h = refl
     go true true e h = rw (joins-all t.kinds ms u.kinds (eqb-true _ _ e) h)
+
+-- channels named twice, from the last byte to the first
+twice-after : (ms : List ℕ) (i : ℕ) → joined_once ms ≡ true → joined_once (drop i ms) ≡ true
+twice-after ms zero e = e
+twice-after [] (suc i) e = refl
+twice-after (m ∷ ms) (suc i) e = twice-after ms i (both {t = is_new m || not (is_in m ms)} e).1
+
+module _ (ms : List ℕ) (i : ℕ) (h : i < length ms) where
+  abbrev again : Bool
+  again = not (is_new (get_or ms i 0)) && is_in (get_or ms i 0) (drop (i + 1) ms)
+
+  twice-at : joined_once (drop i ms) ≡ (not again && joined_once (drop (i + 1) ms))
+  twice-at = rw (drop-cons ms i 0 h, add-one i, or-not)
+
+  pub twice-here : again ≡ true → joined_once ms ≡ false
+  twice-here e = go (joined_once ms) refl
+    where
+      go : (u : Bool) → joined_once ms ≡ u → u ≡ false
+      go false p = refl
+      go true p = never (sym (twice-at ∙ rw e) ∙ twice-after ms i p)
+
+  pub twice-later : again ≡ false → joined_once (drop (i + 1) ms) ≡ true → joined_once (drop i ms) ≡ true
+  twice-later e p = twice-at ∙ rw (e, p)
+
+-- the channels among the bytes from i on are marked
+abbrev pub Seen : List Bool → List ℕ → Type 0
+Seen seen ms = (x : ℕ) → x < 256 → get_or seen x false ≡ is_in x ms
+
+pub seen_more : (seen : List Bool) (ms : List ℕ) (i : ℕ) → i < length ms → length seen ≡ 256 → get_or ms i 0 < 256
+    → Seen seen (drop (i + 1) ms) → Seen (set seen (get_or ms i 0) true) (drop i ms)
+seen_more seen ms i h l b f x k =
+    rw (drop-cons ms i 0 h)
+    (⊎_elim
+    (λ e. rw (e, get_or-set_same seen (get_or ms i 0) true false (omega arith), eq-eqb (get_or ms i 0) (get_or ms i 0) refl))
+    (λ e. rw (get_or-set_other seen (get_or ms i 0) x true false e, ne_eqb x (get_or ms i 0) e) (rw (add-one i) at (f x k)))
+    (same? x (get_or ms i 0)))
 
 -- new channels
 count-cons : (m : ℕ) (ms : List ℕ) → count_new (m ∷ ms) ≡ flag (is_new m) + count_new ms

@@ -26,14 +26,17 @@ fn names_ok(map: &[u8], n: usize) -> bool
     map.iter().all(|m| *m == NEW || usize::from(*m) < n)
 }
 
-// Whether no channel of the first is named twice.
+// Whether no channel of the first is named twice; from the last byte to the first, with those seen marked.
+// A search of the rest for each byte costs a quarter of a merge more.
 fn none_twice(map: &[u8]) -> bool
     ensures { result ≡ joined_once map.now }
 {
-    for (i, m) in map.iter().enumerate() {
-        if *m != NEW && map[i + 1..].contains(m) {
+    let mut seen = [false; 256];
+    for m in map.iter().rev() {
+        if *m != NEW && seen[usize::from(*m)] {
             return false;
         }
+        seen[usize::from(*m)] = true;
     }
     true
 }

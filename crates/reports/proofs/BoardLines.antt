@@ -1,9 +1,11 @@
 -- The lines of the report on accepted lists, one by one.
 use mathlib.Core.Path.{◌≡◌, refl, ap, sym, ◌∙◌}
+use mathlib.Core.Bool.{Bool, true, false}
 use mathlib.Core.List.{List, [], ◌∷◌, ◌++◌}
 use Prim.Native.Nat.{ℕ, zero, suc, ◌+◌, ◌<◌, ◌≤◌}
 use native.Mathlib.Nat.{not-suc-le-zero, le_of_suc-le-suc}
 use native.Mathlib.Omega.{arith}
+use borrow.Author.Rules.{rules}
 use lib.ListN.{length, get_or, length-map, length-append, get_or-map, get_or-append}
 use lib.Seq.{get_or_at}
 use Rattle.model.specs.Tables.{Table}
@@ -31,6 +33,10 @@ item-line n zero h = refl
 item-line n (suc zero) h = refl
 item-line n (suc (suc zero)) h = refl
 item-line n (suc (suc (suc s))) h = absurd (omega arith)
+
+pub quiet_short : (q : Bool) → length (quiet_line q) ≤ 10
+quiet_short true = search rules
+quiet_short false = search rules
 
 module _ {A : Type 0} (f : ℕ → A → List ℕ) where
   numbered-count : (k : ℕ) (xs : List A) → length (numbered f k xs) ≡ length xs

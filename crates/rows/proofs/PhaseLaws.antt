@@ -1,5 +1,5 @@
 -- Laws of a phase's three numbers.
-use Rattle.std.proofs.Common.{◌≡◌, true, List, [], ◌∷◌, ◌++◌, ℕ, zero, suc, ◌≤◌, refl, arith, rules, tests}
+use Rattle.std.proofs.Common.{◌≡◌, ◌≢◌, true, List, [], ◌∷◌, ◌++◌, ℕ, zero, suc, ◌+◌, ◌≤◌, refl, arith, rules, tests}
 use Rattle.state.specs.declared.Phase as DP
 use Rattle.state.specs.declared.Phase.TheVariants as P
 use Rattle.rows.specs.Decoded.{phase_from}
@@ -14,6 +14,22 @@ module _ (n k s : ℕ) (e : encodes_phase n k s ≡ true) where
   pub place-fits : k ≤ 255
   unfolding encodes_phase
   place-fits = search (rules, tests)
+
+-- no kind but the last is left
+pub last-kind : (n : ℕ) → n ≤ 9 → n ≢ 0 → n ≢ 1 → n ≢ 2 → n ≢ 3 → n ≢ 4 → n ≢ 5 → n ≢ 6 → n ≢ 7 → n ≢ 8 → 9 ≡ n
+last-kind n h e0 e1 e2 e3 e4 e5 e6 e7 e8 =
+    let a : 3 ≤ n = past n 2 (past n 1 (past n 0 (zero≤ n) e0) e1) e2 in
+    let b : 6 ≤ n = past n 5 (past n 4 (past n 3 a e3) e4) e5 in
+    ends n h (past n 8 (past n 7 (past n 6 b e6) e7) e8)
+  where
+    past : (n i : ℕ) → i ≤ n → n ≢ i → i + 1 ≤ n
+    past n i h e = omega arith
+
+    zero≤ : (n : ℕ) → 0 ≤ n
+    zero≤ n = omega arith
+
+    ends : (n : ℕ) → n ≤ 9 → 9 ≤ n → 9 ≡ n
+    ends n p q = omega arith
 
 -- numbers that pass are those of their phase, which fits its types
 pub phase-from : (n k s : ℕ) → encodes_phase n k s ≡ true

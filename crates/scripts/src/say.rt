@@ -25,17 +25,19 @@ const WORDS: [&str; 19] = [
     "closed",
 ];
 
-// What cannot be written is missing from the printout, which goes on.
+// What cannot be written is missing from the printout, which goes on: so each piece is written by itself.
 pub fn text(stdout: Stdout, t: &str) {
     let _ = stdout.print(t);
 }
 
 pub fn word(stdout: Stdout, word: &str, n: u16) {
-    let _ = print!(stdout; "{word} {n}");
+    text(stdout, word);
+    text(stdout, " ");
+    let _ = stdout.print(n);
 }
 
 pub fn next(stdout: Stdout, n: u8) {
-    let _ = print!(stdout; " {n}");
+    word(stdout, "", u16::from(n));
 }
 
 // Whether all is as it was.
@@ -54,13 +56,15 @@ fn is_alone(word: u32) -> bool {
 pub fn answer(stdout: Stdout, a: u32) {
     let word = a / 65536;
     let n = a % 65536;
+    text(stdout, " ");
     let Some(name) = WORDS.get(word as usize) else {
-        text(stdout, " -");
+        text(stdout, "-");
         return;
     };
-    let _ = print!(stdout; " {name}");
+    text(stdout, name);
     if !is_alone(word) {
-        let _ = print!(stdout; " {n}");
+        text(stdout, " ");
+        let _ = stdout.print(n);
     }
 }
 

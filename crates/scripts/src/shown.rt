@@ -19,7 +19,9 @@ fn reply(stdout: Stdout, r: ReplyRead) {
 }
 
 fn numbers(stdout: Stdout, q: u8, r: u8, m: u8, k: u8) {
-    let _ = print!(stdout; " {q} {r} {m} {k}");
+    for n in [q, r, m, k] {
+        say::next(stdout, n);
+    }
 }
 
 // A message's number, and whether channel, property, cents, day and unit are these.
@@ -35,9 +37,10 @@ fn message(stdout: Stdout, r: MessageAnswer, x: Sent) {
 // A match's chord, length and first messages.
 fn members(stdout: Stdout, m: MatchRead) {
     let [first, second, ..] = m.messages;
-    let chord = m.chord;
-    let len = m.len;
-    let _ = print!(stdout; " rule {chord} members {len} items {first} {second}");
+    say::word(stdout, " rule", u16::from(m.chord));
+    say::word(stdout, " members", u16::from(m.len));
+    say::word(stdout, " items", first);
+    say::word(stdout, "", second);
 }
 
 fn matched(stdout: Stdout, r: MatchAnswer) {

@@ -1,7 +1,7 @@
 -- Bytes fed to a session: up to a line feed the line grows, and of a line the first 81 bytes tell what it reads as.
 use Rattle.std.proofs.Common.{◌≡◌, ℕ, suc, ◌+◌, ◌<◌, ◌≤◌, Bool, true, false, List, [], ◌∷◌, ◌++◌, eqb, leb, length}
-use Rattle.std.proofs.Common.{take, refl, ap, add-one, arith}
-use Rattle.std.specs.List.{position_or_len, before_first, after_first}
+use Rattle.std.proofs.Common.{take, refl, ap, sym, ◌∙◌, add-one, arith}
+use Rattle.std.specs.List.{list_any, position_or_len, before_first, after_first}
 use Rattle.std.proofs.lemmas.List.{take_all, length-take-le}
 use mathlib.Core.List.{append-nil}
 use lib.Seq.{append_snoc}
@@ -9,6 +9,7 @@ use borrow.Author.Tests.{leb-true, leb-false}
 use Rattle.model.specs.Tables.{Table}
 use Rattle.model.specs.Lines.{line_of}
 use Rattle.model.specs.Sessions.{Session, line_ends, fed}
+use Rattle.model.proofs.Tests.{never}
 
 -- bytes after those since the last line feed
 abbrev pub grown : Session → List ℕ → Session
@@ -16,6 +17,17 @@ grown x bs = record { text = x.text; board = x.board; partial = x.partial ++ bs 
 
 abbrev pub is_feed : ℕ → Bool
 is_feed b = eqb b 10
+
+-- where no byte is a line feed, none has a place
+pub no_feed : (bs : List ℕ) → list_any is_feed bs ≡ false → length bs ≤ position_or_len is_feed bs
+no_feed [] h = omega arith
+no_feed (c ∷ cs) h = go (eqb c 10) refl h (no_feed cs)
+  where
+    go : (e : Bool) → eqb c 10 ≡ e → list_any is_feed (c ∷ cs) ≡ false
+        → (list_any is_feed cs ≡ false → length cs ≤ position_or_len is_feed cs)
+        → length (c ∷ cs) ≤ position_or_len is_feed (c ∷ cs)
+    go true e h ih = never (sym h ∙ rw e)
+    go false e h ih = rw e (omega (arith, ih (rw e at h)))
 
 module _ (t : Table) where
   pub fed-line : (bs : List ℕ) (x : Session) → position_or_len is_feed bs < length bs

@@ -2,7 +2,8 @@
 // messages below `start` are consumed, so that no look reads them.
 #![tactic(auto)]
 
-ghost use Rattle.std.specs.Prelude.{◌≡◌, ◌++◌, ◌+◌, ◌*◌, ◌≤◌, length, get_or, take};
+ghost use Rattle.std.specs.Prelude.{◌≡◌, ◌==◌, ◌++◌, ◌+◌, ◌*◌, ◌<◌, ◌≤◌, length, get_or, take, MatchOption};
+ghost use Rattle.std.specs.List.{position_or_len, before_first, after_first};
 ghost use Rattle.columns.specs.Columns.{Passed};
 ghost use Rattle.boards.specs.Layout.{lists, statuses_in};
 ghost use Rattle.refusals.specs.Held.{Accepted};
@@ -104,6 +105,21 @@ pub fn serve_line(
     }
 }
 
+// The first line that ends in the bytes, and what comes after it; none where no line ends. The rest of a line that is
+// `over` 80 bytes already may be long, and `contains` looks at many bytes at a time.
+#[tactic(auto, using(crate::proofs::FeedLaws::no_feed))]
+fn split_line(s: &[u8], over: bool) -> Option<(&[u8], &[u8])>
+    ensures { MatchOption result (length s.now ≤ position_or_len (λ x. x == 10) s.now)
+        (λ p. (position_or_len (λ x. x == 10) s.now < length s.now)
+        × (p.0.now ≡ before_first (λ x. x == 10) s.now)
+        × (p.1.now ≡ after_first (λ x. x == 10) s.now)) }
+{
+    if over && !s.contains(&b'\n') {
+        return None;
+    }
+    lines::split_once(s, b'\n')
+}
+
 // A chunk of input on lists that the first tests accept: each line that ends in it is served.
 pub fn serve_chunk(
     table: &[u8],
@@ -129,7 +145,7 @@ pub fn serve_chunk(
 {
     let mut served = Served { at: 0, start };
     let mut left = input;
-    while let Some((end, rest)) = lines::split_once(left, b'\n') {
+    while let Some((end, rest)) = split_line(left, carry.len > 80) {
         let line = carry.with(end);
         served = serve_line(
             table,

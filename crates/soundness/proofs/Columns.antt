@@ -26,10 +26,9 @@ module _ {r : Bool} {k n : ℕ} where
       → n ≤ length s → r ≡ each_below n (below l s)
   below-at {l = l} s e f g h = below-are s e f g ∙ each_of (λ x. ltb x l) s 0 n h
 
-  pub cents-at : (cents : List ℤ) → r ≡ fold (λ ok x. ok && cents_ok x) true (take k cents) → k ≡ n
+  pub cents-at : (cents : List ℤ) → r ≡ every cents_ok (take k cents) → k ≡ n
       → n ≤ length cents → r ≡ each_below n (in_range cents)
-  cents-at cents e g h =
-      e ∙ rw g (folded cents_ok cents_ok (λ _. refl) true (take n cents) ∙ each_of cents_ok cents (pos 0) n h)
+  cents-at cents e g h = e ∙ rw g (each_of cents_ok cents (pos 0) n h)
 
   pub links-at : (links statuses : List ℕ) (most asks : ℕ)
       → r ≡ fold (λ ok p. ok && (leb p.0 most && (not (eqb p.1 asks) || leb 1 p.0))) true

@@ -25,6 +25,13 @@ module _ (f : ℕ → Bool) where
   unfolding each_below
   each-one i = rw (add-one i)
 
+  pub each-four : (i : ℕ) → each_below (i + 4) f ≡ (each_below i f && (f i && (f (i + 1) && (f (i + 2) && f (i + 3)))))
+  each-four i =
+      let a : i + 4 ≡ i + 3 + 1 = omega arith in
+      let b : i + 3 ≡ i + 2 + 1 = omega arith in
+      let c : i + 2 ≡ i + 1 + 1 = omega arith in
+      rw (a, each-one (i + 3), b, each-one (i + 2), c, each-one (i + 1), each-one i, and_assoc, and_assoc, and_assoc)
+
   pub each_at : (n : ℕ) → each_below n f ≡ true → (i : ℕ) → i < n → f i ≡ true
   unfolding each_below
   each_at zero e i h = absurd (omega arith)
@@ -44,6 +51,14 @@ module _ (f : ℕ → Bool) where
     where
       go : (each_below n f ≡ true) ⊎ (each_below n f ≡ false) → each_below n f ≡ false
       go (inl z) = never (sym e ∙ each_at n z i h)
+      go (inr z) = z
+
+  -- fewer that do not all pass
+  pub each-no : (i n : ℕ) → i ≤ n → each_below i f ≡ false → each_below n f ≡ false
+  each-no i n h e = go (tested (each_below n f))
+    where
+      go : (each_below n f ≡ true) ⊎ (each_below n f ≡ false) → each_below n f ≡ false
+      go (inl z) = never (sym e ∙ at_each i (λ j l. each_at n z j (omega arith)))
       go (inr z) = z
 
   -- the first, then those after it

@@ -3,3 +3,4 @@ pub mod Each
 pub mod Columns
 pub mod Messages
 pub mod Matches
+pub mod Chunks

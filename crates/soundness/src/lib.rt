@@ -45,11 +45,19 @@ fn in_range(x: i64) -> bool
     (-999_999_999_999..=999_999_999_999).contains(&x)
 }
 
-// Whether the amounts are in range.
-fn cents_ok(cents: &[i64]) -> bool
-    ensures { result ≡ fold (λ ok x. ok && cents_ok x) true cents.now }
+// Whether the amounts of a chunk are in range.
+fn chunk_ok(chunk: &[i64]) -> bool
+    ensures { result ≡ fold (λ ok x. ok && cents_ok x) true chunk.now }
 {
-    cents.iter().fold(true, |ok, x| ok & in_range(*x))
+    chunk.iter().fold(true, |ok, x| ok & in_range(*x))
+}
+
+// Whether the amounts are in range. The first chunk that is not ends it, so that a refusal is soon told; within a chunk
+// a fold vectorizes.
+fn cents_ok(cents: &[i64]) -> bool
+    ensures { result ≡ every cents_ok cents.now }
+{
+    cents.chunks(64).all(|chunk| chunk_ok(chunk))
 }
 
 // Whether the first n messages are sound on a board of n messages and so many matches.

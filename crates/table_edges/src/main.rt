@@ -1,11 +1,11 @@
 // Table bytes cut short, and with one byte damaged: how many of a byte's 255 other values give each number.
 // Tables go through the reader and the writer first: table P, and one of 16 channels and 32 chords of 8.
-// What cannot be written is missing from the printout, which goes on.
 #![tactic(auto)]
 
 ghost use Rattle.std.specs.Prelude.{◌<◌, ◌≤◌};
 
 use std::array;
+use std::fmt::Display;
 use std::io::Stdout;
 use table::Equality;
 
@@ -16,6 +16,11 @@ const P: [u8; 20] = [
 #[derive(Clone, Copy, PartialEq)]
 struct Tally {
     counts: [u16; 8],
+}
+
+// What cannot be written is missing from the printout, which goes on: so each piece is written by itself.
+fn say<D: Display + Drop>(stdout: Stdout, piece: D) {
+    let _ = stdout.print(piece);
 }
 
 // One more of a number.
@@ -53,13 +58,20 @@ fn tally_of(bytes: [u8; 412], len: usize, at: usize) -> Tally
 
 // A line for bytes that fare alike: each number, and how many values give it.
 fn say_tally(stdout: Stdout, from: usize, to: usize, t: Tally) {
-    let _ = print!(stdout; "bytes {from} to {to}:");
+    say(stdout, "bytes ");
+    say(stdout, from);
+    say(stdout, " to ");
+    say(stdout, to);
+    say(stdout, ":");
     for (number, c) in t.counts.iter().enumerate() {
         if *c != 0 {
-            let _ = print!(stdout; "  {number} by {c}");
+            say(stdout, "  ");
+            say(stdout, number);
+            say(stdout, " by ");
+            say(stdout, *c);
         }
     }
-    let _ = println!(stdout);
+    say(stdout, "\n");
 }
 
 // A line for each run of bytes that fare alike.
@@ -85,9 +97,10 @@ fn say_cuts(stdout: Stdout, bytes: [u8; 412], len: usize)
 {
     for n in 0..=len {
         let number = number_of(&bytes, n);
-        let _ = print!(stdout; " {number}");
+        say(stdout, " ");
+        say(stdout, number);
     }
-    let _ = println!(stdout);
+    say(stdout, "\n");
 }
 
 // The three equalities in turn.
@@ -119,7 +132,9 @@ fn full_table() -> codec::Table {
 }
 
 fn say_written(stdout: Stdout, number: u8) {
-    let _ = println!(stdout; "written, number {number}");
+    say(stdout, "written, number ");
+    say(stdout, number);
+    say(stdout, "\n");
 }
 
 // A value with its first chord of another length, with another second channel, or with another equality.
@@ -157,12 +172,13 @@ fn say_value(stdout: Stdout, label: &str, t: codec::Table, room: usize)
 {
     let mut out = [255u8; 20];
     let number = writer::write_table(t, &mut out[..room]);
-    let nothing = if out[0] == 255 {
-        ", nothing written"
-    } else {
-        ""
-    };
-    let _ = println!(stdout; "{label}: {number}{nothing}");
+    say(stdout, label);
+    say(stdout, ": ");
+    say(stdout, number);
+    if out[0] == 255 {
+        say(stdout, ", nothing written");
+    }
+    say(stdout, "\n");
 }
 
 // Table P's value with an equality: the number of its writing, its chord's last byte, and that byte once it is read and
@@ -172,10 +188,14 @@ fn say_equal(stdout: Stdout, label: &str, t: codec::Table, equal: Equality) {
     let number = writer::write_table(with_equal(t, equal), &mut out);
     let mut back = [255u8; 20];
     writer::write_table(codec::read_table(&out).table, &mut back);
-    let _ = println!(stdout;
-        "{label}: {number}, last byte {}, back {}",
-        out[17], back[17]
-    );
+    say(stdout, label);
+    say(stdout, ": ");
+    say(stdout, number);
+    say(stdout, ", last byte ");
+    say(stdout, out[17]);
+    say(stdout, ", back ");
+    say(stdout, back[17]);
+    say(stdout, "\n");
 }
 
 fn say_equals(stdout: Stdout, t: codec::Table) {
@@ -202,15 +222,15 @@ fn main(rt: HostRuntime) {
     let stdout = rt.stdout();
     let table = codec::read_table(&P).table;
     let mut p = [255u8; 412];
-    let _ = print!(stdout; "table P, ");
+    say(stdout, "table P, ");
     say_written(stdout, writer::write_table(table, &mut p));
-    let _ = print!(stdout; "cut to 0, 1, .. 20 bytes:");
+    say(stdout, "cut to 0, 1, .. 20 bytes:");
     say_cuts(stdout, p, 20);
     say_damage(stdout, p, 20);
     say_values(stdout, table);
     say_equals(stdout, table);
     let mut full = [255u8; 412];
-    let _ = print!(stdout; "full table, ");
+    say(stdout, "full table, ");
     say_written(stdout, writer::write_table(full_table(), &mut full));
     say_damage(stdout, full, 412);
 }

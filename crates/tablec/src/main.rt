@@ -11,7 +11,7 @@ use std::io;
 use std::io::Read;
 use std::rt::Env;
 use table::Equality;
-use texts::{complain, has_arg, past, read_full, table_refused, word_at};
+use texts::{complain, complain_number, has_arg, past, read_full, table_refused, word_at};
 
 const NO_CHORD: codec::Chord = codec::Chord {
     channels: [0; 8],
@@ -62,15 +62,16 @@ struct Complained;
 
 // The one line on standard error, about a word that stands between two texts.
 fn wrong_word(err: &impl Print, number: u64, ahead: &str, word: &[u8], behind: &str) -> Complained {
-    let _ = print!(err; "line {number}: {ahead}");
+    complain_number(err, b"line ", number, b": ");
+    complain(err, ahead.as_bytes());
     complain(err, word);
-    let _ = println!(err; "{behind}");
+    complain(err, behind.as_bytes());
+    complain(err, b"\n");
     Complained
 }
 
 fn wrong(err: &impl Print, number: u64, reason: &str) -> Complained {
-    let _ = println!(err; "line {number}: {reason}");
-    Complained
+    wrong_word(err, number, reason, b"", "")
 }
 
 // Puts an item behind the first `len`, if there is room.
@@ -402,40 +403,56 @@ fn compile(rt: &(impl io::Input + Print), err: &impl Print) {
 
 // From bytes to text.
 
-fn say_trays(out: &impl Print, table: &codec::Table) -> io::Result<()> {
+// Text to standard output, to which `out` prints; whether it could be written, here and in what follows. Each piece is
+// tried here too.
+fn say(out: &impl Print, text: &[u8]) -> bool {
+    out.write_all(text).is_ok()
+}
+
+fn say_number(out: &impl Print, n: usize) -> bool {
+    out.print(n).is_ok()
+}
+
+fn say_trays(out: &impl Print, table: &codec::Table) -> bool {
     let n = usize::from(table.kinds_len);
+    let mut said = true;
     for (i, kind) in table.kinds.iter().take(n).enumerate() {
-        let word = if *kind == 0 { "leave" } else { "waiting" };
-        println!(out; "tray t{i} {word}")?;
+        let word: &[u8] = if *kind == 0 {
+            b" leave\n"
+        } else {
+            b" waiting\n"
+        };
+        said &= say(out, b"tray t") & say_number(out, i) & say(out, word);
     }
-    Ok(())
+    said
 }
 
-fn say_chord(out: &impl Print, chord: &codec::Chord) -> io::Result<()> {
+fn say_chord(out: &impl Print, chord: &codec::Chord) -> bool {
     let n = usize::from(chord.len);
+    let mut said = true;
     for (k, channel) in chord.channels.iter().take(n).enumerate() {
-        let plus = if k == 0 { "" } else { " +" };
-        print!(out; "{plus} t{channel}")?;
+        let ahead: &[u8] = if k == 0 { b" t" } else { b" + t" };
+        said &= say(out, ahead) & say_number(out, usize::from(*channel));
     }
-    match chord.equal {
-        Equality::Any => println!(out),
-        Equality::Property => println!(out; " same property"),
-        Equality::Unit => println!(out; " same unit"),
-    }
+    let end: &[u8] = match chord.equal {
+        Equality::Any => b"\n",
+        Equality::Property => b" same property\n",
+        Equality::Unit => b" same unit\n",
+    };
+    said & say(out, end)
 }
 
-fn say_rules(out: &impl Print, table: &codec::Table) -> io::Result<()> {
+fn say_rules(out: &impl Print, table: &codec::Table) -> bool {
     let n = usize::from(table.chords_len);
+    let mut said = true;
     for (i, chord) in table.chords.iter().take(n).enumerate() {
-        print!(out; "rule r{i} =")?;
-        say_chord(out, chord)?;
+        said &= say(out, b"rule r") & say_number(out, i) & say(out, b" =") & say_chord(out, chord);
     }
-    Ok(())
+    said
 }
 
-fn say_table(out: &impl Print, table: &codec::Table) -> io::Result<()> {
-    say_trays(out, table)?;
-    say_rules(out, table)
+fn say_table(out: &impl Print, table: &codec::Table) -> bool {
+    say_trays(out, table) & say_rules(out, table)
 }
 
 // One byte more than the longest table is read, so that longer input is refused.
@@ -444,10 +461,10 @@ fn decompile(rt: &(impl io::Input + Print), err: &impl Print) {
     let (n, _) = read_full(&mut rt.reader(), &mut bytes);
     let read = codec::read_table(&bytes[..n]);
     if read.number != 0 {
-        table_refused(err, read.number, "");
+        table_refused(err, read.number, b"");
         return;
     }
-    if say_table(rt, &read.table).is_err() {
+    if !say_table(rt, &read.table) {
         let _ = println!(err; "cannot write the text");
     }
 }

@@ -11,7 +11,7 @@ ghost use Rattle.tablemerge.specs.Merged.{Merged};
 use std::fs::File;
 use std::rt::{Env, Files};
 use std::str;
-use texts::{complain, has_arg, read_full};
+use texts::{complain, complain_number, has_arg, read_full};
 
 // Files.
 
@@ -49,7 +49,7 @@ fn load_arg<R: Env + Files>(rt: &R, err: &impl Print, i: usize, buf: &mut [u8]) 
 {
     let mut path = [0u8; 4095];
     let Ok(n) = rt.arg(i, &mut path) else {
-        let _ = println!(err; "argument {i} is longer than 4095 bytes");
+        complain_number(err, b"argument ", i as u64, b" is longer than 4095 bytes\n");
         return None;
     };
     load(rt, err, &path[..n], buf)

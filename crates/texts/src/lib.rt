@@ -91,28 +91,41 @@ pub fn table_len(buf: &[u8]) -> usize
 
 // Standard error, to which `err` prints.
 
-// Bytes that need not be text.
+// Bytes that need not be text. A line's pieces are written by themselves: each is tried, whatever became of the others.
 pub fn complain(err: &impl Print, text: &[u8]) {
     let _ = err.write_all(text);
 }
 
+// A number between two texts.
+pub fn complain_number(err: &impl Print, ahead: &[u8], n: u64, behind: &[u8]) {
+    complain(err, ahead);
+    let _ = err.print(n);
+    complain(err, behind);
+}
+
+pub fn complain_refused(err: &impl Print, number: u8) {
+    complain_number(err, b"refused ", u64::from(number), b": ");
+}
+
 // When the reader gives a number.
-fn when(number: u8) -> &'static str {
+fn when(number: u8) -> &'static [u8] {
     match number {
-        1 => "under 12 bytes",
-        2 => "T, R or M out of range",
-        3 => "offsets or length wrong",
-        4 => "byte over 1",
-        5 => "wrong first member, count not 1 to 8, or last byte over 2",
-        6 => "member counts do not sum to M",
-        _ => "tray number T or more",
+        1 => b"under 12 bytes",
+        2 => b"T, R or M out of range",
+        3 => b"offsets or length wrong",
+        4 => b"byte over 1",
+        5 => b"wrong first member, count not 1 to 8, or last byte over 2",
+        6 => b"member counts do not sum to M",
+        _ => b"tray number T or more",
     }
 }
 
 // The whole line for the reader's number, with a text that says of which table it is.
-pub fn table_refused(err: &impl Print, number: u8, label: &str) {
-    let reason = when(number);
-    let _ = println!(err; "refused {number}: {label}{reason}");
+pub fn table_refused(err: &impl Print, number: u8, label: &[u8]) {
+    complain_refused(err, number);
+    complain(err, label);
+    complain(err, when(number));
+    complain(err, b"\n");
 }
 
 // The arguments.

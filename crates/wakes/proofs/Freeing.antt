@@ -1,5 +1,5 @@
--- The effect of a message freed, where it is the last and where it is not.
-use Rattle.std.proofs.Common.{◌≡◌, ◌≢◌, ℕ, ◌+◌, ◌≤◌, length, get_or, arith}
+-- The place of a message freed, and the effect, where it is the last and where it is not.
+use Rattle.std.proofs.Common.{◌≡◌, ◌≢◌, Bool, true, false, ℕ, suc, ◌+◌, ◌<◌, ◌≤◌, ltb, length, get_or, arith}
 use Rattle.std.proofs.lemmas.Grind.{common_steps}
 use Rattle.model.specs.Tables.{Table, size, first_sync}
 use Rattle.model.specs.Boards.{Board}
@@ -12,6 +12,14 @@ use Rattle.state.specs.declared.Sender as DD
 use Rattle.state.specs.Builders.{works_by, job_in_phase}
 use Rattle.state.proofs.Sizes.{chord_few}
 use Rattle.state.specs.Views.{job_in, sender_in, effect_in}
+
+pub skip-under : (f k n : ℕ) → k + 1 < n → skip f k < n
+unfolding skip
+skip-under f k n h = under (ltb k f)
+  where
+    under : (b : Bool) → elim b [ true ↦ k | false ↦ suc k ] < n
+    under true = omega (arith, h)
+    under false = omega (arith, h)
 
 module _ (t : Table) (b : Board) (d : DD.Sender) (k x : ℕ) (p : d.job.phase ≡ P.Free k)
     (e : x ≡ get_or (job_in t d.job).chosen (skip (first_sync t d.job.chord) k) 0)

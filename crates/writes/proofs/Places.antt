@@ -1,7 +1,7 @@
 -- Writes to the numbers of a board, one place or one sender at a time: the numbers of another board.
-use Rattle.std.proofs.Common.{◌≡◌, ℕ, zero, suc, ◌+◌, ◌*◌, ◌<◌, true, List, [], ◌∷◌, ◌++◌, length, get_or, set, refl}
-use Rattle.std.proofs.Common.{sym, ap, ◌∙◌, Some, arith, append_assoc, length-append, length-set, take_at, drop_at}
-use Rattle.std.proofs.Common.{drop-drop, get_or-append-add}
+use Rattle.std.proofs.Common.{◌≡◌, ℕ, zero, suc, ◌+◌, ◌*◌, ◌<◌, Bool, true, false, List, [], ◌∷◌, ◌++◌, length, get_or}
+use Rattle.std.proofs.Common.{set, refl, sym, ap, ◌∙◌, Some, arith, append_assoc, length-append, length-set, take_at}
+use Rattle.std.proofs.Common.{drop_at, drop-drop, get_or-append-add}
 use Rattle.std.proofs.lemmas.List.{set-append_left, set-get_or, get_or_append_left}
 use Rattle.std.proofs.lemmas.List.Edits.{paste_all}
 use Rattle.std.proofs.Math.Seq.{paste}
@@ -19,7 +19,7 @@ use Rattle.rows.proofs.SenderLaws.{sender-long}
 use Rattle.rows.proofs.WalkLaws.{all-numbers}
 use Rattle.rows.proofs.DecodeLaws.{from_back}
 use Rattle.rows.proofs.Encoded.{encoded-ok, board-back, senders-long}
-use Rattle.writes.specs.Moves.{added_board}
+use Rattle.writes.specs.Moves.{put_if, added_board}
 
 -- numbers that are those of a board
 abbrev pub IsBoard : List ℕ → HeldBoard → Type 0
@@ -33,6 +33,11 @@ pub board-long : (s : List ℕ) → encodes s ≡ true → length s ≡ board_le
 board-long s ok = (all-numbers s ok).0
 
 pub ruleset board_lengths = (board-long, length-set)
+
+-- a write that may be left out keeps the length
+pub length-put : {A : Type 0} (u : Bool) (s : List A) (i : ℕ) (a : A) → length (put_if u s i a) ≡ length s
+length-put true s i a = length-set s i a
+length-put false s i a = refl
 
 -- a list between two others
 module _ {A : Type 0} (p xs q : List A) (n : ℕ) (e : n ≡ length p) where

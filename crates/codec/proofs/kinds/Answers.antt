@@ -1,6 +1,5 @@
 -- `codec::kinds` meets its contract: the part after the header, as long as the header says.
-use Rattle.std.proofs.Common.{◌≡◌, ◌+◌, ◌-◌, arith}
-use Rattle.model.specs.Layout.{table_of}
+use Rattle.std.proofs.Common.{arith}
 use Rattle.model.proofs.Accepted.{accepted}
 use Rattle.model.proofs.AcceptedChords.{length-kinds}
 use Rattle.codec.proofs.kinds.Goals as goal
@@ -9,10 +8,3 @@ pub slice_bounds-result-end : goal.slice_bounds-result-end
 slice_bounds-result-end c =
     let a = accepted _ c.requires in
     omega (arith, length-kinds _ a)
-
-pub returns : goal.returns
-unfolding table_of
-returns c =
-    let n = c.from-end in
-    let e : 12 + n.result - 12 ≡ n.result = omega arith in
-    rw (e, n.ensures, c.channels_len.ensures, length-kinds c.args.table.now (accepted _ c.requires))
