@@ -26,8 +26,8 @@ fn names_ok(map: &[u8], n: usize) -> bool
     map.iter().all(|m| *m == NEW || usize::from(*m) < n)
 }
 
-// Whether no channel of the first is named twice; from the last byte to the first, with those seen marked.
-// A search of the rest for each byte costs a quarter of a merge more.
+// Whether no channel of the first is named twice; from the last byte to the first, with those seen marked, since a search
+// of the rest for each byte takes longer.
 fn none_twice(map: &[u8]) -> bool
     ensures { result ≡ joined_once map.now }
 {
