@@ -38,6 +38,7 @@ fn in_order(rests: &[u16], next: &[u16]) -> bool
 
 // Whether a table passes: sixteen entries, none over 64, none less than the one before.
 #[tactic(auto, using(crate::proofs::PassLaws::tests), unfolding(model::specs::Boards::backoffs_pass))]
+#[inline(always)]
 pub fn passes(rests: &[u16]) -> bool
     ensures { result ≡ backoffs_pass rests.now }
 {

@@ -31,7 +31,7 @@ pub fn names(table: &[u8], chord: u8, channel: u8) -> bool
     requires { (table_refusal table.now ≡ 0) × (chord < length (table_of table.now).chords) }
     ensures { result ≡ is_in channel (chord_at (table_of table.now) chord).channels }
 {
-    table::members(table, chord).contains(&channel)
+    table::members(table, chord).iter().any(|x| *x == channel)
 }
 
 // The next chord from a number on that names a channel; the number of chords for none.

@@ -3,7 +3,6 @@ pub mod Parts
 pub mod Refusals
 pub mod CallLaws
 pub mod PhaseBy
-pub mod FromFn
 pub mod RowLaws
 pub mod RowWalks
 pub mod SoundNumbers

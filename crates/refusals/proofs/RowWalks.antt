@@ -32,16 +32,6 @@ pub nth-sender : (s : List ℕ) (i : ℕ) (z : DD.Sender) → i < 32
 unfolding board_from
 nth-sender s i z h = sender-from s i z h
 
--- the senders from place i on, as any function of them
-pub senders-all : {A : Type 0} (f : DD.Sender → A) (s : List ℕ) (n i : ℕ)
-    → map (λ j. f (sender_from (row s (2 + 21 * j)))) (range_with_len i n)
-    ≡ map f (senders_from n (drop (2 + 21 * i) s))
-unfolding senders_from
-senders-all f s zero i = refl
-senders-all f s (suc n) i =
-    let z : 2 + 21 * i + 21 ≡ 2 + 21 * (i + 1) = omega arith in
-    rw (drop-drop 21 (2 + 21 * i) s, z, senders-all f s n (i + 1))
-
 -- Their tests
 
 module _ (t : Table) (b : Board) where

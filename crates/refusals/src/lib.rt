@@ -18,15 +18,15 @@ ghost use Rattle.refusals.specs.Rows.{within, limits, row_sender, row_ok, rows_o
 ghost use Rattle.refusals.specs.Held.{held_in, sound_in};
 ghost use Rattle.refusals.specs.Calls.{refusal_of};
 
-use std::array;
-
 // The largest place of each phase.
 const PLACES: [u16; 10] = [255, 255, 255, 255, 255, 0, 255, 0, 0, 255];
 
 // The largest second number of each phase.
 const SECONDS: [u16; 10] = [0, 0, 255, 65535, 0, 0, 0, 0, 0, 0];
 
-// Whether the first 16 of a sender's numbers are each at most their limit.
+// Whether the first 16 of a sender's numbers are each at most their limit. Not inlined: where the limits are known, the
+// compiler compares them one by one.
+#[inline(never)]
 fn within(a: &[u16], most: &[u16; 16]) -> bool
     requires { length a.now ≡ 21 }
     ensures { result ≡ within most.now a.now }
@@ -102,12 +102,14 @@ fn mark_of(a: &[u16]) -> u32
     if a[0] == 0 { 0 } else { u32::from(a[2]) + 1 }
 }
 
-// The marks of all senders.
-fn marks_at(s: &[u16]) -> [u32; 32]
+// Puts the marks of all senders. They are lent, since an array that is answered is copied.
+fn put_marks(s: &[u16], marks: &mut [u32; 32])
     requires { length s.now ≡ board_len }
-    ensures { result ≡ map mark_by (senders_in s.now) }
+    ensures { marks.new ≡ map mark_by (senders_in s.now) }
 {
-    array::from_fn(|i| mark_of(rows::row(s, i as u8)))
+    for i in 0..32 {
+        marks[usize::from(i)] = mark_of(rows::row(s, i));
+    }
 }
 
 // Whether the numbers from the third on are those of 32 sound senders, no two with the same own message.
@@ -118,7 +120,12 @@ pub fn senders_ok(table: &[u8], s: &[u16], n: u16, k: u16, channels: &[u8]) -> b
         → result ≡ (rows_ok (table_of table.now) b 32 (drop 2 s.now)
         && none_shared (map (sender_in (table_of table.now)) (senders_in s.now))) }
 {
-    rows_ok(table, s, n, k, channels) && senders::none_twice(&marks_at(s))
+    if !rows_ok(table, s, n, k, channels) {
+        return false;
+    }
+    let mut marks = [0; 32];
+    put_marks(s, &mut marks);
+    senders::none_twice(&marks)
 }
 
 // Whether the lists that hold messages and matches are of their lengths.

@@ -6,6 +6,7 @@ ghost use Rattle.std.specs.Prelude.{◌≡◌, ◌-◌, ◌<◌, length, sum, su
 ghost use Rattle.model.specs.Shares.{has_room, shares_ok};
 
 // How many of the common messages are used: the parts of the tallies above the senders' own 16.
+#[inline(always)]
 fn common_used(tallies: &[u16; 32]) -> u32
     ensures { result ≡ sum_by (λ k. k - 16) tallies.now }
 {

@@ -27,7 +27,8 @@ fn link_ok(link: u16, status: u8, most: u16, asks: u8) -> bool
     (link <= most) & ((status != asks) | (1 <= link))
 }
 
-// The same of each link and its status.
+// The same of each link and its status. Not inlined: the loop took a quarter longer where a caller's code had moved it.
+#[inline(never)]
 fn links_ok(links: &[u16], statuses: &[u8], most: u16, asks: u8) -> bool
     ensures { result ≡ fold (λ ok p. ok && (leb p.0 most && (not (eqb p.1 asks) || leb 1 p.0))) true
         (zip links.now statuses.now) }
@@ -45,19 +46,21 @@ fn in_range(x: i64) -> bool
     (-999_999_999_999..=999_999_999_999).contains(&x)
 }
 
-// Whether the amounts of a chunk are in range.
-fn chunk_ok(chunk: &[i64]) -> bool
-    ensures { result ≡ fold (λ ok x. ok && cents_ok x) true chunk.now }
+// Whether amounts are in range, however many.
+fn all_in_range(cents: &[i64]) -> bool
+    ensures { result ≡ fold (λ ok x. ok && cents_ok x) true cents.now }
 {
-    chunk.iter().fold(true, |ok, x| ok & in_range(*x))
+    cents.iter().fold(true, |ok, x| ok & in_range(*x))
 }
 
-// Whether the amounts are in range. The first chunk that is not ends it, so that a refusal is soon told; within a chunk
-// a fold vectorizes.
+// The same, eight at a time: the first eight that are not end it, so that a refusal is soon told, and within eight a
+// fold vectorizes. Not inlined, as the links.
+#[inline(never)]
 fn cents_ok(cents: &[i64]) -> bool
     ensures { result ≡ every cents_ok cents.now }
 {
-    cents.chunks(64).all(|chunk| chunk_ok(chunk))
+    let (eights, rest) = cents.as_chunks::<8>();
+    eights.iter().all(|eight| all_in_range(eight)) & all_in_range(rest)
 }
 
 // Whether the first n messages are sound on a board of n messages and so many matches.
