@@ -1,9 +1,9 @@
 -- Laws of the tests of a sender by its 21 numbers.
-use Rattle.std.proofs.Common.{◌≡◌, ◌≢◌, Bool, true, ◌&&◌, List, ℕ, ◌≤◌, get_or, leb, leb-true, le-leb, Fits, w16, arith}
+use Rattle.std.proofs.Common.{◌≡◌, ◌≢◌, Bool, true, ◌&&◌, List, ℕ, ◌≤◌, get_or, leb, leb-true, le-leb, Fits, w16, sym, ◌∙◌, arith}
 use Rattle.model.specs.Tables.{Table}
 use Rattle.model.specs.Boards.{Board}
 use Rattle.model.specs.Sound.{state_ok, job_ok, sender_ok}
-use Rattle.model.proofs.Tests.{same_test, and}
+use Rattle.model.proofs.Tests.{same_test, both, and}
 use Rattle.state.specs.declared.Sender as DD
 use Rattle.state.specs.Views.{job_in, sender_in}
 use Rattle.soundness.specs.Tests.{each_below}
@@ -48,3 +48,7 @@ module _ (t : Table) (b : Board) (a : List ℕ) where
       λ i. le-leb (get_or a i 0) 65535 (omega (arith, small i)) in
       search (parts, and, free) depth 40)
       (λ e. search (parts, and) depth 30))
+
+  pub row_within : (n k : ℕ) (channels : List ℕ) → Seen b n k channels → ((i : ℕ) → Fits w16 (get_or a i 0))
+      → row_ok t b a ≡ true → within (limits n k) a ≡ true
+  row_within n k channels sees small e = (both (sym (row_by n k channels sees small) ∙ e)).0

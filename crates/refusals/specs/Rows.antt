@@ -1,5 +1,7 @@
 -- The tests of a sender by its 21 numbers (rules 3.4 to 3.6 and 6.2), and of the numbers beside the senders.
-use Rattle.std.specs.Prelude.{Bool, true, ◌&&◌, List, [], ◌∷◌, ℕ, zero, suc, leb, get_or, drop, take}
+use Rattle.std.specs.Prelude.{Bool, true, ◌&&◌, List, [], ◌∷◌, ℕ, zero, suc, ◌+◌, ◌*◌, leb, get_or, drop, take}
+use Rattle.std.specs.List.{range_with_len}
+use Rattle.model.specs.Basics.{every}
 use Rattle.model.specs.Tables.{Table}
 use Rattle.model.specs.Boards.{Board, Sender, backoffs_pass}
 use Rattle.model.specs.Shares.{shares_ok}
@@ -18,6 +20,10 @@ row s at = take 21 (drop at s)
 -- each of the first 16 is at most its limit
 unfoldable pub within : List ℕ → List ℕ → Bool
 within most a = each_below 16 (λ i. leb (get_or a i 0) (get_or most i 0))
+
+-- so are those of each of the 32 senders of a board's numbers
+unfoldable pub all_within : List ℕ → List ℕ → Bool
+all_within most s = every (λ i. within most (row s (2 + 21 * i))) (range_with_len 0 32)
 
 -- the limits on a board of n messages and k matches; 65,535 is none
 abbrev pub limits : ℕ → ℕ → List ℕ

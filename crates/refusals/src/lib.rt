@@ -14,7 +14,7 @@ ghost use Rattle.soundness.specs.Tests.{messages_ok};
 ghost use Rattle.senders.specs.Seen.{Seen, Known, mark_by};
 ghost use Rattle.rows.specs.Numbers.{encodes_phase, encodes_sender};
 ghost use Rattle.rows.specs.Decoded.{sender_from};
-ghost use Rattle.refusals.specs.Rows.{within, limits, row_sender, row_ok, rows_ok, senders_in, counts_ok};
+ghost use Rattle.refusals.specs.Rows.{within, all_within, limits, row_sender, row_ok, rows_ok, senders_in, counts_ok};
 ghost use Rattle.refusals.specs.Held.{held_in, sound_in};
 ghost use Rattle.refusals.specs.Calls.{refusal_of};
 
@@ -24,9 +24,7 @@ const PLACES: [u16; 10] = [255, 255, 255, 255, 255, 0, 255, 0, 0, 255];
 // The largest second number of each phase.
 const SECONDS: [u16; 10] = [0, 0, 255, 65535, 0, 0, 0, 0, 0, 0];
 
-// Whether the first 16 of a sender's numbers are each at most their limit. Not inlined: where the limits are known, the
-// compiler compares them one by one.
-#[inline(never)]
+// Whether the first 16 of a sender's numbers are each at most their limit.
 fn within(a: &[u16], most: &[u16; 16]) -> bool
     requires { length a.now ≡ 21 }
     ensures { result ≡ within most.now a.now }
@@ -37,6 +35,15 @@ fn within(a: &[u16], most: &[u16; 16]) -> bool
         ok = ok & (a[i] <= *limit);
     }
     ok
+}
+
+// The same of each sender. Not inlined: where the limits are known, the compiler compares them one by one.
+#[inline(never)]
+fn all_within(s: &[u16], most: &[u16; 16]) -> bool
+    requires { length s.now ≡ board_len }
+    ensures { result ≡ all_within most.now s.now }
+{
+    (0..32).all(|i| within(rows::row(s, i), most))
 }
 
 // Whether three numbers are those of a phase.
@@ -65,13 +72,13 @@ fn state_ok(table: &[u8], a: &[u16], n: u16, k: u16, channels: &[u8]) -> bool
     }
 }
 
-// Whether 21 numbers are those of a sound sender.
-fn row_ok(table: &[u8], a: &[u16], most: &[u16; 16], n: u16, k: u16, channels: &[u8]) -> bool
+// Whether 21 numbers within the limits are those of a sound sender.
+fn row_ok(table: &[u8], a: &[u16], n: u16, k: u16, channels: &[u8]) -> bool
     requires table_value { (table_refusal table.now ≡ 0) × Known (table_of table.now) n channels.now }
-    requires a_len { (length a.now ≡ 21) × (most.now ≡ limits n k) }
+    requires a_len { (length a.now ≡ 21) × (within (limits n k) a.now ≡ true) }
     ensures { (b : MB.Board) → Seen b n k channels.now → result ≡ row_ok (table_of table.now) b a.now }
 {
-    within(a, most) && phase_ok(a[8], a[9], a[10]) && state_ok(table, a, n, k, channels)
+    phase_ok(a[8], a[9], a[10]) && state_ok(table, a, n, k, channels)
 }
 
 // What the first 16 numbers of a sender are at most, on a board of n messages and k matches.
@@ -90,8 +97,7 @@ fn rows_ok(table: &[u8], s: &[u16], n: u16, k: u16, channels: &[u8]) -> bool
     ensures { (b : MB.Board) → Seen b n k channels.now
         → result ≡ rows_ok (table_of table.now) b 32 (drop 2 s.now) }
 {
-    let most = limits(n, k);
-    (0..32).all(|i| row_ok(table, rows::row(s, i), &most, n, k, channels))
+    all_within(s, &limits(n, k)) && (0..32).all(|i| row_ok(table, rows::row(s, i), n, k, channels))
 }
 
 // What no two senders may have in common: the own message plus 1, 0 for an idle sender.

@@ -2,7 +2,6 @@
 use Rattle.std.proofs.Common.{arith, rules}
 use Rattle.model.specs.Layout.{table_of}
 use Rattle.refusals.proofs.RowLaws.{kind_below, numbers_ok, row_by}
-use Rattle.refusals.proofs.row_ok.Goals.{then-within, else-within}
 use Rattle.refusals.proofs.row_ok.Goals as goal
 
 pub phase_ok-requires : goal.phase_ok-requires
