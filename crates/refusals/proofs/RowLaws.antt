@@ -1,5 +1,6 @@
 -- Laws of the tests of a sender by its 21 numbers.
-use Rattle.std.proofs.Common.{◌≡◌, ◌≢◌, Bool, true, ◌&&◌, List, ℕ, ◌≤◌, get_or, leb, leb-true, le-leb, Fits, w16, sym, ◌∙◌, arith}
+use Rattle.std.proofs.Common.{◌≡◌, ◌≢◌, Bool, true, ◌&&◌, List, ℕ, ◌≤◌, get_or, leb, leb-true, le-leb, Fits, w16, arith}
+use Rattle.std.proofs.Common.{sym, ◌∙◌}
 use Rattle.model.specs.Tables.{Table}
 use Rattle.model.specs.Boards.{Board}
 use Rattle.model.specs.Sound.{state_ok, job_ok, sender_ok}

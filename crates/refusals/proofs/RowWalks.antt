@@ -8,24 +8,24 @@ use lib.Seq.{drop-drop}
 use native.Mathlib.Omega.{arith}
 use Rattle.std.specs.List.{list_all, range_with_len}
 use Rattle.std.proofs.Common.{Fits, w16}
-use Rattle.std.proofs.lemmas.List.{get_or-take, get_or-drop, length-take}
 use Rattle.std.proofs.Math.ListN.{get_or-eq_default}
+use Rattle.std.proofs.lemmas.List.{get_or-take, get_or-drop, length-take}
 use Rattle.std.proofs.lemmas.List.FromFn.{get_or-range_with_len}
-use Rattle.model.proofs.Lists.{every-nth}
 use Rattle.model.specs.Basics.{every}
 use Rattle.model.specs.Tables.{Table}
 use Rattle.model.specs.Boards.{Board}
 use Rattle.model.specs.Sound.{sender_ok}
+use Rattle.model.proofs.Lists.{every-nth}
 use Rattle.model.proofs.Tests.{same_test, both, and, never, by-range}
 use Rattle.state.specs.declared.Sender as DD
 use Rattle.state.specs.Views.{sender_in}
 use Rattle.rows.specs.Numbers.{encodes_senders}
 use Rattle.rows.proofs.DecodeLaws.{sender-from}
 use Rattle.rows.specs.Decoded.{board_from, sender_from, senders_from}
+use Rattle.senders.specs.Seen.{Seen}
 use Rattle.refusals.specs.Rows.{row, within, all_within, limits, row_ok, rows_ok, senders_in}
 use Rattle.refusals.proofs.Parts.{parts}
 use Rattle.refusals.proofs.RowLaws.{row_within}
-use Rattle.senders.specs.Seen.{Seen}
 
 -- The senders of the numbers
 
@@ -47,8 +47,7 @@ pub within_at : (most s : List ℕ) → all_within most s ≡ true → (i : ℕ)
 unfolding all_within
 within_at most s e i h =
     let z : get_or (range_with_len 0 32) i 0 ≡ i = get_or-range_with_len 0 32 i 0 h ∙ omega arith in
-    rw z at
-    (every-nth (λ j. within most (row s (2 + 21 * j))) (range_with_len 0 32) 0 e i h)
+    rw z at (every-nth (λ j. within most (row s (2 + 21 * j))) (range_with_len 0 32) 0 e i h)
 
 -- the numbers of a row are as small as the board's
 row-small : (s : List ℕ) (at : ℕ) → ((i : ℕ) → Fits w16 (get_or s i 0)) → (i : ℕ) → Fits w16 (get_or (row s at) i 0)

@@ -37,7 +37,7 @@ fn within(a: &[u16], most: &[u16; 16]) -> bool
     ok
 }
 
-// The same of each sender. Not inlined: where the limits are known, the compiler compares them one by one.
+// The same of each sender. Not inlined: where the limits are known, the compiler compares most one by one.
 #[inline(never)]
 fn all_within(s: &[u16], most: &[u16; 16]) -> bool
     requires { length s.now ≡ board_len }
